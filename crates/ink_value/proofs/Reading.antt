@@ -1,0 +1,156 @@
+-- What the code reads of a value is what the definitions read of it. Assumes nothing.
+use mathlib.Core.Path.{_≡_, refl, sym, ap, _∙_, subst}
+use mathlib.Core.Bool.{Bool, true}
+use mathlib.Core.List.{List, [], _∷_}
+use Prim.Native.Nat.{ℕ, zero, suc, _+_, _-_, _≤_, _<_}
+use native.Mathlib.Omega.{arith}
+use borrow.Author.Tests.{lt-ltb}
+use lib.Dec.{ltb}
+use lib.IntN.{ℤ}
+use lib.ListN.{length, take, drop, length-drop}
+use lib.Seq.{length-take-le}
+use Rattle.ink_list.specs.Entries.{Entry, entries, Rising, Lent, Wrote}
+use Rattle.ink_value.specs.Val.{list, kindOf, kindAt, codeOf}
+use Rattle.ink_value.specs.Convert.{lowerOf, upperOf, greatestOf, asInt, asFloat, truthy, nonEmpty, entriesOf, originsIn}
+use Rattle.ink_value.specs.Value.{valOf, part, codeOfValue, startOf, lenOf, setIn, intOf, floatOf, truthOf, lowOf, highOf, held, Formed}
+use Rattle.ink_value.specs.declared.Value.{Value}
+use Rattle.ink_number.specs.Real.{ofInt32}
+use Rattle.ink_list.specs.Ops.{extremeValue, valueOfList}
+use Rattle.ink_list.proofs.Results.{lent-limit}
+use Rattle.ink_list.proofs.Laws.{rising-length}
+use Rattle.ink_list.proofs.Rests.{values-entries, length-entries, of-lent}
+use Rattle.ink_value.specs.declared.Value.the-variants as Is
+
+pub length-part : {A : Type 0} (s n : ℕ) (xs : List A) → s + n ≤ length xs → length (part s n xs) ≡ n
+length-part s n xs h = length-take-le n (drop s xs) (omega (arith, length-drop s xs))
+
+pub entries-in : (is : List ℕ) (vs : List ℤ) (v : Value) → entriesOf (valOf is vs v) ≡ held is vs v
+entries-in is vs (Is.Bool b) = refl
+entries-in is vs (Is.Int z) = refl
+entries-in is vs (Is.Float x) = refl
+entries-in is vs (Is.List o s n) = refl
+entries-in is vs Is.Void = refl
+
+pub set-in : (is : List ℕ) (vs : List ℤ) (v : Value) → originsIn (valOf is vs v) ≡ setIn v
+set-in is vs (Is.Bool b) = refl
+set-in is vs (Is.Int z) = refl
+set-in is vs (Is.Float x) = refl
+set-in is vs (Is.List o s n) = refl
+set-in is vs Is.Void = refl
+
+pub code-of : (is : List ℕ) (vs : List ℤ) (v : Value) → codeOf (kindOf (valOf is vs v)) ≡ codeOfValue v
+code-of is vs (Is.Bool b) = refl
+code-of is vs (Is.Int z) = refl
+code-of is vs (Is.Float x) = refl
+code-of is vs (Is.List o s n) = refl
+code-of is vs Is.Void = refl
+
+pub code-in : (is : List ℕ) (vs : List ℤ) (v : Value) → kindAt (codeOfValue v) ≡ kindOf (valOf is vs v)
+code-in is vs (Is.Bool b) = refl
+code-in is vs (Is.Int z) = refl
+code-in is vs (Is.Float x) = refl
+code-in is vs (Is.List o s n) = refl
+code-in is vs Is.Void = refl
+
+holds-length : (es : List Entry) (n : ℕ) → length es ≡ n → ltb 0 n ≡ nonEmpty es
+holds-length [] zero e = refl
+holds-length [] (suc n) e = absurd (omega arith)
+holds-length (x ∷ es) zero e = absurd (omega arith)
+holds-length (x ∷ es) (suc n) e = lt-ltb 0 (suc n) (omega arith)
+
+module _ (limit : ℕ) (is : List ℕ) (vs : List ℤ) where
+  pub len-in : (v : Value) → Formed limit is vs v → length (held is vs v) ≡ lenOf v
+  len-in v f =
+      length-entries (part (startOf v) (lenOf v) is) (part (startOf v) (lenOf v) vs) (f .lent .long)
+      ∙ length-part (startOf v) (lenOf v) is (f .items-in)
+
+  pub int-in : (v : Value) → Formed limit is vs v → intOf vs v ≡ asInt (valOf is vs v)
+  int-in (Is.Bool b) f = refl
+  int-in (Is.Int z) f = refl
+  int-in (Is.Float x) f = refl
+  int-in (Is.List o s n) f = ap valueOfList (sym (values-entries (part s n is) (part s n vs) (f .lent .long)))
+  int-in Is.Void f = refl
+
+  pub float-in : (v : Value) → Formed limit is vs v → floatOf vs v ≡ asFloat (valOf is vs v)
+  float-in (Is.Bool b) f = refl
+  float-in (Is.Int z) f = refl
+  float-in (Is.Float x) f = refl
+  float-in (Is.List o s n) f = ap (λ (l : List ℤ). ofInt32 (valueOfList l)) (sym (values-entries (part s n is) (part s n vs) (f .lent .long)))
+  float-in Is.Void f = refl
+
+  pub low-in : (v : Value) → Formed limit is vs v → lowOf vs v ≡ lowerOf (valOf is vs v)
+  low-in (Is.Bool b) f = refl
+  low-in (Is.Int z) f = refl
+  low-in (Is.Float x) f = refl
+  low-in (Is.List o s n) f = ap (extremeValue true) (sym (values-entries (part s n is) (part s n vs) (f .lent .long)))
+  low-in Is.Void f = refl
+
+  pub high-in : (v : Value) → Formed limit is vs v → highOf vs v ≡ upperOf (valOf is vs v)
+  high-in (Is.Bool b) f = refl
+  high-in (Is.Int z) f = refl
+  high-in (Is.Float x) f = refl
+  high-in (Is.List o s n) f = ap greatestOf (sym (values-entries (part s n is) (part s n vs) (f .lent .long)))
+  high-in Is.Void f = refl
+
+  pub truth-in : (v : Value) → Formed limit is vs v → truthOf v ≡ truthy (valOf is vs v)
+  truth-in (Is.Bool b) f = refl
+  truth-in (Is.Int z) f = refl
+  truth-in (Is.Float x) f = refl
+  truth-in (Is.List o s n) f = holds-length (entries (part s n is) (part s n vs)) n (len-in (Is.List o s n) f)
+  truth-in Is.Void f = refl
+
+  -- a value formed under a limit is so under a higher one
+  pub formed-limit : (m : ℕ) (v : Value) → limit ≤ m → Formed limit is vs v → Formed m is vs v
+  formed-limit m v h f =
+      record {
+        items-in = f .items-in;
+        values-in = f .values-in;
+        lent = lent-limit limit m (part (startOf v) (lenOf v) is) (part (startOf v) (lenOf v) vs) h (f .lent);
+      }
+
+pub ap2 : {X Y Z : Type 0} (f : X → Y → Z) {x x′ : X} {y y′ : Y} → x ≡ x′ → y ≡ y′ → f x y ≡ f x′ y′
+ap2 f {x} {x′} {y} {y′} p q = ap (λ a. f a y) p ∙ ap (f x′) q
+
+pub ap3 : {W X Y Z : Type 0} (f : W → X → Y → Z) {w w′ : W} {x x′ : X} {y y′ : Y} → w ≡ w′ → x ≡ x′ → y ≡ y′ → f w x y ≡ f w′ x′ y′
+ap3 f {w} {w′} {x} {x′} {y} {y′} o p q = ap (λ a. f a x y) o ∙ ap2 (f w′) p q
+
+pub few-in : (limit : ℕ) (is : List ℕ) (vs : List ℤ) (v : Value) → Formed limit is vs v → lenOf v ≤ limit
+few-in limit is vs v f =
+    omega (arith, len-in limit is vs v f, rising-length limit (held is vs v) (of-lent limit (part (startOf v) (lenOf v) is) (part (startOf v) (lenOf v) vs) (f .lent)))
+
+pub rising-in : (limit : ℕ) (is : List ℕ) (vs : List ℤ) (v : Value) → Formed limit is vs v → Rising limit (entriesOf (valOf is vs v))
+rising-in limit is vs v f =
+    subst (Rising limit) (sym (entries-in is vs v)) (of-lent limit (part (startOf v) (lenOf v) is) (part (startOf v) (lenOf v) vs) (f .lent))
+
+-- what was written is another name's list
+pub wrote-is : {M N : List Entry} {n : ℕ} {oi oi′ : List ℕ} {ov ov′ : List ℤ} → M ≡ N → Wrote N n oi oi′ ov ov′ → Wrote M n oi oi′ ov ov′
+wrote-is {M} {N} {n} {oi} {oi′} {ov} {ov′} e w = subst (λ (x : List Entry). Wrote x n oi oi′ ov ov′) (sym e) w
+
+-- the part of a slice that the code lends, from a value's start and length
+pub lends : {A : Type 0} (xs : List A) (i n : ℕ) (v : Value) → i ≡ startOf v → n ≡ lenOf v → take (i + n - i) (drop i xs) ≡ part (startOf v) (lenOf v) xs
+lends xs i n v p q =
+    let e : i + n - i ≡ lenOf v = omega arith in
+    ap (λ (k : ℕ). take k (drop i xs)) e ∙ ap (λ (k : ℕ). take (lenOf v) (drop k xs)) p
+
+module _ (limit : ℕ) (is : List ℕ) (vs : List ℤ) (i n : ℕ) (v : Value) (p : i ≡ startOf v) (q : n ≡ lenOf v) where
+  pub lends-lent : Formed limit is vs v → Lent limit (take (i + n - i) (drop i is)) (take (i + n - i) (drop i vs))
+  lends-lent f = rw (lends is i n v p q, lends vs i n v p q) (f .lent)
+
+  pub lends-held : entries (take (i + n - i) (drop i is)) (take (i + n - i) (drop i vs)) ≡ held is vs v
+  lends-held = rw (lends is i n v p q, lends vs i n v p q)
+
+pub greatest-some : (xs : List ℤ) → 0 < length xs → valueOfList xs ≡ greatestOf xs
+greatest-some [] h = absurd (omega arith)
+greatest-some (x ∷ xs) h = refl
+
+pub lends-few : (limit : ℕ) (is : List ℕ) (vs : List ℤ) (i n : ℕ) (v : Value) → i ≡ startOf v → n ≡ lenOf v → Formed limit is vs v
+    → length (take (i + n - i) (drop i is)) ≤ limit
+lends-few limit is vs i n v p q f =
+    rw (lends is i n v p q) (omega (arith, length-part (startOf v) (lenOf v) is (f .items-in), few-in limit is vs v f))
+
+pub list-in : (is : List ℕ) (vs : List ℤ) (v : Value) → codeOfValue v ≡ 3 → valOf is vs v ≡ list (setIn v) (held is vs v)
+list-in is vs (Is.Bool b) e = absurd (omega arith)
+list-in is vs (Is.Int z) e = absurd (omega arith)
+list-in is vs (Is.Float x) e = absurd (omega arith)
+list-in is vs (Is.List o s n) e = refl
+list-in is vs Is.Void e = absurd (omega arith)

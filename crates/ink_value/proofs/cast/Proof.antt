@@ -1,0 +1,48 @@
+use borrow.Author.Needs.{needs}
+use mathlib.Core.Path.{refl, sym, ap, _∙_}
+use mathlib.Core.Bool.{Bool, cond}
+use Rattle.ink_number.specs.Answer.{gives, refuses}
+use Rattle.ink_value.specs.Convert.{castable, converted, cast}
+use Rattle.ink_value.specs.Value.{valOf}
+use Rattle.ink_value.proofs.Reading.{code-of}
+use Rattle.ink_value.proofs.Given.{gave-is, gave-plain}
+use Rattle.ink_value.proofs.cast.Statement.{statement}
+use Rattle.ink_value.proofs.cast.Tie as tie
+
+kind-requires : tie.Need-kind-requires
+kind-requires c κs = search needs
+
+castable-requires : tie.Need-castable-requires
+castable-requires c κs = search needs
+
+convert-requires : tie.Need-convert-requires
+convert-requires c κs =
+    (c .before .before .before .before .before .before .before .pre, ap (castable (c .before .before .before .before .before .before .before .args .to)) (sym (c .before .before .before .before .kind .ensures .0)) ∙ sym (c .before .before .before .castable .ensures) ∙ c .before .before .if1 .taken)
+
+same-length : tie.Need-same-length
+same-length c = search needs
+
+same-length-2 : tie.Need-same-length-2
+same-length-2 c = search needs
+
+returns : tie.Need-returns
+unfolding cast
+returns c =
+    gave-is (ap (λ (t : Bool). cond t (gives (converted (c .before .before .before .before .before .before .before .before .before .before .before .args .to) (valOf (c .before .before .before .before .before .before .before .before .before .before .before .args .items .now) (c .before .before .before .before .before .before .before .before .before .before .before .args .values .now) (c .before .before .before .before .before .before .before .before .before .before .before .args .v)))) (refuses 18)) (ap (castable (c .before .before .before .before .before .before .before .before .before .before .before .args .to)) (code-of (c .before .before .before .before .before .before .before .before .before .before .before .args .items .now) (c .before .before .before .before .before .before .before .before .before .before .before .args .values .now) (c .before .before .before .before .before .before .before .before .before .before .before .args .v) ∙ sym (c .before .before .before .before .before .before .before .before .kind .ensures .0)) ∙ sym (c .before .before .before .before .before .before .before .castable .ensures) ∙ c .before .before .before .before .before .before .if1 .taken)) (c .before .before .before .convert .ensures)
+
+returns-2 : tie.Need-returns-2
+unfolding cast
+returns-2 c =
+    gave-is (ap (λ (t : Bool). cond t (gives (converted (c .before .before .before .before .before .args .to) (valOf (c .before .before .before .before .before .args .items .now) (c .before .before .before .before .before .args .values .now) (c .before .before .before .before .before .args .v)))) (refuses 18)) (ap (castable (c .before .before .before .before .before .args .to)) (code-of (c .before .before .before .before .before .args .items .now) (c .before .before .before .before .before .args .values .now) (c .before .before .before .before .before .args .v) ∙ sym (c .before .before .kind .ensures .0)) ∙ sym (c .before .castable .ensures) ∙ c .if1 .left)) (gave-plain (refuses 18) _ _ _ refl refl)
+
+pub cast-spec : {M : Type 1} → statement M
+cast-spec =
+    tie.close
+    (tie.spec
+    kind-requires
+    castable-requires
+    convert-requires
+    same-length
+    same-length-2
+    returns
+    returns-2)

@@ -1,0 +1,72 @@
+use borrow.Author.Needs.{needs}
+use mathlib.Core.Path.{refl, ap, _∙_}
+use mathlib.Core.Bool.{Bool}
+use Prim.Native.Nat.{ℕ}
+use lib.IntN.{ℤ}
+use lib.Ieee.{Float}
+use Rattle.ink_list.specs.Entries.{room}
+use Rattle.ink_number.specs.Answer.{gives}
+use Rattle.ink_value.specs.Convert.{converted}
+use Rattle.ink_value.specs.Value.{valOf, codeOfValue}
+use Rattle.ink_value.specs.declared.Value.{Value}
+use Rattle.ink_value.proofs.Casting.{cast-list, same-kind}
+use Rattle.ink_value.proofs.Reading.{int-in, float-in, truth-in}
+use Rattle.ink_value.proofs.Given.{gave-is, gave-plain}
+use Rattle.ink_number.proofs.Signed.{returned}
+use Rattle.ink_value.specs.declared.Value.the-variants as Is
+use Rattle.ink_value.specs.declared.Outcome.the-variants as Out
+use Rattle.ink_value.proofs.convert.Statement.{statement}
+use Rattle.ink_value.proofs.convert.Tie as tie
+
+is-truthy-requires : tie.Need-is-truthy-requires
+is-truthy-requires c κs = search needs
+
+to-int-requires : tie.Need-to-int-requires
+to-int-requires c κs = search needs
+
+to-float-requires : tie.Need-to-float-requires
+to-float-requires c κs = search needs
+
+copied-requires : tie.Need-copied-requires
+copied-requires c κs =
+    (c .before .before .before .before .before .pre .0, cast-list (c .before .before .before .before .before .args .to) (codeOfValue (c .before .before .before .before .before .args .v)) (c .before .before .match .rest .0 .0 .1) (c .before .before .match .rest .0 .1) (c .before .before .match .rest .1) (c .before .before .before .before .before .pre .1))
+
+returns : tie.Need-returns
+unfolding converted
+returns c =
+    gave-is (ap (λ (t : ℕ). gives (converted t (valOf (c .before .before .before .before .args .items .now) (c .before .before .before .before .args .values .now) (c .before .before .before .before .args .v)))) (c .before .match .keys1)) (gave-plain (gives (converted 0 (valOf (c .before .before .before .before .args .items .now) (c .before .before .before .before .args .values .now) (c .before .before .before .before .args .v)))) _ _ _ refl (ap (λ (t : Bool). Out.Value (Is.Bool t)) (c .is-truthy .ensures ∙ truth-in (room (c .before .before .before .before .args .oi .now) (c .before .before .before .before .args .ov .now)) (c .before .before .before .before .args .items .now) (c .before .before .before .before .args .values .now) (c .before .before .before .before .args .v) (c .before .before .before .before .pre .0))))
+
+returns-2 : tie.Need-returns-2
+unfolding converted
+returns-2 c =
+    gave-is (ap (λ (t : ℕ). gives (converted t (valOf (c .before .before .before .before .args .items .now) (c .before .before .before .before .args .values .now) (c .before .before .before .before .args .v)))) (c .before .match .keys2)) (gave-plain (gives (converted 1 (valOf (c .before .before .before .before .args .items .now) (c .before .before .before .before .args .values .now) (c .before .before .before .before .args .v)))) _ _ _ refl (ap (λ (z : ℤ). Out.Value (Is.Int z)) (returned (c .to-int .ok) ∙ c .to-int .ensures ∙ int-in (room (c .before .before .before .before .args .oi .now) (c .before .before .before .before .args .ov .now)) (c .before .before .before .before .args .items .now) (c .before .before .before .before .args .values .now) (c .before .before .before .before .args .v) (c .before .before .before .before .pre .0))))
+
+returns-3 : tie.Need-returns-3
+unfolding converted
+returns-3 c =
+    gave-is (ap (λ (t : ℕ). gives (converted t (valOf (c .before .before .before .before .args .items .now) (c .before .before .before .before .args .values .now) (c .before .before .before .before .args .v)))) (c .before .match .keys3)) (gave-plain (gives (converted 2 (valOf (c .before .before .before .before .args .items .now) (c .before .before .before .before .args .values .now) (c .before .before .before .before .args .v)))) _ _ _ refl (ap (λ (x : Float). Out.Value (Is.Float x)) (c .to-float .ensures ∙ float-in (room (c .before .before .before .before .args .oi .now) (c .before .before .before .before .args .ov .now)) (c .before .before .before .before .args .items .now) (c .before .before .before .before .args .values .now) (c .before .before .before .before .args .v) (c .before .before .before .before .pre .0))))
+
+same-length : tie.Need-same-length
+same-length c = search needs
+
+same-length-2 : tie.Need-same-length-2
+same-length-2 c = search needs
+
+returns-4 : tie.Need-returns-4
+returns-4 c =
+    gave-is (ap gives (same-kind (c .before .before .before .before .before .before .before .before .before .args .to) (valOf (c .before .before .before .before .before .before .before .before .before .args .items .now) (c .before .before .before .before .before .before .before .before .before .args .values .now) (c .before .before .before .before .before .before .before .before .before .args .v)) (c .before .before .before .before .before .before .match .rest .0 .0 .1) (c .before .before .before .before .before .before .match .rest .0 .1) (c .before .before .before .before .before .before .match .rest .1))) (c .before .before .before .copied .ensures)
+
+pub convert-spec : {M : Type 1} → statement M
+convert-spec =
+    tie.close
+    (tie.spec
+    is-truthy-requires
+    to-int-requires
+    to-float-requires
+    copied-requires
+    returns
+    returns-2
+    returns-3
+    same-length
+    same-length-2
+    returns-4)

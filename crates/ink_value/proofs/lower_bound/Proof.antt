@@ -1,0 +1,64 @@
+use borrow.Author.Needs.{needs}
+use mathlib.Core.Path.{sym, ap, _∙_, subst}
+use Prim.Native.Nat.{_+_, _≤_}
+use lib.ListN.{length}
+use Rattle.ink_value.specs.Value.{startOf, lenOf, lowOf}
+use Rattle.ink_value.specs.declared.Value.{Value}
+use Rattle.ink_number.proofs.Signed.{returned}
+use Rattle.ink_value.proofs.lower_bound.Statement.{statement}
+use Rattle.ink_value.proofs.lower_bound.Tie as tie
+
+enum-known-v : tie.Need-enum-known-v
+enum-known-v c = search needs
+
+enum-known-v-2 : tie.Need-enum-known-v-2
+enum-known-v-2 c = search needs
+
+least-requires : tie.Need-least-requires
+least-requires c κs =
+    subst (λ (v : Value). startOf v + lenOf v ≤ length (c .before .before .before .args .values .now)) (c .before .v2 .given .1) (c .before .before .before .pre)
+
+enum-told : tie.Need-enum-told
+enum-told c = search needs
+
+enum-told-2 : tie.Need-enum-told-2
+enum-told-2 c = search needs
+
+enum-told-3 : tie.Need-enum-told-3
+enum-told-3 c = search needs
+
+returns : tie.Need-returns
+returns c =
+    returned (c .known-told .given .0 .1) ∙ sym (ap (lowOf (c .before .before .before .args .values .now)) (c .before .v .given .1))
+
+returns-2 : tie.Need-returns-2
+returns-2 c =
+    returned (c .least .ok) ∙ c .least .ensures ∙ sym (ap (lowOf (c .before .before .before .before .args .values .now)) (c .before .before .v2 .given .1))
+
+returns-3 : tie.Need-returns-3
+returns-3 c =
+    sym (ap (lowOf (c .before .before .args .values .now)) (c .enum-told .given .1))
+
+returns-4 : tie.Need-returns-4
+returns-4 c =
+    sym (ap (lowOf (c .before .before .args .values .now)) (c .enum-told2 .given .1))
+
+returns-5 : tie.Need-returns-5
+returns-5 c =
+    sym (ap (lowOf (c .before .before .args .values .now)) (c .enum-told3 .given .1))
+
+pub lower-bound-spec : {M : Type 1} → statement M
+lower-bound-spec =
+    tie.close
+    (tie.spec
+    enum-known-v
+    enum-known-v-2
+    least-requires
+    enum-told
+    enum-told-2
+    enum-told-3
+    returns
+    returns-2
+    returns-3
+    returns-4
+    returns-5)

@@ -1,0 +1,152 @@
+-- The code's values read as values of the definitions, and what a call leaves in the slices lent for its result. Assumes nothing.
+use mathlib.Core.Path.{_≡_}
+use mathlib.Core.Bool.{Bool, true, false}
+use mathlib.Core.List.{List, [], _∷_}
+use Prim.Native.Nat.{ℕ, _+_, _≤_}
+use lib.Dec.{ltb}
+use lib.IntN.{ℤ, pos}
+use lib.Ieee.{Float}
+use lib.ListN.{length, take, drop}
+use Rattle.ink_number.specs.Answer.{Answer, gives, refuses}
+use Rattle.ink_number.specs.Int.{truthyZ}
+use Rattle.ink_number.specs.Real.{ofInt32, toInt32, truthyF}
+use Rattle.ink_list.specs.Ops.{extremeValue, valueOfList}
+use Rattle.ink_list.specs.Filled.{over}
+use Rattle.ink_list.specs.Entries.{Entry, entries, items, values, Lent, Rising}
+use Rattle.ink_value.specs.Val.{Val, bool, int, float, list, void}
+use Rattle.ink_value.specs.Convert.{bitZ, entriesOf, greatestOf}
+use Rattle.ink_value.specs.declared.Value.{Value}
+use Rattle.ink_value.specs.declared.Value.the-variants as Is
+use Rattle.ink_value.specs.declared.Outcome.{Outcome}
+use Rattle.ink_value.specs.declared.Outcome.the-variants as Out
+
+-- the n elements that stand from s on
+abbrev pub part {ℓ} : {A : Type ℓ} → ℕ → ℕ → List A → List A
+part s n xs = take n (drop s xs)
+
+-- a value of the code, a List's entries in the two slices
+abbrev pub valOf : List ℕ → List ℤ → Value → Val
+valOf is vs (Is.Bool b) = bool b
+valOf is vs (Is.Int z) = int z
+valOf is vs (Is.Float x) = float x
+valOf is vs (Is.List o s n) = list o (entries (part s n is) (part s n vs))
+valOf is vs Is.Void = void
+
+abbrev pub codeOfValue : Value → ℕ
+codeOfValue (Is.Bool b) = 0
+codeOfValue (Is.Int z) = 1
+codeOfValue (Is.Float x) = 2
+codeOfValue (Is.List o s n) = 3
+codeOfValue Is.Void = 4
+
+-- where a List's entries start, how many there are, and its origin set
+abbrev pub startOf : Value → ℕ
+startOf (Is.Bool b) = 0
+startOf (Is.Int z) = 0
+startOf (Is.Float x) = 0
+startOf (Is.List o s n) = s
+startOf Is.Void = 0
+
+abbrev pub lenOf : Value → ℕ
+lenOf (Is.Bool b) = 0
+lenOf (Is.Int z) = 0
+lenOf (Is.Float x) = 0
+lenOf (Is.List o s n) = n
+lenOf Is.Void = 0
+
+abbrev pub setIn : Value → ℕ
+setIn (Is.Bool b) = 0
+setIn (Is.Int z) = 0
+setIn (Is.Float x) = 0
+setIn (Is.List o s n) = o
+setIn Is.Void = 0
+
+-- a value as an Int, a Float, a truth and a bound of range, read from the code's value and the slice of values
+abbrev pub intOf : List ℤ → Value → ℤ
+intOf vs (Is.Bool b) = bitZ b
+intOf vs (Is.Int z) = z
+intOf vs (Is.Float x) = toInt32 x
+intOf vs (Is.List o s n) = valueOfList (part s n vs)
+intOf vs Is.Void = pos 0
+
+abbrev pub floatOf : List ℤ → Value → Float
+floatOf vs (Is.Bool b) = ofInt32 (bitZ b)
+floatOf vs (Is.Int z) = ofInt32 z
+floatOf vs (Is.Float x) = x
+floatOf vs (Is.List o s n) = ofInt32 (valueOfList (part s n vs))
+floatOf vs Is.Void = ofInt32 (pos 0)
+
+abbrev pub truthOf : Value → Bool
+truthOf (Is.Bool b) = b
+truthOf (Is.Int z) = truthyZ z
+truthOf (Is.Float x) = truthyF x
+truthOf (Is.List o s n) = ltb 0 n
+truthOf Is.Void = false
+
+abbrev pub lowOf : List ℤ → Value → ℤ
+lowOf vs (Is.Bool b) = pos 0
+lowOf vs (Is.Int z) = z
+lowOf vs (Is.Float x) = pos 0
+lowOf vs (Is.List o s n) = extremeValue true (part s n vs)
+lowOf vs Is.Void = pos 0
+
+abbrev pub highOf : List ℤ → Value → ℤ
+highOf vs (Is.Bool b) = pos 2147483647
+highOf vs (Is.Int z) = z
+highOf vs (Is.Float x) = pos 2147483647
+highOf vs (Is.List o s n) = greatestOf (part s n vs)
+highOf vs Is.Void = pos 2147483647
+
+-- the entries that a value has in the two slices
+abbrev pub held : List ℕ → List ℤ → Value → List Entry
+held is vs v = entries (part (startOf v) (lenOf v) is) (part (startOf v) (lenOf v) vs)
+
+-- a List's entries stand whole in the two slices, and its items rise below the limit
+pub record Formed (limit : ℕ) (is : List ℕ) (vs : List ℤ) (v : Value) : Type 0 where
+  pub items-in : startOf v + lenOf v ≤ length is
+  pub values-in : startOf v + lenOf v ≤ length vs
+  pub lent : Lent limit (part (startOf v) (lenOf v) is) (part (startOf v) (lenOf v) vs)
+
+-- ---- what a call comes to
+
+-- the value of a result: a List's entries stand from the start of the result slices
+abbrev pub placedVal : Val → Value
+placedVal (bool b) = Is.Bool b
+placedVal (int z) = Is.Int z
+placedVal (float x) = Is.Float x
+placedVal (list o es) = Is.List o 0 (length es)
+placedVal void = Is.Void
+
+abbrev pub placed : Answer Val → Outcome
+placed (gives v) = Out.Value (placedVal v)
+placed (refuses r) = Out.Refused r
+
+-- the answer that an outcome stands for, a List's entries in the result slices
+abbrev pub outcomeOf : List ℕ → List ℤ → Outcome → Answer Val
+outcomeOf is vs (Out.Value v) = gives (valOf is vs v)
+outcomeOf is vs (Out.Refused r) = refuses r
+
+-- the entries that an answer writes: "a List result fills them from the start"
+abbrev pub written : Answer Val → List Entry
+written (gives v) = entriesOf v
+written (refuses r) = []
+
+-- an answer is returned, and its entries are written from the start of the two result slices, which are else as they were
+pub record Gave (answer : Answer Val) (r : Outcome) (oi oi′ : List ℕ) (ov ov′ : List ℤ) : Type 0 where
+  pub answered : r ≡ placed answer
+  pub items-out : oi′ ≡ over (items (written answer)) oi
+  pub values-out : ov′ ≡ over (values (written answer)) ov
+
+-- ---- well formed
+
+-- a List's items rise and are below the limit
+abbrev pub Wf : ℕ → Val → Type 0
+Wf limit (bool b) = Unit {0}
+Wf limit (int z) = Unit {0}
+Wf limit (float x) = Unit {0}
+Wf limit (list o es) = Rising limit es
+Wf limit void = Unit {0}
+
+abbrev pub AllWf : ℕ → List Val → Type 0
+AllWf limit [] = Unit {0}
+AllWf limit (v ∷ vs) = Wf limit v × AllWf limit vs

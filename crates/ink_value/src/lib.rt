@@ -1,0 +1,335 @@
+// Values, what they read as, and the conversions.
+ghost use mathlib.Core.Path.{_≡_};
+ghost use mathlib.Core.Bool.{true};
+ghost use mathlib.Core.List.{List};
+ghost use Prim.Native.Nat.{ℕ, _<_, _≤_, _+_};
+ghost use lib.IntN.{ℤ};
+ghost use lib.ListN.{length};
+ghost use Rattle.ink_number.specs.Answer.{gives};
+ghost use Rattle.ink_list.specs.Entries.{room};
+ghost use Rattle.ink_value.specs.Convert.{bitZ, greatestOf, castable, converted, cast, coerceBool, coerceInt, coerceFloat};
+ghost use Rattle.ink_value.specs.Value.{part, valOf, codeOfValue, startOf, lenOf, setIn, intOf, floatOf, truthOf, lowOf, highOf, Formed, placed, Gave};
+ghost use Rattle.ink_list.specs.Ops.{extremeValue, valueOfList};
+
+// A value. A list's entries stand beside it, in two parallel slices, from `start` on.
+pub enum Value {
+    Bool(bool),
+    Int(i32),
+    Float(f32),
+    List {
+        origins: u64,
+        start: usize,
+        len: usize,
+    },
+    Void,
+}
+
+// The kind code of a value.
+pub fn kind(v: Value) -> u8
+    ensures { λ r. ⌜ (r ≡ codeOfValue v) × (r < 5) ⌝ }
+{
+    match v {
+        Value::Bool(_) => 0,
+        Value::Int(_) => 1,
+        Value::Float(_) => 2,
+        Value::List {
+            origins: _,
+            start: _,
+            len: _,
+        } => 3,
+        Value::Void => 4,
+    }
+}
+
+// What an operator comes to. A list's entries stand in the slices that were lent for them, from the start.
+pub enum Outcome {
+    Value(Value),
+    Refused(u8),
+}
+
+pub fn bit(b: bool) -> i32
+    ensures { λ r. ⌜ r ≡ bitZ b ⌝ }
+{
+    if b { 1 } else { 0 }
+}
+
+// The greatest of the values that stand from `start` on, or 0.
+fn greatest(values: &[i32], start: usize, len: usize) -> i32
+    requires { ⌜ start + len ≤ length (now values) ⌝ }
+    ensures { λ r. ⌜ r ≡ valueOfList (part start len (now (values .entry))) ⌝ }
+{
+    let end = start + len;
+    ink_list::value_of_list(&values[start..end])
+}
+
+fn least(values: &[i32], start: usize, len: usize) -> i32
+    requires { ⌜ start + len ≤ length (now values) ⌝ }
+    ensures { λ r. ⌜ r ≡ extremeValue true (part start len (now (values .entry))) ⌝ }
+{
+    let end = start + len;
+    ink_list::extreme_value(true, &values[start..end])
+}
+
+// The greatest of the values that stand from `start` on, or 2147483647.
+fn highest(values: &[i32], start: usize, len: usize) -> i32
+    requires { ⌜ start + len ≤ length (now values) ⌝ }
+    ensures { λ r. ⌜ r ≡ greatestOf (part start len (now (values .entry))) ⌝ }
+{
+    if len == 0 {
+        return 2147483647;
+    }
+    greatest(values, start, len)
+}
+
+// Where a list's entries start, how many there are, and its origin set; 0 for other values.
+pub fn start_of(v: Value) -> usize
+    ensures { λ r. ⌜ r ≡ startOf v ⌝ }
+{
+    match v {
+        Value::List {
+            origins: _,
+            start,
+            len: _,
+        } => start,
+        Value::Bool(_) => 0,
+        Value::Int(_) => 0,
+        Value::Float(_) => 0,
+        Value::Void => 0,
+    }
+}
+
+pub fn len_of(v: Value) -> usize
+    ensures { λ r. ⌜ r ≡ lenOf v ⌝ }
+{
+    match v {
+        Value::List {
+            origins: _,
+            start: _,
+            len,
+        } => len,
+        Value::Bool(_) => 0,
+        Value::Int(_) => 0,
+        Value::Float(_) => 0,
+        Value::Void => 0,
+    }
+}
+
+pub fn origins_in(v: Value) -> u64
+    ensures { λ r. ⌜ r ≡ setIn v ⌝ }
+{
+    match v {
+        Value::List {
+            origins,
+            start: _,
+            len: _,
+        } => origins,
+        Value::Bool(_) => 0,
+        Value::Int(_) => 0,
+        Value::Float(_) => 0,
+        Value::Void => 0,
+    }
+}
+
+pub fn to_int(v: Value, values: &[i32]) -> i32
+    requires { ⌜ startOf v + lenOf v ≤ length (now values) ⌝ }
+    ensures { λ r. ⌜ r ≡ intOf (now (values .entry)) v ⌝ }
+{
+    match v {
+        Value::Bool(b) => bit(b),
+        Value::Int(z) => z,
+        Value::Float(x) => ink_number::convert::float_to_int(x),
+        Value::List {
+            origins: _,
+            start,
+            len,
+        } => greatest(values, start, len),
+        Value::Void => 0,
+    }
+}
+
+pub fn to_float(v: Value, values: &[i32]) -> f32
+    requires { ⌜ startOf v + lenOf v ≤ length (now values) ⌝ }
+    ensures { λ r. ⌜ r ≡ floatOf (now (values .entry)) v ⌝ }
+{
+    match v {
+        Value::Bool(b) => ink_number::convert::int_to_float(bit(b)),
+        Value::Int(z) => ink_number::convert::int_to_float(z),
+        Value::Float(x) => x,
+        Value::List {
+            origins: _,
+            start,
+            len,
+        } => ink_number::convert::int_to_float(greatest(values, start, len)),
+        Value::Void => ink_number::convert::int_to_float(0),
+    }
+}
+
+pub fn is_truthy(v: Value) -> bool
+    ensures { λ r. ⌜ r ≡ truthOf v ⌝ }
+{
+    match v {
+        Value::Bool(b) => b,
+        Value::Int(z) => ink_number::int::truthy(z),
+        Value::Float(x) => ink_number::float::truthy(x),
+        Value::List {
+            origins: _,
+            start: _,
+            len,
+        } => 0 < len,
+        Value::Void => false,
+    }
+}
+
+pub fn lower_bound(v: Value, values: &[i32]) -> i32
+    requires { ⌜ startOf v + lenOf v ≤ length (now values) ⌝ }
+    ensures { λ r. ⌜ r ≡ lowOf (now (values .entry)) v ⌝ }
+{
+    match v {
+        Value::Int(z) => z,
+        Value::List {
+            origins: _,
+            start,
+            len,
+        } => least(values, start, len),
+        Value::Bool(_) => 0,
+        Value::Float(_) => 0,
+        Value::Void => 0,
+    }
+}
+
+pub fn upper_bound(v: Value, values: &[i32]) -> i32
+    requires { ⌜ startOf v + lenOf v ≤ length (now values) ⌝ }
+    ensures { λ r. ⌜ r ≡ highOf (now (values .entry)) v ⌝ }
+{
+    match v {
+        Value::Int(z) => z,
+        Value::List {
+            origins: _,
+            start,
+            len,
+        } => highest(values, start, len),
+        Value::Bool(_) => 2147483647,
+        Value::Float(_) => 2147483647,
+        Value::Void => 2147483647,
+    }
+}
+
+// Question 18 of `cast`.
+fn castable(to: u8, from: u8) -> bool
+    ensures { λ r. ⌜ r ≡ castable to from ⌝ }
+{
+    match to {
+        0 => from < 3,
+        1 => from < 4,
+        2 => from < 4,
+        3 => from == 3,
+        _ => false,
+    }
+}
+
+// A list, copied to the output.
+fn copied(v: Value, items: &[u16], values: &[i32], oi: &mut [u16], ov: &mut [i32]) -> Outcome
+    requires { ⌜ Formed (room (now oi) (now ov)) (now items) (now values) v × (codeOfValue v ≡ 3) ⌝ }
+    ensures { λ r. ⌜ Gave (gives (valOf (now (items .entry)) (now (values .entry)) v)) r
+        (now (oi .entry)) (now (oi .exit)) (now (ov .entry)) (now (ov .exit)) ⌝ }
+{
+    let i = start_of(v);
+    let m = len_of(v);
+    let set = origins_in(v);
+    let e = i + m;
+    let n = ink_list::copy(&items[i..e], &values[i..e], oi, ov);
+    Outcome::Value(Value::List {
+        origins: set,
+        start: 0,
+        len: n,
+    })
+}
+
+// A value of a kind that may be cast, cast.
+fn convert(
+    to: u8,
+    v: Value,
+    items: &[u16],
+    values: &[i32],
+    oi: &mut [u16],
+    ov: &mut [i32],
+) -> Outcome
+    requires { ⌜ Formed (room (now oi) (now ov)) (now items) (now values) v × (castable to (codeOfValue v) ≡ true) ⌝ }
+    ensures { λ r. ⌜ Gave (gives (converted to (valOf (now (items .entry)) (now (values .entry)) v))) r
+        (now (oi .entry)) (now (oi .exit)) (now (ov .entry)) (now (ov .exit)) ⌝ }
+{
+    match to {
+        0 => Outcome::Value(Value::Bool(is_truthy(v))),
+        1 => Outcome::Value(Value::Int(to_int(v, values))),
+        2 => Outcome::Value(Value::Float(to_float(v, values))),
+        _ => copied(v, items, values, oi, ov),
+    }
+}
+
+// `Value::cast` to the kind code `to`.
+pub fn cast(
+    to: u8,
+    v: Value,
+    items: &[u16],
+    values: &[i32],
+    out_items: &mut [u16],
+    out_values: &mut [i32],
+) -> Outcome
+    requires { ⌜ Formed (room (now «out_items») (now «out_values»)) (now items) (now values) v ⌝ }
+    ensures { λ r. ⌜ Gave (cast to (valOf (now (items .entry)) (now (values .entry)) v)) r
+        (now («out_items» .entry)) (now («out_items» .exit)) (now («out_values» .entry)) (now («out_values» .exit)) ⌝ }
+{
+    if castable(to, kind(v)) {
+        return convert(to, v, items, values, out_items, out_values);
+    }
+    Outcome::Refused(18)
+}
+
+// Bool and Int only, and only Int 1 is true.
+pub fn coerce_to_bool(v: Value) -> Outcome
+    ensures { λ r. ⌜ ((is : List ℕ) (vs : List ℤ) → r ≡ placed (coerceBool (valOf is vs v))) ⌝ }
+{
+    match v {
+        Value::Bool(b) => Outcome::Value(Value::Bool(b)),
+        Value::Int(z) => Outcome::Value(Value::Bool(ink_number::int::eq(z, 1))),
+        Value::Float(_) => Outcome::Refused(18),
+        Value::List {
+            origins: _,
+            start: _,
+            len: _,
+        } => Outcome::Refused(18),
+        Value::Void => Outcome::Refused(18),
+    }
+}
+
+pub fn coerce_to_int(v: Value) -> Outcome
+    ensures { λ r. ⌜ ((is : List ℕ) (vs : List ℤ) → r ≡ placed (coerceInt (valOf is vs v))) ⌝ }
+{
+    match v {
+        Value::Bool(b) => Outcome::Value(Value::Int(bit(b))),
+        Value::Int(z) => Outcome::Value(Value::Int(z)),
+        Value::Float(x) => Outcome::Value(Value::Int(ink_number::convert::float_to_int(x))),
+        Value::List {
+            origins: _,
+            start: _,
+            len: _,
+        } => Outcome::Refused(18),
+        Value::Void => Outcome::Refused(18),
+    }
+}
+
+pub fn coerce_to_float(v: Value) -> Outcome
+    ensures { λ r. ⌜ ((is : List ℕ) (vs : List ℤ) → r ≡ placed (coerceFloat (valOf is vs v))) ⌝ }
+{
+    match v {
+        Value::Bool(b) => Outcome::Value(Value::Float(ink_number::convert::int_to_float(bit(b)))),
+        Value::Int(z) => Outcome::Value(Value::Float(ink_number::convert::int_to_float(z))),
+        Value::Float(x) => Outcome::Value(Value::Float(x)),
+        Value::List {
+            origins: _,
+            start: _,
+            len: _,
+        } => Outcome::Refused(18),
+        Value::Void => Outcome::Refused(18),
+    }
+}

@@ -1,0 +1,9 @@
+pub mod Agree
+pub mod Every
+pub mod KindTable
+pub mod Reading
+pub mod Listing
+pub mod Applying
+pub mod Results
+pub mod Steps
+pub mod Known

@@ -1,0 +1,81 @@
+use borrow.Author.Needs.{needs}
+use borrow.Author.Tests.{ne-eqb}
+use Rattle.native_function_call.specs.Numbers.{arithF}
+use Rattle.ink_value.proofs.Chosen.{at}
+use Rattle.native_function_call.proofs.arith_float.Statement.{statement}
+use Rattle.native_function_call.proofs.arith_float.Tie as tie
+
+add-requires : tie.Need-add-requires
+add-requires c κs = search needs
+
+sub-requires : tie.Need-sub-requires
+sub-requires c κs = search needs
+
+div-requires : tie.Need-div-requires
+div-requires c κs = search needs
+
+mul-requires : tie.Need-mul-requires
+mul-requires c κs = search needs
+
+rem-requires : tie.Need-rem-requires
+rem-requires c κs = search needs
+
+min-requires : tie.Need-min-requires
+min-requires c κs = search needs
+
+max-requires : tie.Need-max-requires
+max-requires c κs = search needs
+
+returns : tie.Need-returns
+unfolding arithF
+returns c =
+    at (λ o. arithF o (c .before .before .args .x) (c .before .before .args .y)) (c .before .match .keys1) (c .add .ensures)
+
+returns-2 : tie.Need-returns-2
+unfolding arithF
+returns-2 c =
+    at (λ o. arithF o (c .before .before .args .x) (c .before .before .args .y)) (c .before .match .keys2) (c .sub .ensures)
+
+returns-3 : tie.Need-returns-3
+unfolding arithF
+returns-3 c =
+    at (λ o. arithF o (c .before .before .args .x) (c .before .before .args .y)) (c .before .match .keys3) (c .div .ensures)
+
+returns-4 : tie.Need-returns-4
+unfolding arithF
+returns-4 c =
+    at (λ o. arithF o (c .before .before .args .x) (c .before .before .args .y)) (c .before .match .keys4) (c .mul .ensures)
+
+returns-5 : tie.Need-returns-5
+unfolding arithF
+returns-5 c =
+    at (λ o. arithF o (c .before .before .args .x) (c .before .before .args .y)) (c .before .match .keys5) (c .rem .ensures)
+
+returns-6 : tie.Need-returns-6
+unfolding arithF
+returns-6 c =
+    at (λ o. arithF o (c .before .before .args .x) (c .before .before .args .y)) (c .before .match .keys6) (c .min .ensures)
+
+returns-7 : tie.Need-returns-7
+unfolding arithF
+returns-7 c =
+    rw (ne-eqb _ _ (c .before .match .rest .0 .0 .0 .0 .0 .1), ne-eqb _ _ (c .before .match .rest .0 .0 .0 .0 .1), ne-eqb _ _ (c .before .match .rest .0 .0 .0 .1), ne-eqb _ _ (c .before .match .rest .0 .0 .1), ne-eqb _ _ (c .before .match .rest .0 .1), ne-eqb _ _ (c .before .match .rest .1)) (c .max .ensures)
+
+pub arith-float-spec : {M : Type 1} → statement M
+arith-float-spec =
+    tie.close
+    (tie.spec
+    add-requires
+    sub-requires
+    div-requires
+    mul-requires
+    rem-requires
+    min-requires
+    max-requires
+    returns
+    returns-2
+    returns-3
+    returns-4
+    returns-5
+    returns-6
+    returns-7)

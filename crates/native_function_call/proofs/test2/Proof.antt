@@ -1,0 +1,71 @@
+use borrow.Author.Needs.{needs}
+use mathlib.Core.Path.{sym, ap, _∙_}
+use Rattle.ink_value.specs.Val.{Kind, kindAt}
+use Rattle.native_function_call.specs.Numbers.{testZ, testF}
+use Rattle.native_function_call.specs.Apply.{testAs}
+use Rattle.ink_value.specs.Value.{valOf}
+use Rattle.ink_value.proofs.Reading.{ap2, int-in, float-in}
+use Rattle.native_function_call.proofs.Reading.{common-in, test-other}
+use Rattle.ink_number.proofs.Signed.{returned}
+use Rattle.native_function_call.proofs.test2.Statement.{statement}
+use Rattle.native_function_call.proofs.test2.Tie as tie
+
+common-requires : tie.Need-common-requires
+common-requires c κs = search needs
+
+to-int-requires : tie.Need-to-int-requires
+to-int-requires c κs = search needs
+
+to-int-requires-2 : tie.Need-to-int-requires-2
+to-int-requires-2 c κs = search needs
+
+test-int-requires : tie.Need-test-int-requires
+test-int-requires c κs = search needs
+
+to-float-requires : tie.Need-to-float-requires
+to-float-requires c κs = search needs
+
+to-float-requires-2 : tie.Need-to-float-requires-2
+to-float-requires-2 c κs = search needs
+
+test-float-requires : tie.Need-test-float-requires
+test-float-requires c κs = search needs
+
+test-lists-requires : tie.Need-test-lists-requires
+test-lists-requires c κs = search needs
+
+returns : tie.Need-returns
+returns c =
+    c .test-int .ensures ∙ ap2 (testZ (c .before .before .before .before .before .before .args .op)) (returned (c .before .before .to-int .ok) ∙ c .before .before .to-int .ensures ∙ int-in 65536 (c .before .before .before .before .before .before .args .items .now) (c .before .before .before .before .before .before .args .values .now) (c .before .before .before .before .before .before .args .a) (c .before .before .before .before .before .before .pre .0)) (returned (c .before .to-int2 .ok) ∙ c .before .to-int2 .ensures ∙ int-in 65536 (c .before .before .before .before .before .before .args .items .now) (c .before .before .before .before .before .before .args .values .now) (c .before .before .before .before .before .before .args .b) (c .before .before .before .before .before .before .pre .1))
+    ∙ sym (ap (λ (k : Kind). testAs k (c .before .before .before .before .before .before .args .op) (valOf (c .before .before .before .before .before .before .args .items .now) (c .before .before .before .before .before .before .args .values .now) (c .before .before .before .before .before .before .args .a)) (valOf (c .before .before .before .before .before .before .args .items .now) (c .before .before .before .before .before .before .args .values .now) (c .before .before .before .before .before .before .args .b))) (common-in (c .before .before .before .before .before .before .args .items .now) (c .before .before .before .before .before .before .args .values .now) (c .before .before .before .before .before .before .args .a) (c .before .before .before .before .before .before .args .b) (c .before .before .before .before .common .result) (c .before .before .before .before .common .ensures) ∙ ap kindAt (c .before .before .before .match .keys1)))
+
+returns-2 : tie.Need-returns-2
+returns-2 c =
+    c .test-float .ensures ∙ ap2 (testF (c .before .before .before .before .before .before .args .op)) (c .before .before .to-float .ensures ∙ float-in 65536 (c .before .before .before .before .before .before .args .items .now) (c .before .before .before .before .before .before .args .values .now) (c .before .before .before .before .before .before .args .a) (c .before .before .before .before .before .before .pre .0)) (c .before .to-float2 .ensures ∙ float-in 65536 (c .before .before .before .before .before .before .args .items .now) (c .before .before .before .before .before .before .args .values .now) (c .before .before .before .before .before .before .args .b) (c .before .before .before .before .before .before .pre .1))
+    ∙ sym (ap (λ (k : Kind). testAs k (c .before .before .before .before .before .before .args .op) (valOf (c .before .before .before .before .before .before .args .items .now) (c .before .before .before .before .before .before .args .values .now) (c .before .before .before .before .before .before .args .a)) (valOf (c .before .before .before .before .before .before .args .items .now) (c .before .before .before .before .before .before .args .values .now) (c .before .before .before .before .before .before .args .b))) (common-in (c .before .before .before .before .before .before .args .items .now) (c .before .before .before .before .before .before .args .values .now) (c .before .before .before .before .before .before .args .a) (c .before .before .before .before .before .before .args .b) (c .before .before .before .before .common .result) (c .before .before .before .before .common .ensures) ∙ ap kindAt (c .before .before .before .match .keys2)))
+
+returns-3 : tie.Need-returns-3
+returns-3 c =
+    c .test-lists .ensures ∙ sym (ap (λ (k : Kind). testAs k (c .before .before .before .before .args .op) (valOf (c .before .before .before .before .args .items .now) (c .before .before .before .before .args .values .now) (c .before .before .before .before .args .a)) (valOf (c .before .before .before .before .args .items .now) (c .before .before .before .before .args .values .now) (c .before .before .before .before .args .b))) (common-in (c .before .before .before .before .args .items .now) (c .before .before .before .before .args .values .now) (c .before .before .before .before .args .a) (c .before .before .before .before .args .b) (c .before .before .common .result) (c .before .before .common .ensures) ∙ ap kindAt (c .before .match .keys3)))
+
+returns-4 : tie.Need-returns-4
+returns-4 c =
+    sym (test-other (c .before .common .result) (c .match .rest .0 .0 .1) (c .match .rest .0 .1) (c .match .rest .1) (c .before .before .before .args .op) (valOf (c .before .before .before .args .items .now) (c .before .before .before .args .values .now) (c .before .before .before .args .a)) (valOf (c .before .before .before .args .items .now) (c .before .before .before .args .values .now) (c .before .before .before .args .b)))
+    ∙ sym (ap (λ (k : Kind). testAs k (c .before .before .before .args .op) (valOf (c .before .before .before .args .items .now) (c .before .before .before .args .values .now) (c .before .before .before .args .a)) (valOf (c .before .before .before .args .items .now) (c .before .before .before .args .values .now) (c .before .before .before .args .b))) (common-in (c .before .before .before .args .items .now) (c .before .before .before .args .values .now) (c .before .before .before .args .a) (c .before .before .before .args .b) (c .before .common .result) (c .before .common .ensures)))
+
+pub test2-spec : {M : Type 1} → statement M
+test2-spec =
+    tie.close
+    (tie.spec
+    common-requires
+    to-int-requires
+    to-int-requires-2
+    test-int-requires
+    to-float-requires
+    to-float-requires-2
+    test-float-requires
+    test-lists-requires
+    returns
+    returns-2
+    returns-3
+    returns-4)

@@ -1,0 +1,124 @@
+-- Questions 8 and 10 to 14, which ask only for kinds, and the kind of each result.
+use mathlib.Core.Bool.{Bool, true, false, cond, not, _&&_, _||_}
+use mathlib.Core.List.{List, [], _∷_}
+use Prim.Native.Nat.{ℕ, max, _<_}
+use lib.Dec.{eqb, leb, ltb}
+use Rattle.native_function_call.specs.Op.{opNegate, opEqual, opNotEquals, opNot, opInt, opFloat, opRange}
+use Rattle.native_function_call.specs.declared.KindAnswer.{KindAnswer}
+use Rattle.native_function_call.specs.declared.KindAnswer.the-variants as Ans
+use Rattle.ink_value.specs.Val.{Kind, boolK, intK, floatK, listK, voidK, codeOf, kindAt}
+use Rattle.ink_number.specs.Answer.{Answer, gives, refuses}
+
+-- lo ≤ o ≤ hi
+abbrev pub within : ℕ → ℕ → ℕ → Bool
+within lo o hi = leb lo o && leb o hi
+
+-- question 8
+unfoldable pub known : ℕ → Bool
+known o = leb o 16 || within 20 o 31
+
+-- Negate, Not, Int, Float and ListMin to Invert take one operand, range three, the others two
+unfoldable pub unary : ℕ → Bool
+unary o = eqb o opNegate || eqb o opNot || eqb o opInt || eqb o opFloat || within 25 o 30
+
+unfoldable pub arity : ℕ → ℕ
+arity o = cond (unary o) 1 (cond (eqb o opRange) 3 2)
+
+abbrev pub isList : Kind → Bool
+isList boolK = false
+isList intK = false
+isList floatK = false
+isList listK = true
+isList voidK = false
+
+abbrev pub isInt : Kind → Bool
+isInt boolK = false
+isInt intK = true
+isInt floatK = false
+isInt listK = false
+isInt voidK = false
+
+abbrev pub isVoid : Kind → Bool
+isVoid boolK = false
+isVoid intK = false
+isVoid floatK = false
+isVoid listK = false
+isVoid voidK = true
+
+-- the highest code present, at least 1
+abbrev pub common : Kind → Kind → Kind
+common a b = kindAt (max 1 (max (codeOf a) (codeOf b)))
+
+-- question 13, for the common kind
+abbrev pub available : ℕ → Kind → Bool
+available o k =
+    cond (isList k)
+    (leb o 1 || within 6 o 14 || within 22 o 30)
+    (leb o 16 || within 20 o 21)
+
+-- the kind of the result, from the common kind
+abbrev pub resultKind : ℕ → Kind → Kind
+resultKind o k =
+    cond (leb o 5 || within 15 o 16) k
+    (cond (eqb o opNot) (cond (isList k) intK boolK)
+    (cond (leb o 14 || within 22 o 23) boolK
+    (cond (eqb o opInt || within 28 o 29) intK
+    (cond (eqb o opFloat) floatK listK))))
+
+-- questions 11, 13 of one operand
+unfoldable pub kindUnary : ℕ → Kind → Answer Kind
+kindUnary o a =
+    cond (isVoid a) (refuses 11)
+    (cond (available o (common a a)) (gives (resultKind o (common a a))) (refuses 13))
+
+-- question 12: with just one List, only List then Int with Add or Subtract, and And and Or
+abbrev pub mixed : Kind → Kind → Bool
+mixed a b = not (cond (isList a) (isList b) (not (isList b)))
+
+abbrev pub mixes : ℕ → Kind → Kind → Bool
+mixes o a b = (leb o 1 && isList a && isInt b) || within 13 o 14
+
+-- questions 11 to 14 of two operands
+unfoldable pub kindBinary : ℕ → Kind → Kind → Answer Kind
+kindBinary o a b =
+    cond (isVoid a || isVoid b) (refuses 11)
+    (cond (mixed a b) (cond (mixes o a b) (gives (resultKind o listK)) (refuses 12))
+    (cond (available o (common a b))
+    (cond (isList a && (eqb o opEqual || eqb o opNotEquals)) (refuses 14) (gives (resultKind o (common a b))))
+    (refuses 13)))
+
+-- range: questions 11 and 13
+unfoldable pub kindRange : Kind → Kind → Kind → Answer Kind
+kindRange a b c =
+    cond (isVoid a || isVoid b || isVoid c) (refuses 11)
+    (cond (isList a) (gives listK) (refuses 13))
+
+-- an operator's answer on kinds; 10 where the operands are not as many as it takes
+unfoldable pub kindApply : ℕ → List Kind → Answer Kind
+kindApply o [] = refuses 10
+kindApply o (a ∷ []) = cond (eqb (arity o) 1) (kindUnary o a) (refuses 10)
+kindApply o (a ∷ b ∷ []) = cond (eqb (arity o) 2) (kindBinary o a b) (refuses 10)
+kindApply o (a ∷ b ∷ c ∷ []) = cond (eqb (arity o) 3) (kindRange a b c) (refuses 10)
+kindApply o (a ∷ b ∷ c ∷ d ∷ ks) = refuses 10
+
+-- the table's entry for an operator below range
+unfoldable pub kindEntry : ℕ → Kind → Kind → Answer Kind
+kindEntry o a b = cond (known o) (cond (unary o) (kindUnary o a) (kindBinary o a b)) (refuses 8)
+
+-- an entry below 5 is a kind code, any other a refusal's number
+abbrev pub decoded : ℕ → Answer Kind
+decoded e = cond (ltb e 5) (gives (kindAt e)) (refuses e)
+
+-- how many operands an operator takes, 0 where question 8 says no
+unfoldable pub operandCount : ℕ → ℕ
+operandCount o = cond (known o) (arity o) 0
+
+-- what each case of the enum says
+abbrev pub kindAnswer : KindAnswer → Answer Kind
+kindAnswer (Ans.Kind k) = gives (kindAt k)
+kindAnswer (Ans.Refused r) = refuses r
+
+-- a kind that is answered is one of the codes
+abbrev pub Coded : KindAnswer → Type 0
+Coded (Ans.Kind k) = k < 5
+Coded (Ans.Refused r) = Unit {0}

@@ -1,0 +1,1482 @@
+// The operators on values: the kind table, and dispatch by kind and operator.
+use ink_number::int::Divided;
+use ink_value::Outcome;
+use ink_value::Value;
+ghost use mathlib.Core.Path.{_≡_};
+ghost use mathlib.Core.Bool.{Bool, true, _&&_, _||_, not};
+ghost use mathlib.Core.List.{List, [], _∷_};
+ghost use Prim.Native.Nat.{ℕ, _<_, _≤_, _+_, max};
+ghost use lib.IntN.{ℤ, pos};
+ghost use lib.ListN.{length, take};
+ghost use Rattle.ink_value.specs.Val.{kindAt, kindOf};
+ghost use Rattle.ink_number.specs.Answer.{gives};
+ghost use Rattle.native_function_call.specs.Kinds.{common, kindApply, kindEntry, decoded, operandCount, kindRange, kindAnswer, Coded};
+ghost use Rattle.native_function_call.specs.Numbers.{arithZ, arithF, testZ, testF};
+ghost use Rattle.ink_value.specs.Convert.{bitZ, castable, converted, cast, coerceBool, coerceInt, coerceFloat, greatestOf};
+ghost use Rattle.native_function_call.specs.Lists.{testL, mergeL, unaryL, stepBy, Room, definitions};
+ghost use Rattle.native_function_call.specs.Apply.{ofInt, testLists, testAs, wholeUnary, realUnary, compute, applyOp, entriesFor, listed};
+ghost use Rattle.ink_value.specs.Value.{codeOfValue, valOf, placed, part, startOf, lenOf, setIn, intOf, floatOf, truthOf, lowOf, highOf, held, Formed, Gave};
+ghost use Rattle.ink_list.specs.Entries.{entries, room, Ascends, Rising, Lent, Wrote};
+ghost use Rattle.ink_number.specs.Int.{divided};
+ghost use Rattle.ink_value.specs.declared.Value.the-variants as Is;
+ghost use Rattle.ink_value.specs.declared.Outcome.the-variants as Out;
+ghost use Rattle.ink_list.specs.Ops.{extremeValue, valueOfList};
+ghost use Rattle.ink_list.specs.Defs.{Tables, originsOf};
+
+// What an operator gives on kinds: the kind of its result, or a refusal.
+pub enum KindAnswer {
+    Kind(u8),
+    Refused(u8),
+}
+
+const KINDS: [u8; 775] = [
+    1,
+    1,
+    2,
+    12,
+    11,
+    1,
+    1,
+    2,
+    12,
+    11,
+    2,
+    2,
+    2,
+    12,
+    11,
+    12,
+    3,
+    12,
+    3,
+    11,
+    11,
+    11,
+    11,
+    11,
+    11,
+    1,
+    1,
+    2,
+    12,
+    11,
+    1,
+    1,
+    2,
+    12,
+    11,
+    2,
+    2,
+    2,
+    12,
+    11,
+    12,
+    3,
+    12,
+    3,
+    11,
+    11,
+    11,
+    11,
+    11,
+    11,
+    1,
+    1,
+    2,
+    12,
+    11,
+    1,
+    1,
+    2,
+    12,
+    11,
+    2,
+    2,
+    2,
+    12,
+    11,
+    12,
+    12,
+    12,
+    13,
+    11,
+    11,
+    11,
+    11,
+    11,
+    11,
+    1,
+    1,
+    2,
+    12,
+    11,
+    1,
+    1,
+    2,
+    12,
+    11,
+    2,
+    2,
+    2,
+    12,
+    11,
+    12,
+    12,
+    12,
+    13,
+    11,
+    11,
+    11,
+    11,
+    11,
+    11,
+    1,
+    1,
+    2,
+    12,
+    11,
+    1,
+    1,
+    2,
+    12,
+    11,
+    2,
+    2,
+    2,
+    12,
+    11,
+    12,
+    12,
+    12,
+    13,
+    11,
+    11,
+    11,
+    11,
+    11,
+    11,
+    1,
+    1,
+    1,
+    1,
+    1,
+    1,
+    1,
+    1,
+    1,
+    1,
+    2,
+    2,
+    2,
+    2,
+    2,
+    13,
+    13,
+    13,
+    13,
+    13,
+    11,
+    11,
+    11,
+    11,
+    11,
+    0,
+    0,
+    0,
+    12,
+    11,
+    0,
+    0,
+    0,
+    12,
+    11,
+    0,
+    0,
+    0,
+    12,
+    11,
+    12,
+    12,
+    12,
+    14,
+    11,
+    11,
+    11,
+    11,
+    11,
+    11,
+    0,
+    0,
+    0,
+    12,
+    11,
+    0,
+    0,
+    0,
+    12,
+    11,
+    0,
+    0,
+    0,
+    12,
+    11,
+    12,
+    12,
+    12,
+    0,
+    11,
+    11,
+    11,
+    11,
+    11,
+    11,
+    0,
+    0,
+    0,
+    12,
+    11,
+    0,
+    0,
+    0,
+    12,
+    11,
+    0,
+    0,
+    0,
+    12,
+    11,
+    12,
+    12,
+    12,
+    0,
+    11,
+    11,
+    11,
+    11,
+    11,
+    11,
+    0,
+    0,
+    0,
+    12,
+    11,
+    0,
+    0,
+    0,
+    12,
+    11,
+    0,
+    0,
+    0,
+    12,
+    11,
+    12,
+    12,
+    12,
+    0,
+    11,
+    11,
+    11,
+    11,
+    11,
+    11,
+    0,
+    0,
+    0,
+    12,
+    11,
+    0,
+    0,
+    0,
+    12,
+    11,
+    0,
+    0,
+    0,
+    12,
+    11,
+    12,
+    12,
+    12,
+    0,
+    11,
+    11,
+    11,
+    11,
+    11,
+    11,
+    0,
+    0,
+    0,
+    12,
+    11,
+    0,
+    0,
+    0,
+    12,
+    11,
+    0,
+    0,
+    0,
+    12,
+    11,
+    12,
+    12,
+    12,
+    14,
+    11,
+    11,
+    11,
+    11,
+    11,
+    11,
+    0,
+    0,
+    0,
+    0,
+    0,
+    0,
+    0,
+    0,
+    0,
+    0,
+    0,
+    0,
+    0,
+    0,
+    0,
+    1,
+    1,
+    1,
+    1,
+    1,
+    11,
+    11,
+    11,
+    11,
+    11,
+    0,
+    0,
+    0,
+    0,
+    11,
+    0,
+    0,
+    0,
+    0,
+    11,
+    0,
+    0,
+    0,
+    0,
+    11,
+    0,
+    0,
+    0,
+    0,
+    11,
+    11,
+    11,
+    11,
+    11,
+    11,
+    0,
+    0,
+    0,
+    0,
+    11,
+    0,
+    0,
+    0,
+    0,
+    11,
+    0,
+    0,
+    0,
+    0,
+    11,
+    0,
+    0,
+    0,
+    0,
+    11,
+    11,
+    11,
+    11,
+    11,
+    11,
+    1,
+    1,
+    2,
+    12,
+    11,
+    1,
+    1,
+    2,
+    12,
+    11,
+    2,
+    2,
+    2,
+    12,
+    11,
+    12,
+    12,
+    12,
+    13,
+    11,
+    11,
+    11,
+    11,
+    11,
+    11,
+    1,
+    1,
+    2,
+    12,
+    11,
+    1,
+    1,
+    2,
+    12,
+    11,
+    2,
+    2,
+    2,
+    12,
+    11,
+    12,
+    12,
+    12,
+    13,
+    11,
+    11,
+    11,
+    11,
+    11,
+    11,
+    8,
+    8,
+    8,
+    8,
+    8,
+    8,
+    8,
+    8,
+    8,
+    8,
+    8,
+    8,
+    8,
+    8,
+    8,
+    8,
+    8,
+    8,
+    8,
+    8,
+    8,
+    8,
+    8,
+    8,
+    8,
+    8,
+    8,
+    8,
+    8,
+    8,
+    8,
+    8,
+    8,
+    8,
+    8,
+    8,
+    8,
+    8,
+    8,
+    8,
+    8,
+    8,
+    8,
+    8,
+    8,
+    8,
+    8,
+    8,
+    8,
+    8,
+    8,
+    8,
+    8,
+    8,
+    8,
+    8,
+    8,
+    8,
+    8,
+    8,
+    8,
+    8,
+    8,
+    8,
+    8,
+    8,
+    8,
+    8,
+    8,
+    8,
+    8,
+    8,
+    8,
+    8,
+    8,
+    1,
+    1,
+    1,
+    1,
+    1,
+    1,
+    1,
+    1,
+    1,
+    1,
+    1,
+    1,
+    1,
+    1,
+    1,
+    13,
+    13,
+    13,
+    13,
+    13,
+    11,
+    11,
+    11,
+    11,
+    11,
+    2,
+    2,
+    2,
+    2,
+    2,
+    2,
+    2,
+    2,
+    2,
+    2,
+    2,
+    2,
+    2,
+    2,
+    2,
+    13,
+    13,
+    13,
+    13,
+    13,
+    11,
+    11,
+    11,
+    11,
+    11,
+    13,
+    13,
+    13,
+    12,
+    11,
+    13,
+    13,
+    13,
+    12,
+    11,
+    13,
+    13,
+    13,
+    12,
+    11,
+    12,
+    12,
+    12,
+    0,
+    11,
+    11,
+    11,
+    11,
+    11,
+    11,
+    13,
+    13,
+    13,
+    12,
+    11,
+    13,
+    13,
+    13,
+    12,
+    11,
+    13,
+    13,
+    13,
+    12,
+    11,
+    12,
+    12,
+    12,
+    0,
+    11,
+    11,
+    11,
+    11,
+    11,
+    11,
+    13,
+    13,
+    13,
+    12,
+    11,
+    13,
+    13,
+    13,
+    12,
+    11,
+    13,
+    13,
+    13,
+    12,
+    11,
+    12,
+    12,
+    12,
+    3,
+    11,
+    11,
+    11,
+    11,
+    11,
+    11,
+    13,
+    13,
+    13,
+    13,
+    13,
+    13,
+    13,
+    13,
+    13,
+    13,
+    13,
+    13,
+    13,
+    13,
+    13,
+    3,
+    3,
+    3,
+    3,
+    3,
+    11,
+    11,
+    11,
+    11,
+    11,
+    13,
+    13,
+    13,
+    13,
+    13,
+    13,
+    13,
+    13,
+    13,
+    13,
+    13,
+    13,
+    13,
+    13,
+    13,
+    3,
+    3,
+    3,
+    3,
+    3,
+    11,
+    11,
+    11,
+    11,
+    11,
+    13,
+    13,
+    13,
+    13,
+    13,
+    13,
+    13,
+    13,
+    13,
+    13,
+    13,
+    13,
+    13,
+    13,
+    13,
+    3,
+    3,
+    3,
+    3,
+    3,
+    11,
+    11,
+    11,
+    11,
+    11,
+    13,
+    13,
+    13,
+    13,
+    13,
+    13,
+    13,
+    13,
+    13,
+    13,
+    13,
+    13,
+    13,
+    13,
+    13,
+    1,
+    1,
+    1,
+    1,
+    1,
+    11,
+    11,
+    11,
+    11,
+    11,
+    13,
+    13,
+    13,
+    13,
+    13,
+    13,
+    13,
+    13,
+    13,
+    13,
+    13,
+    13,
+    13,
+    13,
+    13,
+    1,
+    1,
+    1,
+    1,
+    1,
+    11,
+    11,
+    11,
+    11,
+    11,
+    13,
+    13,
+    13,
+    13,
+    13,
+    13,
+    13,
+    13,
+    13,
+    13,
+    13,
+    13,
+    13,
+    13,
+    13,
+    3,
+    3,
+    3,
+    3,
+    3,
+    11,
+    11,
+    11,
+    11,
+    11,
+];
+
+// The table's answer for an operator below range and two kind codes.
+pub fn kind_entry(op: u8, left: u8, right: u8) -> KindAnswer
+    requires { ⌜ (op < 31) × (left < 5) × (right < 5) ⌝ }
+    ensures { λ r. ⌜ (kindAnswer r ≡ kindEntry op (kindAt left) (kindAt right)) × Coded r ⌝ }
+{
+    let e = table(op, left, right);
+    if e < 5 {
+        KindAnswer::Kind(e)
+    } else {
+        KindAnswer::Refused(e)
+    }
+}
+
+fn table(op: u8, left: u8, right: u8) -> u8
+    requires { ⌜ (op < 31) × (left < 5) × (right < 5) ⌝ }
+    ensures { λ r. ⌜ decoded r ≡ kindEntry op (kindAt left) (kindAt right) ⌝ }
+{
+    let at = (op as usize) * 25 + (left as usize) * 5 + (right as usize);
+    KINDS[at]
+}
+
+const OPERANDS: [usize; 32] = [
+    2,
+    2,
+    2,
+    2,
+    2,
+    1,
+    2,
+    2,
+    2,
+    2,
+    2,
+    2,
+    1,
+    2,
+    2,
+    2,
+    2,
+    0,
+    0,
+    0,
+    1,
+    1,
+    2,
+    2,
+    2,
+    1,
+    1,
+    1,
+    1,
+    1,
+    1,
+    3,
+];
+
+// How many operands an operator takes, 0 where there is no such operator.
+pub fn operands(op: u8) -> usize
+    requires { ⌜ op < 32 ⌝ }
+    ensures { λ r. ⌜ r ≡ operandCount op ⌝ }
+{
+    OPERANDS[op as usize]
+}
+
+// Range on kinds.
+pub fn kind_range(list: u8, lower: u8, upper: u8) -> KindAnswer
+    requires { ⌜ (list < 5) × (lower < 5) × (upper < 5) ⌝ }
+    ensures { λ r. ⌜ (kindAnswer r ≡ kindRange (kindAt list) (kindAt lower) (kindAt upper)) × Coded r ⌝ }
+{
+    if list == 4 {
+        return KindAnswer::Refused(11);
+    }
+    if lower == 4 {
+        return KindAnswer::Refused(11);
+    }
+    if upper == 4 {
+        return KindAnswer::Refused(11);
+    }
+    if list == 3 {
+        KindAnswer::Kind(3)
+    } else {
+        KindAnswer::Refused(13)
+    }
+}
+
+fn whole_outcome(d: Divided) -> Outcome
+    ensures { λ r. ⌜ r ≡ placed (ofInt (divided d)) ⌝ }
+{
+    match d {
+        Divided::Value(z) => Outcome::Value(Value::Int(z)),
+        Divided::Refused => Outcome::Refused(15),
+    }
+}
+
+fn arith_int(op: u8, x: i32, y: i32) -> Divided
+    ensures { λ r. ⌜ divided r ≡ arithZ op x y ⌝ }
+{
+    match op {
+        0 => Divided::Value(ink_number::int::wrapping_add(x, y)),
+        1 => Divided::Value(ink_number::int::wrapping_sub(x, y)),
+        2 => ink_number::int::divide(x, y),
+        3 => Divided::Value(ink_number::int::wrapping_mul(x, y)),
+        4 => ink_number::int::remainder_of(x, y),
+        15 => Divided::Value(ink_number::int::min(x, y)),
+        _ => Divided::Value(ink_number::int::max(x, y)),
+    }
+}
+
+fn arith_float(op: u8, x: f32, y: f32) -> f32
+    ensures { λ r. ⌜ r ≡ arithF op x y ⌝ }
+{
+    match op {
+        0 => ink_number::float::add(x, y),
+        1 => ink_number::float::sub(x, y),
+        2 => ink_number::float::div(x, y),
+        3 => ink_number::float::mul(x, y),
+        4 => ink_number::float::rem(x, y),
+        15 => ink_number::float::min(x, y),
+        _ => ink_number::float::max(x, y),
+    }
+}
+
+fn both(a: bool, b: bool) -> bool
+    ensures { λ r. ⌜ r ≡ a && b ⌝ }
+{
+    if a { b } else { false }
+}
+
+fn either(a: bool, b: bool) -> bool
+    ensures { λ r. ⌜ r ≡ a || b ⌝ }
+{
+    if a { true } else { b }
+}
+
+fn test_int(op: u8, x: i32, y: i32) -> bool
+    ensures { λ r. ⌜ r ≡ testZ op x y ⌝ }
+{
+    match op {
+        6 => ink_number::int::eq(x, y),
+        7 => ink_number::int::gt(x, y),
+        8 => ink_number::int::lt(x, y),
+        9 => ink_number::int::ge(x, y),
+        10 => ink_number::int::le(x, y),
+        11 => ink_number::int::ne(x, y),
+        13 => both(ink_number::int::truthy(x), ink_number::int::truthy(y)),
+        _ => either(ink_number::int::truthy(x), ink_number::int::truthy(y)),
+    }
+}
+
+fn test_float(op: u8, x: f32, y: f32) -> bool
+    ensures { λ r. ⌜ r ≡ testF op x y ⌝ }
+{
+    match op {
+        6 => ink_number::float::eq(x, y),
+        7 => ink_number::float::gt(x, y),
+        8 => ink_number::float::lt(x, y),
+        9 => ink_number::float::ge(x, y),
+        10 => ink_number::float::le(x, y),
+        11 => ink_number::float::ne(x, y),
+        13 => both(ink_number::float::truthy(x), ink_number::float::truthy(y)),
+        _ => either(ink_number::float::truthy(x), ink_number::float::truthy(y)),
+    }
+}
+
+fn test_entries(op: u8, ai: &[u16], av: &[i32], bi: &[u16], bv: &[i32]) -> bool
+    requires { ⌜ Lent 65536 (now ai) (now av) × Lent 65536 (now bi) (now bv) ⌝ }
+    ensures { λ r. ⌜ r ≡ testL op (entries (now (ai .entry)) (now (av .entry))) (entries (now (bi .entry)) (now (bv .entry))) ⌝ }
+{
+    match op {
+        7 => ink_list::greater(av, bv),
+        8 => ink_list::less(av, bv),
+        9 => ink_list::greater_or_equals(av, bv),
+        10 => ink_list::less_or_equals(av, bv),
+        22 => ink_list::has(ai, bi),
+        _ => ink_list::hasnt(ai, bi),
+    }
+}
+
+fn merge(
+    op: u8,
+    ai: &[u16],
+    av: &[i32],
+    bi: &[u16],
+    bv: &[i32],
+    oi: &mut [u16],
+    ov: &mut [i32],
+) -> usize
+    requires { ⌜ Lent (room (now oi) (now ov)) (now ai) (now av) ⌝ }
+    requires { ⌜ Lent (room (now oi) (now ov)) (now bi) (now bv) ⌝ }
+    ensures { λ r. ⌜ ((limit : ℕ) → Rising limit (entries (now (ai .entry)) (now (av .entry))) → Rising limit (entries (now (bi .entry)) (now (bv .entry)))
+        → Wrote (mergeL limit op (entries (now (ai .entry)) (now (av .entry))) (entries (now (bi .entry)) (now (bv .entry)))) r
+        (now (oi .entry)) (now (oi .exit)) (now (ov .entry)) (now (ov .exit))) ⌝ }
+{
+    match op {
+        0 => ink_list::union(ai, av, bi, bv, oi, ov),
+        1 => ink_list::without(ai, av, bi, oi, ov),
+        _ => ink_list::intersect(ai, av, bi, oi, ov),
+    }
+}
+
+fn unary(
+    op: u8,
+    ai: &[u16],
+    av: &[i32],
+    set: u64,
+    ends: &[u16],
+    defined: &[i32],
+    oi: &mut [u16],
+    ov: &mut [i32],
+) -> usize
+    requires { ⌜ Tables (now ends) (now defined) × Lent 65536 (now ai) (now av) ⌝ }
+    requires { ⌜ (1 ≤ length (now oi)) × (1 ≤ length (now ov)) × (length (now defined) ≤ length (now oi)) × (length (now defined) ≤ length (now ov)) ⌝ }
+    ensures { λ r. ⌜ Wrote (unaryL (now (ends .entry)) (now (defined .entry)) op set (entries (now (ai .entry)) (now (av .entry)))) r
+        (now (oi .entry)) (now (oi .exit)) (now (ov .entry)) (now (ov .exit)) ⌝ }
+{
+    match op {
+        25 => ink_list::list_min(ai, av, oi, ov),
+        26 => ink_list::list_max(ai, av, oi, ov),
+        27 => ink_list::all(set, ends, defined, oi, ov),
+        _ => ink_list::invert(ai, set, ends, defined, oi, ov),
+    }
+}
+
+fn step_by(op: u8, n: i32) -> i32
+    ensures { λ r. ⌜ r ≡ stepBy op n ⌝ }
+{
+    if op == 0 {
+        return n;
+    }
+    ink_number::int::wrapping_neg(n)
+}
+
+// The code of the common kind: the highest present, at least 1.
+fn common(a: Value, b: Value) -> u8
+    ensures { λ r. ⌜ r ≡ max 1 (max (codeOfValue a) (codeOfValue b)) ⌝ }
+{
+    let left = ink_value::kind(a);
+    let right = ink_value::kind(b);
+    if right < left {
+        return left;
+    }
+    if right == 0 {
+        return 1;
+    }
+    right
+}
+
+// The tests on the entries of two lists.
+fn test_held(op: u8, a: Value, b: Value, items: &[u16], values: &[i32]) -> bool
+    requires { ⌜ Formed 65536 (now items) (now values) a × Formed 65536 (now items) (now values) b ⌝ }
+    ensures { λ r. ⌜ r ≡ testL op (held (now (items .entry)) (now (values .entry)) a) (held (now (items .entry)) (now (values .entry)) b) ⌝ }
+{
+    let i = ink_value::start_of(a);
+    let m = ink_value::len_of(a);
+    let j = ink_value::start_of(b);
+    let n = ink_value::len_of(b);
+    let e = i + m;
+    let f = j + n;
+    test_entries(op, &items[i..e], &values[i..e], &items[j..f], &values[j..f])
+}
+
+// With a list among the operands.
+fn test_lists(op: u8, a: Value, b: Value, items: &[u16], values: &[i32]) -> bool
+    requires { ⌜ Formed 65536 (now items) (now values) a × Formed 65536 (now items) (now values) b ⌝ }
+    ensures { λ r. ⌜ r ≡ testLists op (valOf (now (items .entry)) (now (values .entry)) a) (valOf (now (items .entry)) (now (values .entry)) b) ⌝ }
+{
+    match op {
+        13 => both(ink_value::is_truthy(a), ink_value::is_truthy(b)),
+        14 => either(ink_value::is_truthy(a), ink_value::is_truthy(b)),
+        _ => test_held(op, a, b, items, values),
+    }
+}
+
+fn test2(op: u8, a: Value, b: Value, items: &[u16], values: &[i32]) -> bool
+    requires { ⌜ Formed 65536 (now items) (now values) a × Formed 65536 (now items) (now values) b ⌝ }
+    ensures { λ r. ⌜ r ≡ testAs (common (kindOf (valOf (now (items .entry)) (now (values .entry)) a)) (kindOf (valOf (now (items .entry)) (now (values .entry)) b)))
+        op (valOf (now (items .entry)) (now (values .entry)) a) (valOf (now (items .entry)) (now (values .entry)) b) ⌝ }
+{
+    let k = common(a, b);
+    match k {
+        1 => test_int(
+            op,
+            ink_value::to_int(a, values),
+            ink_value::to_int(b, values),
+        ),
+        2 => test_float(
+            op,
+            ink_value::to_float(a, values),
+            ink_value::to_float(b, values),
+        ),
+        3 => test_lists(op, a, b, items, values),
+        _ => false,
+    }
+}
+
+fn whole1(op: u8, a: Value, values: &[i32]) -> i32
+    requires { ⌜ (startOf a + lenOf a ≤ length (now values)) × (lenOf a ≤ 65535) ⌝ }
+    ensures { λ r. ⌜ ((limit : ℕ) (is : List ℕ) → Formed limit is (now (values .entry)) a → r ≡ wholeUnary op (valOf is (now (values .entry)) a)) ⌝ }
+{
+    match op {
+        5 => ink_number::int::wrapping_neg(ink_value::to_int(a, values)),
+        12 => ink_value::bit(!ink_value::is_truthy(a)),
+        28 => ink_value::len_of(a) as i32,
+        _ => ink_value::to_int(a, values),
+    }
+}
+
+fn real1(op: u8, a: Value, values: &[i32]) -> f32
+    requires { ⌜ startOf a + lenOf a ≤ length (now values) ⌝ }
+    ensures { λ r. ⌜ ((limit : ℕ) (is : List ℕ) → Formed limit is (now (values .entry)) a → r ≡ realUnary op (valOf is (now (values .entry)) a)) ⌝ }
+{
+    let x = ink_value::to_float(a, values);
+    if op == 5 {
+        return ink_number::float::neg(x);
+    }
+    x
+}
+
+// The list of the first n entries of the output, with its items' origins.
+fn located(n: usize, items: &[u16], ends: &[u16]) -> Outcome
+    requires { ⌜ (n ≤ length (now items)) × Ascends 0 65536 (take n (now items)) × (length (now ends) ≤ 64) ⌝ }
+    ensures { λ r. ⌜ r ≡ Out.Value (Is.List (originsOf (now (ends .entry)) (take n (now (items .entry)))) 0 n) ⌝ }
+{
+    let origins = ink_list::origins_of(&items[..n], ends);
+    Outcome::Value(Value::List {
+        origins,
+        start: 0,
+        len: n,
+    })
+}
+
+// ListMin, ListMax, All, Invert.
+fn list1(
+    op: u8,
+    a: Value,
+    items: &[u16],
+    values: &[i32],
+    ends: &[u16],
+    defined: &[i32],
+    limit: usize,
+    oi: &mut [u16],
+    ov: &mut [i32],
+) -> Outcome
+    requires { ⌜ Room (definitions (now ends) (now defined) limit) (now oi) (now ov) ⌝ }
+    requires { ⌜ Formed limit (now items) (now values) a ⌝ }
+    ensures { λ r. ⌜ Gave (listed (definitions (now (ends .entry)) (now (defined .entry)) limit) op (valOf (now (items .entry)) (now (values .entry)) a ∷ [])
+        (entriesFor (definitions (now (ends .entry)) (now (defined .entry)) limit) op (valOf (now (items .entry)) (now (values .entry)) a ∷ []))) r
+        (now (oi .entry)) (now (oi .exit)) (now (ov .entry)) (now (ov .exit)) ⌝ }
+{
+    let i = ink_value::start_of(a);
+    let m = ink_value::len_of(a);
+    let set = ink_value::origins_in(a);
+    let e = i + m;
+    let n = unary(op, &items[i..e], &values[i..e], set, ends, defined, oi, ov);
+    located(n, oi, ends)
+}
+
+// Add, Subtract and Intersect of two lists.
+fn list_list(
+    op: u8,
+    a: Value,
+    b: Value,
+    items: &[u16],
+    values: &[i32],
+    ends: &[u16],
+    defined: &[i32],
+    limit: usize,
+    oi: &mut [u16],
+    ov: &mut [i32],
+) -> Outcome
+    requires { ⌜ Room (definitions (now ends) (now defined) limit) (now oi) (now ov) ⌝ }
+    requires { ⌜ Formed limit (now items) (now values) a × Formed limit (now items) (now values) b ⌝ }
+    requires { ⌜ codeOfValue b ≡ 3 ⌝ }
+    ensures { λ r. ⌜ Gave (listed (definitions (now (ends .entry)) (now (defined .entry)) limit) op (valOf (now (items .entry)) (now (values .entry)) a ∷ valOf (now (items .entry)) (now (values .entry)) b ∷ [])
+        (entriesFor (definitions (now (ends .entry)) (now (defined .entry)) limit) op (valOf (now (items .entry)) (now (values .entry)) a ∷ valOf (now (items .entry)) (now (values .entry)) b ∷ []))) r
+        (now (oi .entry)) (now (oi .exit)) (now (ov .entry)) (now (ov .exit)) ⌝ }
+{
+    let i = ink_value::start_of(a);
+    let m = ink_value::len_of(a);
+    let j = ink_value::start_of(b);
+    let k = ink_value::len_of(b);
+    let e = i + m;
+    let f = j + k;
+    let n = merge(
+        op,
+        &items[i..e],
+        &values[i..e],
+        &items[j..f],
+        &values[j..f],
+        oi,
+        ov,
+    );
+    located(n, oi, ends)
+}
+
+// Add and Subtract of a list and an Int.
+fn list_int(
+    op: u8,
+    a: Value,
+    b: Value,
+    items: &[u16],
+    values: &[i32],
+    ends: &[u16],
+    defined: &[i32],
+    limit: usize,
+    oi: &mut [u16],
+    ov: &mut [i32],
+) -> Outcome
+    requires { ⌜ Room (definitions (now ends) (now defined) limit) (now oi) (now ov) ⌝ }
+    requires { ⌜ Formed limit (now items) (now values) a × Formed limit (now items) (now values) b ⌝ }
+    requires { ⌜ (codeOfValue b ≡ 3 → ⊥) ⌝ }
+    ensures { λ r. ⌜ Gave (listed (definitions (now (ends .entry)) (now (defined .entry)) limit) op (valOf (now (items .entry)) (now (values .entry)) a ∷ valOf (now (items .entry)) (now (values .entry)) b ∷ [])
+        (entriesFor (definitions (now (ends .entry)) (now (defined .entry)) limit) op (valOf (now (items .entry)) (now (values .entry)) a ∷ valOf (now (items .entry)) (now (values .entry)) b ∷ []))) r
+        (now (oi .entry)) (now (oi .exit)) (now (ov .entry)) (now (ov .exit)) ⌝ }
+{
+    let i = ink_value::start_of(a);
+    let m = ink_value::len_of(a);
+    let set = ink_value::origins_in(a);
+    let by = step_by(op, ink_value::to_int(b, values));
+    let e = i + m;
+    let n = ink_list::increment(&items[i..e], &values[i..e], by, set, ends, defined, oi, ov);
+    located(n, oi, ends)
+}
+
+fn list2(
+    op: u8,
+    a: Value,
+    b: Value,
+    items: &[u16],
+    values: &[i32],
+    ends: &[u16],
+    defined: &[i32],
+    limit: usize,
+    oi: &mut [u16],
+    ov: &mut [i32],
+) -> Outcome
+    requires { ⌜ Room (definitions (now ends) (now defined) limit) (now oi) (now ov) ⌝ }
+    requires { ⌜ Formed limit (now items) (now values) a × Formed limit (now items) (now values) b ⌝ }
+    ensures { λ r. ⌜ Gave (listed (definitions (now (ends .entry)) (now (defined .entry)) limit) op (valOf (now (items .entry)) (now (values .entry)) a ∷ valOf (now (items .entry)) (now (values .entry)) b ∷ [])
+        (entriesFor (definitions (now (ends .entry)) (now (defined .entry)) limit) op (valOf (now (items .entry)) (now (values .entry)) a ∷ valOf (now (items .entry)) (now (values .entry)) b ∷ []))) r
+        (now (oi .entry)) (now (oi .exit)) (now (ov .entry)) (now (ov .exit)) ⌝ }
+{
+    if ink_value::kind(b) == 3 {
+        return list_list(op, a, b, items, values, ends, defined, limit, oi, ov);
+    }
+    list_int(op, a, b, items, values, ends, defined, limit, oi, ov)
+}
+
+// Range, its first operand a list.
+fn list3(
+    a: Value,
+    b: Value,
+    c: Value,
+    items: &[u16],
+    values: &[i32],
+    ends: &[u16],
+    defined: &[i32],
+    limit: usize,
+    oi: &mut [u16],
+    ov: &mut [i32],
+) -> Outcome
+    requires { ⌜ Room (definitions (now ends) (now defined) limit) (now oi) (now ov) ⌝ }
+    requires { ⌜ Formed limit (now items) (now values) a × Formed limit (now items) (now values) b × Formed limit (now items) (now values) c ⌝ }
+    ensures { λ r. ⌜ Gave (listed (definitions (now (ends .entry)) (now (defined .entry)) limit) 31 (valOf (now (items .entry)) (now (values .entry)) a ∷ valOf (now (items .entry)) (now (values .entry)) b ∷ valOf (now (items .entry)) (now (values .entry)) c ∷ [])
+        (entriesFor (definitions (now (ends .entry)) (now (defined .entry)) limit) 31 (valOf (now (items .entry)) (now (values .entry)) a ∷ valOf (now (items .entry)) (now (values .entry)) b ∷ valOf (now (items .entry)) (now (values .entry)) c ∷ []))) r
+        (now (oi .entry)) (now (oi .exit)) (now (ov .entry)) (now (ov .exit)) ⌝ }
+{
+    let i = ink_value::start_of(a);
+    let m = ink_value::len_of(a);
+    let lower = ink_value::lower_bound(b, values);
+    let upper = ink_value::upper_bound(c, values);
+    let e = i + m;
+    let n = ink_list::range(&items[i..e], &values[i..e], lower, upper, oi, ov);
+    located(n, oi, ends)
+}
+
+fn compute1(
+    op: u8,
+    k: u8,
+    a: Value,
+    items: &[u16],
+    values: &[i32],
+    ends: &[u16],
+    defined: &[i32],
+    limit: usize,
+    oi: &mut [u16],
+    ov: &mut [i32],
+) -> Outcome
+    requires { ⌜ Room (definitions (now ends) (now defined) limit) (now oi) (now ov) ⌝ }
+    requires { ⌜ Formed limit (now items) (now values) a ⌝ }
+    ensures { λ r. ⌜ Gave (compute (definitions (now (ends .entry)) (now (defined .entry)) limit) op (valOf (now (items .entry)) (now (values .entry)) a ∷ []) (kindAt k)) r
+        (now (oi .entry)) (now (oi .exit)) (now (ov .entry)) (now (ov .exit)) ⌝ }
+{
+    match k {
+        0 => Outcome::Value(Value::Bool(!ink_value::is_truthy(a))),
+        1 => Outcome::Value(Value::Int(whole1(op, a, values))),
+        2 => Outcome::Value(Value::Float(real1(op, a, values))),
+        3 => list1(op, a, items, values, ends, defined, limit, oi, ov),
+        _ => Outcome::Value(Value::Void),
+    }
+}
+
+fn compute2(
+    op: u8,
+    k: u8,
+    a: Value,
+    b: Value,
+    items: &[u16],
+    values: &[i32],
+    ends: &[u16],
+    defined: &[i32],
+    limit: usize,
+    oi: &mut [u16],
+    ov: &mut [i32],
+) -> Outcome
+    requires { ⌜ Room (definitions (now ends) (now defined) limit) (now oi) (now ov) ⌝ }
+    requires { ⌜ Formed limit (now items) (now values) a × Formed limit (now items) (now values) b ⌝ }
+    ensures { λ r. ⌜ Gave (compute (definitions (now (ends .entry)) (now (defined .entry)) limit) op (valOf (now (items .entry)) (now (values .entry)) a ∷ valOf (now (items .entry)) (now (values .entry)) b ∷ []) (kindAt k)) r
+        (now (oi .entry)) (now (oi .exit)) (now (ov .entry)) (now (ov .exit)) ⌝ }
+{
+    match k {
+        0 => Outcome::Value(Value::Bool(test2(op, a, b, items, values))),
+        1 => whole_outcome(arith_int(
+            op,
+            ink_value::to_int(a, values),
+            ink_value::to_int(b, values),
+        )),
+        2 => Outcome::Value(Value::Float(arith_float(
+            op,
+            ink_value::to_float(a, values),
+            ink_value::to_float(b, values),
+        ))),
+        3 => list2(op, a, b, items, values, ends, defined, limit, oi, ov),
+        _ => Outcome::Value(Value::Void),
+    }
+}
+
+// Questions 11 to 14 of an operator of one operand, of two, and of range.
+fn kinds1(op: u8, a: Value) -> KindAnswer
+    requires { ⌜ (op < 31) × (operandCount op ≡ 1) ⌝ }
+    ensures { λ r. ⌜ kindAnswer r ≡ kindApply op (kindAt (codeOfValue a) ∷ []) ⌝ }
+{
+    let k = ink_value::kind(a);
+    kind_entry(op, k, k)
+}
+
+fn kinds2(op: u8, a: Value, b: Value) -> KindAnswer
+    requires { ⌜ (op < 31) × (operandCount op ≡ 2) ⌝ }
+    ensures { λ r. ⌜ kindAnswer r ≡ kindApply op (kindAt (codeOfValue a) ∷ kindAt (codeOfValue b) ∷ []) ⌝ }
+{
+    let left = ink_value::kind(a);
+    let right = ink_value::kind(b);
+    kind_entry(op, left, right)
+}
+
+fn kinds3(a: Value, b: Value, c: Value) -> KindAnswer
+    ensures { λ r. ⌜ kindAnswer r ≡ kindApply 31 (kindAt (codeOfValue a) ∷ kindAt (codeOfValue b) ∷ kindAt (codeOfValue c) ∷ []) ⌝ }
+{
+    let list = ink_value::kind(a);
+    let lower = ink_value::kind(b);
+    let upper = ink_value::kind(c);
+    kind_range(list, lower, upper)
+}
+
+// An operator of one operand.
+pub fn apply1(
+    op: u8,
+    a: Value,
+    items: &[u16],
+    values: &[i32],
+    ends: &[u16],
+    defined: &[i32],
+    limit: usize,
+    out_items: &mut [u16],
+    out_values: &mut [i32],
+) -> Outcome
+    requires { ⌜ (op < 31) × (operandCount op ≡ 1) ⌝ }
+    requires { ⌜ Room (definitions (now ends) (now defined) limit) (now «out_items») (now «out_values») ⌝ }
+    requires { ⌜ Formed limit (now items) (now values) a ⌝ }
+    ensures { λ r. ⌜ Gave (applyOp (definitions (now (ends .entry)) (now (defined .entry)) limit) op (valOf (now (items .entry)) (now (values .entry)) a ∷ [])) r
+        (now («out_items» .entry)) (now («out_items» .exit)) (now («out_values» .entry)) (now («out_values» .exit)) ⌝ }
+{
+    let answer = kinds1(op, a);
+    match answer {
+        KindAnswer::Kind(k) => compute1(
+            op,
+            k,
+            a,
+            items,
+            values,
+            ends,
+            defined,
+            limit,
+            out_items,
+            out_values,
+        ),
+        KindAnswer::Refused(number) => Outcome::Refused(number),
+    }
+}
+
+// An operator of two operands.
+pub fn apply2(
+    op: u8,
+    a: Value,
+    b: Value,
+    items: &[u16],
+    values: &[i32],
+    ends: &[u16],
+    defined: &[i32],
+    limit: usize,
+    out_items: &mut [u16],
+    out_values: &mut [i32],
+) -> Outcome
+    requires { ⌜ (op < 31) × (operandCount op ≡ 2) ⌝ }
+    requires { ⌜ Room (definitions (now ends) (now defined) limit) (now «out_items») (now «out_values») ⌝ }
+    requires { ⌜ Formed limit (now items) (now values) a × Formed limit (now items) (now values) b ⌝ }
+    ensures { λ r. ⌜ Gave (applyOp (definitions (now (ends .entry)) (now (defined .entry)) limit) op (valOf (now (items .entry)) (now (values .entry)) a ∷ valOf (now (items .entry)) (now (values .entry)) b ∷ [])) r
+        (now («out_items» .entry)) (now («out_items» .exit)) (now («out_values» .entry)) (now («out_values» .exit)) ⌝ }
+{
+    let answer = kinds2(op, a, b);
+    match answer {
+        KindAnswer::Kind(k) => compute2(
+            op,
+            k,
+            a,
+            b,
+            items,
+            values,
+            ends,
+            defined,
+            limit,
+            out_items,
+            out_values,
+        ),
+        KindAnswer::Refused(number) => Outcome::Refused(number),
+    }
+}
+
+// Range.
+pub fn apply3(
+    a: Value,
+    b: Value,
+    c: Value,
+    items: &[u16],
+    values: &[i32],
+    ends: &[u16],
+    defined: &[i32],
+    limit: usize,
+    out_items: &mut [u16],
+    out_values: &mut [i32],
+) -> Outcome
+    requires { ⌜ Room (definitions (now ends) (now defined) limit) (now «out_items») (now «out_values») ⌝ }
+    requires { ⌜ Formed limit (now items) (now values) a × Formed limit (now items) (now values) b × Formed limit (now items) (now values) c ⌝ }
+    ensures { λ r. ⌜ Gave (applyOp (definitions (now (ends .entry)) (now (defined .entry)) limit) 31 (valOf (now (items .entry)) (now (values .entry)) a ∷ valOf (now (items .entry)) (now (values .entry)) b ∷ valOf (now (items .entry)) (now (values .entry)) c ∷ [])) r
+        (now («out_items» .entry)) (now («out_items» .exit)) (now («out_values» .entry)) (now («out_values» .exit)) ⌝ }
+{
+    let answer = kinds3(a, b, c);
+    match answer {
+        KindAnswer::Kind(k) => list3(
+            a,
+            b,
+            c,
+            items,
+            values,
+            ends,
+            defined,
+            limit,
+            out_items,
+            out_values,
+        ),
+        KindAnswer::Refused(number) => Outcome::Refused(number),
+    }
+}
