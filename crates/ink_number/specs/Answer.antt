@@ -1,6 +1,12 @@
 -- What a call answers: a result, or the number of the question that was answered no. Assumes nothing.
+use mathlib.Core.Bool.{Bool, true, false}
 use Prim.Native.Nat.{ℕ}
 
 pub data Answer {ℓ} (X : Type ℓ) : Type ℓ where
   gives : X → Answer X
   refuses : ℕ → Answer X
+
+-- question n, and what comes after a yes: "the first "no" ends the call with its number"
+abbrev pub ask {ℓ} : {X : Type ℓ} → ℕ → Bool → Answer X → Answer X
+ask n true rest = rest
+ask n false rest = refuses n

@@ -47,9 +47,9 @@ arity-binary o e = go (unary o) (eqb o 31) e
     go true t q = absurd (omega arith)
     go false t q = refl
 
-pub entry-one : (o : ℕ) (k : Kind) → operandCount o ≡ 1 → kindApply o (k ∷ []) ≡ kindEntry o k k
+pub entry-one : (o : ℕ) (k j : Kind) → operandCount o ≡ 1 → kindApply o (k ∷ []) ≡ kindEntry o k j
 unfolding kindApply kindEntry
-entry-one o k e =
+entry-one o k j e =
     let t = takes o 1 (omega arith) e in
     rw (t .arity-is, t .is-known, arity-unary o (t .arity-is))
 

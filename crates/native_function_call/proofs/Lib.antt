@@ -7,3 +7,4 @@ pub mod Applying
 pub mod Results
 pub mod Steps
 pub mod Known
+pub mod Calling

@@ -1,5 +1,5 @@
 -- Results are well formed, and so question 16 always says yes of them. Assumes nothing.
-use mathlib.Core.Path.{_≡_, refl, sym, subst}
+use mathlib.Core.Path.{_≡_, sym, subst}
 use mathlib.Core.Bool.{Bool, true, false, cond}
 use mathlib.Core.List.{List, [], _∷_, map}
 use Prim.Native.Nat.{ℕ, _≤_}
@@ -12,13 +12,12 @@ use Rattle.ink_value.specs.Val.{Val, list, Kind, boolK, intK, floatK, listK, vo
 use Rattle.ink_number.specs.Answer.{Answer, gives, refuses}
 use Rattle.native_function_call.specs.Kinds.{kindApply, isList}
 use Rattle.ink_value.specs.Convert.{asInt, entriesOf, originsIn, lowerOf, upperOf}
-use Rattle.native_function_call.specs.Numbers.{arithZ}
 use Rattle.native_function_call.specs.Lists.{ListDefinitions, mergeL, shiftL, stepBy}
-use Rattle.native_function_call.specs.Apply.{whole, listBinary, entriesFor, originsAfter, listed, compute, guarded, applyOp}
+use Rattle.native_function_call.specs.Apply.{listBinary, entriesFor, originsAfter, listed, compute, guarded, applyOp}
 use Rattle.ink_value.specs.Value.{written, AllWf}
 use Rattle.native_function_call.proofs.Listing.{Fine, merge-fine, shift-fine, range-fine, unary-fine}
 use Rattle.ink_value.proofs.Results.{entries-wf}
-use Rattle.native_function_call.proofs.Applying.{int-none}
+use Rattle.native_function_call.proofs.Calling.{whole-none}
 
 -- ---- read back
 
@@ -42,12 +41,6 @@ module _ (u : ListDefinitions) (some : 1 ≤ u .limit) (within : length (u .defi
   entries-fine o (a ∷ b ∷ []) h = binary-fine o a b
   entries-fine o (a ∷ b ∷ c ∷ []) h = range-fine (u .limit) (lowerOf b) (upperOf c) (entriesOf a)
   entries-fine o (a ∷ b ∷ c ∷ d ∷ vs) h = none-fine (u .limit)
-
-  whole-none : (o : ℕ) (vs : List Val) → written (whole o vs) ≡ []
-  whole-none o [] = refl
-  whole-none o (a ∷ []) = refl
-  whole-none o (a ∷ b ∷ []) = int-none (arithZ o (asInt a) (asInt b))
-  whole-none o (a ∷ b ∷ c ∷ vs) = refl
 
   listed-fine : (o : ℕ) (vs : List Val) (es : List Entry) → Fine (u .limit) es → Fine (u .limit) (written (listed u o vs es))
   unfolding listed

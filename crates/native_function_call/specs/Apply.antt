@@ -11,8 +11,8 @@ use lib.ListN.{length}
 use Rattle.native_function_call.specs.Op.{opNegate, opNot, opAnd, opOr, opCount}
 use Rattle.ink_list.specs.Entries.{items, Entry}
 use Rattle.ink_value.specs.Val.{Val, bool, int, float, list, void, Kind, boolK, intK, floatK, listK, voidK, kindOf}
-use Rattle.ink_number.specs.Answer.{Answer, gives, refuses}
-use Rattle.native_function_call.specs.Kinds.{kindApply, common, isList}
+use Rattle.ink_number.specs.Answer.{Answer, gives, refuses, ask}
+use Rattle.native_function_call.specs.Kinds.{known, arity, kindApply, common, isList}
 use Rattle.ink_value.specs.Convert.{bitZ, asInt, asFloat, truthy, entriesOf, originsIn}
 use Rattle.native_function_call.specs.Numbers.{arithZ, arithF, testZ, testF}
 use Rattle.native_function_call.specs.Lists.{ListDefinitions, testL, mergeL, shiftL, unaryL, rangeL}
@@ -118,6 +118,10 @@ guarded (refuses r) f = refuses r
 -- the questions that ask for kinds first; then 15, 16 and the result
 unfoldable pub applyOp : ListDefinitions → ℕ → List Val → Answer Val
 applyOp u o vs = guarded (kindApply o (map kindOf vs)) (compute u o vs)
+
+-- a direct call: question 8, then 10 ("exactly as many"), then the operator
+unfoldable pub call : ListDefinitions → ℕ → ℕ → List Val → Answer Val
+call u o n vs = ask 8 (known o) (ask 10 (eqb n (arity o)) (applyOp u o vs))
 
 -- how an operator's answer on values goes with its answer on kinds: the same refusal; or a result of that kind, or 15 or 16
 abbrev pub Agree : Answer Kind → Answer Val → Type 0

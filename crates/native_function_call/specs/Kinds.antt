@@ -1,13 +1,14 @@
 -- Questions 8 and 10 to 14, which ask only for kinds, and the kind of each result.
 use mathlib.Core.Bool.{Bool, true, false, cond, not, _&&_, _||_}
 use mathlib.Core.List.{List, [], _∷_}
-use Prim.Native.Nat.{ℕ, max, _<_}
+use mathlib.Core.Path.{_≡_}
+use Prim.Native.Nat.{ℕ, max, _<_, _≤_}
 use lib.Dec.{eqb, leb, ltb}
 use Rattle.native_function_call.specs.Op.{opNegate, opEqual, opNotEquals, opNot, opInt, opFloat, opRange}
 use Rattle.native_function_call.specs.declared.KindAnswer.{KindAnswer}
 use Rattle.native_function_call.specs.declared.KindAnswer.the-variants as Ans
 use Rattle.ink_value.specs.Val.{Kind, boolK, intK, floatK, listK, voidK, codeOf, kindAt}
-use Rattle.ink_number.specs.Answer.{Answer, gives, refuses}
+use Rattle.ink_number.specs.Answer.{Answer, gives, refuses, ask}
 
 -- lo ≤ o ≤ hi
 abbrev pub within : ℕ → ℕ → ℕ → Bool
@@ -101,6 +102,10 @@ kindApply o (a ∷ b ∷ []) = cond (eqb (arity o) 2) (kindBinary o a b) (refuse
 kindApply o (a ∷ b ∷ c ∷ []) = cond (eqb (arity o) 3) (kindRange a b c) (refuses 10)
 kindApply o (a ∷ b ∷ c ∷ d ∷ ks) = refuses 10
 
+-- the same after question 8, and 10 as a direct call asks it: "exactly as many"
+unfoldable pub kindCall : ℕ → ℕ → List Kind → Answer Kind
+kindCall o n ks = ask 8 (known o) (ask 10 (eqb n (arity o)) (kindApply o ks))
+
 -- the table's entry for an operator below range
 unfoldable pub kindEntry : ℕ → Kind → Kind → Answer Kind
 kindEntry o a b = cond (known o) (cond (unary o) (kindUnary o a) (kindBinary o a b)) (refuses 8)
@@ -122,3 +127,13 @@ kindAnswer (Ans.Refused r) = refuses r
 abbrev pub Coded : KindAnswer → Type 0
 Coded (Ans.Kind k) = k < 5
 Coded (Ans.Refused r) = Unit {0}
+
+abbrev pub Counted : ℕ → KindAnswer → Type 0
+Counted n (Ans.Kind k) = (1 ≤ n) × (n ≤ 3) × (n ≡ 3 → k ≡ 3)
+Counted n (Ans.Refused r) = Unit {0}
+
+-- an operator's answer on the kinds of n operands. Where it gives a kind it takes n operands, one to three, and of three a List
+pub record KindsGiven (o n : ℕ) (ks : List Kind) (r : KindAnswer) : Type 0 where
+  pub answered : kindAnswer r ≡ kindCall o n ks
+  pub coded : Coded r
+  pub counted : Counted n r

@@ -1,7 +1,6 @@
 -- Document 01's known points that have a star: the table of the layers below, and the rows on values. Assumes nothing.
 use mathlib.Core.Bool.{Bool, true, false, Bool·beq}
 use mathlib.Core.List.{List, [], _∷_, _++_}
-use Prim.Native.Nat.{ℕ}
 use lib.IntN.{ℤ, pos}
 use Rattle.ink_number.specs.Int.{eqZ}
 use Rattle.ink_number.specs.Known.{answers}

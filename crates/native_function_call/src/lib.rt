@@ -8,13 +8,13 @@ ghost use mathlib.Core.List.{List, [], _∷_};
 ghost use Prim.Native.Nat.{ℕ, _<_, _≤_, _+_, max};
 ghost use lib.IntN.{ℤ, pos};
 ghost use lib.ListN.{length, take};
-ghost use Rattle.ink_value.specs.Val.{kindAt, kindOf};
+ghost use Rattle.ink_value.specs.Val.{kindAt, kindOf, listK};
 ghost use Rattle.ink_number.specs.Answer.{gives};
-ghost use Rattle.native_function_call.specs.Kinds.{common, kindApply, kindEntry, decoded, operandCount, kindRange, kindAnswer, Coded};
+ghost use Rattle.native_function_call.specs.Kinds.{common, kindApply, kindEntry, decoded, operandCount, kindRange, kindAnswer, Coded, KindsGiven};
 ghost use Rattle.native_function_call.specs.Numbers.{arithZ, arithF, testZ, testF};
 ghost use Rattle.ink_value.specs.Convert.{bitZ, castable, converted, cast, coerceBool, coerceInt, coerceFloat, greatestOf};
-ghost use Rattle.native_function_call.specs.Lists.{testL, mergeL, unaryL, stepBy, Room, definitions};
-ghost use Rattle.native_function_call.specs.Apply.{ofInt, testLists, testAs, wholeUnary, realUnary, compute, applyOp, entriesFor, listed};
+ghost use Rattle.native_function_call.specs.Lists.{ListDefinitions, testL, mergeL, unaryL, stepBy, Room, definitions};
+ghost use Rattle.native_function_call.specs.Apply.{ofInt, testLists, testAs, wholeUnary, realUnary, compute, call, entriesFor, listed};
 ghost use Rattle.ink_value.specs.Value.{codeOfValue, valOf, placed, part, startOf, lenOf, setIn, intOf, floatOf, truthOf, lowOf, highOf, held, Formed, Gave};
 ghost use Rattle.ink_list.specs.Entries.{entries, room, Ascends, Rising, Lent, Wrote};
 ghost use Rattle.ink_number.specs.Int.{divided};
@@ -1257,6 +1257,7 @@ fn list2(
 
 // Range, its first operand a list.
 fn list3(
+    op: u8,
     a: Value,
     b: Value,
     c: Value,
@@ -1270,8 +1271,8 @@ fn list3(
 ) -> Outcome
     requires { ⌜ Room (definitions (now ends) (now defined) limit) (now oi) (now ov) ⌝ }
     requires { ⌜ Formed limit (now items) (now values) a × Formed limit (now items) (now values) b × Formed limit (now items) (now values) c ⌝ }
-    ensures { λ r. ⌜ Gave (listed (definitions (now (ends .entry)) (now (defined .entry)) limit) 31 (valOf (now (items .entry)) (now (values .entry)) a ∷ valOf (now (items .entry)) (now (values .entry)) b ∷ valOf (now (items .entry)) (now (values .entry)) c ∷ [])
-        (entriesFor (definitions (now (ends .entry)) (now (defined .entry)) limit) 31 (valOf (now (items .entry)) (now (values .entry)) a ∷ valOf (now (items .entry)) (now (values .entry)) b ∷ valOf (now (items .entry)) (now (values .entry)) c ∷ []))) r
+    ensures { λ r. ⌜ Gave (listed (definitions (now (ends .entry)) (now (defined .entry)) limit) op (valOf (now (items .entry)) (now (values .entry)) a ∷ valOf (now (items .entry)) (now (values .entry)) b ∷ valOf (now (items .entry)) (now (values .entry)) c ∷ [])
+        (entriesFor (definitions (now (ends .entry)) (now (defined .entry)) limit) op (valOf (now (items .entry)) (now (values .entry)) a ∷ valOf (now (items .entry)) (now (values .entry)) b ∷ valOf (now (items .entry)) (now (values .entry)) c ∷ []))) r
         (now (oi .entry)) (now (oi .exit)) (now (ov .entry)) (now (ov .exit)) ⌝ }
 {
     let i = ink_value::start_of(a);
@@ -1283,51 +1284,27 @@ fn list3(
     located(n, oi, ends)
 }
 
-fn compute1(
-    op: u8,
-    k: u8,
-    a: Value,
-    items: &[u16],
-    values: &[i32],
-    ends: &[u16],
-    defined: &[i32],
-    limit: usize,
-    oi: &mut [u16],
-    ov: &mut [i32],
-) -> Outcome
-    requires { ⌜ Room (definitions (now ends) (now defined) limit) (now oi) (now ov) ⌝ }
-    requires { ⌜ Formed limit (now items) (now values) a ⌝ }
-    ensures { λ r. ⌜ Gave (compute (definitions (now (ends .entry)) (now (defined .entry)) limit) op (valOf (now (items .entry)) (now (values .entry)) a ∷ []) (kindAt k)) r
-        (now (oi .entry)) (now (oi .exit)) (now (ov .entry)) (now (ov .exit)) ⌝ }
+// ---- an operator, by the kind of its result
+
+// A result that is no List, of one operand.
+fn scalar1(op: u8, kind: u8, a: Value, values: &[i32]) -> Outcome
+    requires { ⌜ (kind ≡ 3 → ⊥) × (startOf a + lenOf a ≤ length (now values)) × (lenOf a ≤ 65535) ⌝ }
+    ensures { λ r. ⌜ ((u : ListDefinitions) (limit : ℕ) (is : List ℕ) → Formed limit is (now (values .entry)) a → r ≡ placed (compute u op (valOf is (now (values .entry)) a ∷ []) (kindAt kind))) ⌝ }
 {
-    match k {
+    match kind {
         0 => Outcome::Value(Value::Bool(!ink_value::is_truthy(a))),
         1 => Outcome::Value(Value::Int(whole1(op, a, values))),
         2 => Outcome::Value(Value::Float(real1(op, a, values))),
-        3 => list1(op, a, items, values, ends, defined, limit, oi, ov),
         _ => Outcome::Value(Value::Void),
     }
 }
 
-fn compute2(
-    op: u8,
-    k: u8,
-    a: Value,
-    b: Value,
-    items: &[u16],
-    values: &[i32],
-    ends: &[u16],
-    defined: &[i32],
-    limit: usize,
-    oi: &mut [u16],
-    ov: &mut [i32],
-) -> Outcome
-    requires { ⌜ Room (definitions (now ends) (now defined) limit) (now oi) (now ov) ⌝ }
-    requires { ⌜ Formed limit (now items) (now values) a × Formed limit (now items) (now values) b ⌝ }
-    ensures { λ r. ⌜ Gave (compute (definitions (now (ends .entry)) (now (defined .entry)) limit) op (valOf (now (items .entry)) (now (values .entry)) a ∷ valOf (now (items .entry)) (now (values .entry)) b ∷ []) (kindAt k)) r
-        (now (oi .entry)) (now (oi .exit)) (now (ov .entry)) (now (ov .exit)) ⌝ }
+// A result that is no List, of two operands.
+fn scalar2(op: u8, kind: u8, a: Value, b: Value, items: &[u16], values: &[i32]) -> Outcome
+    requires { ⌜ (kind ≡ 3 → ⊥) × Formed 65536 (now items) (now values) a × Formed 65536 (now items) (now values) b ⌝ }
+    ensures { λ r. ⌜ ((u : ListDefinitions) → r ≡ placed (compute u op (valOf (now (items .entry)) (now (values .entry)) a ∷ valOf (now (items .entry)) (now (values .entry)) b ∷ []) (kindAt kind))) ⌝ }
 {
-    match k {
+    match kind {
         0 => Outcome::Value(Value::Bool(test2(op, a, b, items, values))),
         1 => whole_outcome(arith_int(
             op,
@@ -1339,114 +1316,34 @@ fn compute2(
             ink_value::to_float(a, values),
             ink_value::to_float(b, values),
         ))),
-        3 => list2(op, a, b, items, values, ends, defined, limit, oi, ov),
         _ => Outcome::Value(Value::Void),
     }
 }
 
-// Questions 11 to 14 of an operator of one operand, of two, and of range.
-fn kinds1(op: u8, a: Value) -> KindAnswer
-    requires { ⌜ (op < 31) × (operandCount op ≡ 1) ⌝ }
-    ensures { λ r. ⌜ kindAnswer r ≡ kindApply op (kindAt (codeOfValue a) ∷ []) ⌝ }
-{
-    let k = ink_value::kind(a);
-    kind_entry(op, k, k)
-}
-
-fn kinds2(op: u8, a: Value, b: Value) -> KindAnswer
-    requires { ⌜ (op < 31) × (operandCount op ≡ 2) ⌝ }
-    ensures { λ r. ⌜ kindAnswer r ≡ kindApply op (kindAt (codeOfValue a) ∷ kindAt (codeOfValue b) ∷ []) ⌝ }
-{
-    let left = ink_value::kind(a);
-    let right = ink_value::kind(b);
-    kind_entry(op, left, right)
-}
-
-fn kinds3(a: Value, b: Value, c: Value) -> KindAnswer
-    ensures { λ r. ⌜ kindAnswer r ≡ kindApply 31 (kindAt (codeOfValue a) ∷ kindAt (codeOfValue b) ∷ kindAt (codeOfValue c) ∷ []) ⌝ }
-{
-    let list = ink_value::kind(a);
-    let lower = ink_value::kind(b);
-    let upper = ink_value::kind(c);
-    kind_range(list, lower, upper)
-}
-
-// An operator of one operand.
-pub fn apply1(
+// A result that is no List: no slice is written.
+pub fn scalar(
     op: u8,
-    a: Value,
-    items: &[u16],
-    values: &[i32],
-    ends: &[u16],
-    defined: &[i32],
-    limit: usize,
-    out_items: &mut [u16],
-    out_values: &mut [i32],
-) -> Outcome
-    requires { ⌜ (op < 31) × (operandCount op ≡ 1) ⌝ }
-    requires { ⌜ Room (definitions (now ends) (now defined) limit) (now «out_items») (now «out_values») ⌝ }
-    requires { ⌜ Formed limit (now items) (now values) a ⌝ }
-    ensures { λ r. ⌜ Gave (applyOp (definitions (now (ends .entry)) (now (defined .entry)) limit) op (valOf (now (items .entry)) (now (values .entry)) a ∷ [])) r
-        (now («out_items» .entry)) (now («out_items» .exit)) (now («out_values» .entry)) (now («out_values» .exit)) ⌝ }
-{
-    let answer = kinds1(op, a);
-    match answer {
-        KindAnswer::Kind(k) => compute1(
-            op,
-            k,
-            a,
-            items,
-            values,
-            ends,
-            defined,
-            limit,
-            out_items,
-            out_values,
-        ),
-        KindAnswer::Refused(number) => Outcome::Refused(number),
-    }
-}
-
-// An operator of two operands.
-pub fn apply2(
-    op: u8,
+    kind: u8,
+    count: usize,
     a: Value,
     b: Value,
     items: &[u16],
     values: &[i32],
-    ends: &[u16],
-    defined: &[i32],
-    limit: usize,
-    out_items: &mut [u16],
-    out_values: &mut [i32],
 ) -> Outcome
-    requires { ⌜ (op < 31) × (operandCount op ≡ 2) ⌝ }
-    requires { ⌜ Room (definitions (now ends) (now defined) limit) (now «out_items») (now «out_values») ⌝ }
-    requires { ⌜ Formed limit (now items) (now values) a × Formed limit (now items) (now values) b ⌝ }
-    ensures { λ r. ⌜ Gave (applyOp (definitions (now (ends .entry)) (now (defined .entry)) limit) op (valOf (now (items .entry)) (now (values .entry)) a ∷ valOf (now (items .entry)) (now (values .entry)) b ∷ [])) r
-        (now («out_items» .entry)) (now («out_items» .exit)) (now («out_values» .entry)) (now («out_values» .exit)) ⌝ }
+    requires { ⌜ (kind ≡ 3 → ⊥) × (1 ≤ count) × (count ≤ 2) ⌝ }
+    requires { ⌜ Formed 65535 (now items) (now values) a × Formed 65535 (now items) (now values) b ⌝ }
+    ensures { λ r. ⌜ ((u : ListDefinitions) → r ≡ placed (compute u op (take count (valOf (now (items .entry)) (now (values .entry)) a ∷ valOf (now (items .entry)) (now (values .entry)) b ∷ [])) (kindAt kind))) ⌝ }
 {
-    let answer = kinds2(op, a, b);
-    match answer {
-        KindAnswer::Kind(k) => compute2(
-            op,
-            k,
-            a,
-            b,
-            items,
-            values,
-            ends,
-            defined,
-            limit,
-            out_items,
-            out_values,
-        ),
-        KindAnswer::Refused(number) => Outcome::Refused(number),
+    if count == 1 {
+        return scalar1(op, kind, a, values);
     }
+    scalar2(op, kind, a, b, items, values)
 }
 
-// Range.
-pub fn apply3(
+// A result that is a List, written from the start of the two output slices.
+pub fn list(
+    op: u8,
+    count: usize,
     a: Value,
     b: Value,
     c: Value,
@@ -1455,17 +1352,74 @@ pub fn apply3(
     ends: &[u16],
     defined: &[i32],
     limit: usize,
-    out_items: &mut [u16],
-    out_values: &mut [i32],
+    oi: &mut [u16],
+    ov: &mut [i32],
 ) -> Outcome
-    requires { ⌜ Room (definitions (now ends) (now defined) limit) (now «out_items») (now «out_values») ⌝ }
+    requires { ⌜ Room (definitions (now ends) (now defined) limit) (now oi) (now ov) ⌝ }
     requires { ⌜ Formed limit (now items) (now values) a × Formed limit (now items) (now values) b × Formed limit (now items) (now values) c ⌝ }
-    ensures { λ r. ⌜ Gave (applyOp (definitions (now (ends .entry)) (now (defined .entry)) limit) 31 (valOf (now (items .entry)) (now (values .entry)) a ∷ valOf (now (items .entry)) (now (values .entry)) b ∷ valOf (now (items .entry)) (now (values .entry)) c ∷ [])) r
-        (now («out_items» .entry)) (now («out_items» .exit)) (now («out_values» .entry)) (now («out_values» .exit)) ⌝ }
+    requires { ⌜ (1 ≤ count) × (count ≤ 3) ⌝ }
+    ensures { λ r. ⌜ Gave (compute (definitions (now (ends .entry)) (now (defined .entry)) limit) op (take count (valOf (now (items .entry)) (now (values .entry)) a ∷ valOf (now (items .entry)) (now (values .entry)) b ∷ valOf (now (items .entry)) (now (values .entry)) c ∷ [])) listK) r
+        (now (oi .entry)) (now (oi .exit)) (now (ov .entry)) (now (ov .exit)) ⌝ }
 {
-    let answer = kinds3(a, b, c);
-    match answer {
-        KindAnswer::Kind(k) => list3(
+    if count == 1 {
+        return list1(op, a, items, values, ends, defined, limit, oi, ov);
+    }
+    if count == 2 {
+        return list2(op, a, b, items, values, ends, defined, limit, oi, ov);
+    }
+    list3(op, a, b, c, items, values, ends, defined, limit, oi, ov)
+}
+
+// ---- a direct call, below the questions on the pack
+
+// Questions 8 and 10 to 14, which ask only for the operator, the count and the kinds.
+pub fn kinds(op: u8, count: usize, a: Value, b: Value, c: Value) -> KindAnswer
+    ensures { λ r. ⌜ KindsGiven op count (take count (kindAt (codeOfValue a) ∷ kindAt (codeOfValue b) ∷ kindAt (codeOfValue c) ∷ [])) r ⌝ }
+{
+    if 32 <= op {
+        return KindAnswer::Refused(8);
+    }
+    let n = operands(op);
+    if n == 0 {
+        return KindAnswer::Refused(8);
+    }
+    if n != count {
+        return KindAnswer::Refused(10);
+    }
+    let left = ink_value::kind(a);
+    let middle = ink_value::kind(b);
+    if n == 3 {
+        return kind_range(left, middle, ink_value::kind(c));
+    }
+    kind_entry(op, left, middle)
+}
+
+// An operator whose operands' kinds are right, by the kind of its result.
+fn computed(
+    op: u8,
+    kind: u8,
+    count: usize,
+    a: Value,
+    b: Value,
+    c: Value,
+    items: &[u16],
+    values: &[i32],
+    ends: &[u16],
+    defined: &[i32],
+    limit: usize,
+    oi: &mut [u16],
+    ov: &mut [i32],
+) -> Outcome
+    requires { ⌜ Room (definitions (now ends) (now defined) limit) (now oi) (now ov) ⌝ }
+    requires { ⌜ Formed limit (now items) (now values) a × Formed limit (now items) (now values) b × Formed limit (now items) (now values) c ⌝ }
+    requires { ⌜ (1 ≤ count) × (count ≤ 3) × (count ≡ 3 → kind ≡ 3) ⌝ }
+    ensures { λ r. ⌜ Gave (compute (definitions (now (ends .entry)) (now (defined .entry)) limit) op (take count (valOf (now (items .entry)) (now (values .entry)) a ∷ valOf (now (items .entry)) (now (values .entry)) b ∷ valOf (now (items .entry)) (now (values .entry)) c ∷ [])) (kindAt kind)) r
+        (now (oi .entry)) (now (oi .exit)) (now (ov .entry)) (now (ov .exit)) ⌝ }
+{
+    if kind == 3 {
+        return list(
+            op,
+            count,
             a,
             b,
             c,
@@ -1474,8 +1428,49 @@ pub fn apply3(
             ends,
             defined,
             limit,
-            out_items,
-            out_values,
+            oi,
+            ov,
+        );
+    }
+    scalar(op, kind, count, a, b, items, values)
+}
+
+// An operator on the first `count` of three operands: questions 8 and 10 to 16, and the result.
+pub fn apply(
+    op: u8,
+    count: usize,
+    a: Value,
+    b: Value,
+    c: Value,
+    items: &[u16],
+    values: &[i32],
+    ends: &[u16],
+    defined: &[i32],
+    limit: usize,
+    oi: &mut [u16],
+    ov: &mut [i32],
+) -> Outcome
+    requires { ⌜ Room (definitions (now ends) (now defined) limit) (now oi) (now ov) ⌝ }
+    requires { ⌜ Formed limit (now items) (now values) a × Formed limit (now items) (now values) b × Formed limit (now items) (now values) c ⌝ }
+    ensures { λ r. ⌜ Gave (call (definitions (now (ends .entry)) (now (defined .entry)) limit) op count (take count (valOf (now (items .entry)) (now (values .entry)) a ∷ valOf (now (items .entry)) (now (values .entry)) b ∷ valOf (now (items .entry)) (now (values .entry)) c ∷ []))) r
+        (now (oi .entry)) (now (oi .exit)) (now (ov .entry)) (now (ov .exit)) ⌝ }
+{
+    let answer = kinds(op, count, a, b, c);
+    match answer {
+        KindAnswer::Kind(kind) => computed(
+            op,
+            kind,
+            count,
+            a,
+            b,
+            c,
+            items,
+            values,
+            ends,
+            defined,
+            limit,
+            oi,
+            ov,
         ),
         KindAnswer::Refused(number) => Outcome::Refused(number),
     }

@@ -16,8 +16,8 @@ castable-requires : tie.Need-castable-requires
 castable-requires c κs = search needs
 
 convert-requires : tie.Need-convert-requires
-convert-requires c κs =
-    (c .before .before .before .before .before .before .before .pre, ap (castable (c .before .before .before .before .before .before .before .args .to)) (sym (c .before .before .before .before .kind .ensures .0)) ∙ sym (c .before .before .before .castable .ensures) ∙ c .before .before .if1 .taken)
+convert-requires c κs = let s = c .before .before .before .before .before .before .before in
+    (s .pre, ap (castable (s .args .to)) (sym (c .before .before .before .before .kind .ensures .0)) ∙ sym (c .before .before .before .castable .ensures) ∙ c .before .before .if1 .taken)
 
 same-length : tie.Need-same-length
 same-length c = search needs
@@ -27,13 +27,13 @@ same-length-2 c = search needs
 
 returns : tie.Need-returns
 unfolding cast
-returns c =
-    gave-is (ap (λ (t : Bool). cond t (gives (converted (c .before .before .before .before .before .before .before .before .before .before .before .args .to) (valOf (c .before .before .before .before .before .before .before .before .before .before .before .args .items .now) (c .before .before .before .before .before .before .before .before .before .before .before .args .values .now) (c .before .before .before .before .before .before .before .before .before .before .before .args .v)))) (refuses 18)) (ap (castable (c .before .before .before .before .before .before .before .before .before .before .before .args .to)) (code-of (c .before .before .before .before .before .before .before .before .before .before .before .args .items .now) (c .before .before .before .before .before .before .before .before .before .before .before .args .values .now) (c .before .before .before .before .before .before .before .before .before .before .before .args .v) ∙ sym (c .before .before .before .before .before .before .before .before .kind .ensures .0)) ∙ sym (c .before .before .before .before .before .before .before .castable .ensures) ∙ c .before .before .before .before .before .before .if1 .taken)) (c .before .before .before .convert .ensures)
+returns c = let s = c .before .before .before .before .before .before .before .before .before .before .before in
+    gave-is (ap (λ (t : Bool). cond t (gives (converted (s .args .to) (valOf (s .args .items .now) (s .args .values .now) (s .args .v)))) (refuses 18)) (ap (castable (s .args .to)) (code-of (s .args .items .now) (s .args .values .now) (s .args .v) ∙ sym (c .before .before .before .before .before .before .before .before .kind .ensures .0)) ∙ sym (c .before .before .before .before .before .before .before .castable .ensures) ∙ c .before .before .before .before .before .before .if1 .taken)) (c .before .before .before .convert .ensures)
 
 returns-2 : tie.Need-returns-2
 unfolding cast
-returns-2 c =
-    gave-is (ap (λ (t : Bool). cond t (gives (converted (c .before .before .before .before .before .args .to) (valOf (c .before .before .before .before .before .args .items .now) (c .before .before .before .before .before .args .values .now) (c .before .before .before .before .before .args .v)))) (refuses 18)) (ap (castable (c .before .before .before .before .before .args .to)) (code-of (c .before .before .before .before .before .args .items .now) (c .before .before .before .before .before .args .values .now) (c .before .before .before .before .before .args .v) ∙ sym (c .before .before .kind .ensures .0)) ∙ sym (c .before .castable .ensures) ∙ c .if1 .left)) (gave-plain (refuses 18) _ _ _ refl refl)
+returns-2 c = let s = c .before .before .before .before .before in
+    gave-is (ap (λ (t : Bool). cond t (gives (converted (s .args .to) (valOf (s .args .items .now) (s .args .values .now) (s .args .v)))) (refuses 18)) (ap (castable (s .args .to)) (code-of (s .args .items .now) (s .args .values .now) (s .args .v) ∙ sym (c .before .before .kind .ensures .0)) ∙ sym (c .before .castable .ensures) ∙ c .if1 .left)) (gave-plain (refuses 18) _ _ _ refl refl)
 
 pub cast-spec : {M : Type 1} → statement M
 cast-spec =

@@ -28,23 +28,23 @@ to-float-requires : tie.Need-to-float-requires
 to-float-requires c κs = search needs
 
 copied-requires : tie.Need-copied-requires
-copied-requires c κs =
-    (c .before .before .before .before .before .pre .0, cast-list (c .before .before .before .before .before .args .to) (codeOfValue (c .before .before .before .before .before .args .v)) (c .before .before .match .rest .0 .0 .1) (c .before .before .match .rest .0 .1) (c .before .before .match .rest .1) (c .before .before .before .before .before .pre .1))
+copied-requires c κs = let s = c .before .before .before .before .before in
+    (s .pre .0, cast-list (s .args .to) (codeOfValue (s .args .v)) (c .before .before .match .rest .0 .0 .1) (c .before .before .match .rest .0 .1) (c .before .before .match .rest .1) (s .pre .1))
 
 returns : tie.Need-returns
 unfolding converted
-returns c =
-    gave-is (ap (λ (t : ℕ). gives (converted t (valOf (c .before .before .before .before .args .items .now) (c .before .before .before .before .args .values .now) (c .before .before .before .before .args .v)))) (c .before .match .keys1)) (gave-plain (gives (converted 0 (valOf (c .before .before .before .before .args .items .now) (c .before .before .before .before .args .values .now) (c .before .before .before .before .args .v)))) _ _ _ refl (ap (λ (t : Bool). Out.Value (Is.Bool t)) (c .is-truthy .ensures ∙ truth-in (room (c .before .before .before .before .args .oi .now) (c .before .before .before .before .args .ov .now)) (c .before .before .before .before .args .items .now) (c .before .before .before .before .args .values .now) (c .before .before .before .before .args .v) (c .before .before .before .before .pre .0))))
+returns c = let s = c .before .before .before .before in
+    gave-is (ap (λ (t : ℕ). gives (converted t (valOf (s .args .items .now) (s .args .values .now) (s .args .v)))) (c .before .match .keys1)) (gave-plain (gives (converted 0 (valOf (s .args .items .now) (s .args .values .now) (s .args .v)))) _ _ _ refl (ap (λ (t : Bool). Out.Value (Is.Bool t)) (c .is-truthy .ensures ∙ truth-in (room (s .args .oi .now) (s .args .ov .now)) (s .args .items .now) (s .args .values .now) (s .args .v) (s .pre .0))))
 
 returns-2 : tie.Need-returns-2
 unfolding converted
-returns-2 c =
-    gave-is (ap (λ (t : ℕ). gives (converted t (valOf (c .before .before .before .before .args .items .now) (c .before .before .before .before .args .values .now) (c .before .before .before .before .args .v)))) (c .before .match .keys2)) (gave-plain (gives (converted 1 (valOf (c .before .before .before .before .args .items .now) (c .before .before .before .before .args .values .now) (c .before .before .before .before .args .v)))) _ _ _ refl (ap (λ (z : ℤ). Out.Value (Is.Int z)) (returned (c .to-int .ok) ∙ c .to-int .ensures ∙ int-in (room (c .before .before .before .before .args .oi .now) (c .before .before .before .before .args .ov .now)) (c .before .before .before .before .args .items .now) (c .before .before .before .before .args .values .now) (c .before .before .before .before .args .v) (c .before .before .before .before .pre .0))))
+returns-2 c = let s = c .before .before .before .before in
+    gave-is (ap (λ (t : ℕ). gives (converted t (valOf (s .args .items .now) (s .args .values .now) (s .args .v)))) (c .before .match .keys2)) (gave-plain (gives (converted 1 (valOf (s .args .items .now) (s .args .values .now) (s .args .v)))) _ _ _ refl (ap (λ (z : ℤ). Out.Value (Is.Int z)) (returned (c .to-int .ok) ∙ c .to-int .ensures ∙ int-in (room (s .args .oi .now) (s .args .ov .now)) (s .args .items .now) (s .args .values .now) (s .args .v) (s .pre .0))))
 
 returns-3 : tie.Need-returns-3
 unfolding converted
-returns-3 c =
-    gave-is (ap (λ (t : ℕ). gives (converted t (valOf (c .before .before .before .before .args .items .now) (c .before .before .before .before .args .values .now) (c .before .before .before .before .args .v)))) (c .before .match .keys3)) (gave-plain (gives (converted 2 (valOf (c .before .before .before .before .args .items .now) (c .before .before .before .before .args .values .now) (c .before .before .before .before .args .v)))) _ _ _ refl (ap (λ (x : Float). Out.Value (Is.Float x)) (c .to-float .ensures ∙ float-in (room (c .before .before .before .before .args .oi .now) (c .before .before .before .before .args .ov .now)) (c .before .before .before .before .args .items .now) (c .before .before .before .before .args .values .now) (c .before .before .before .before .args .v) (c .before .before .before .before .pre .0))))
+returns-3 c = let s = c .before .before .before .before in
+    gave-is (ap (λ (t : ℕ). gives (converted t (valOf (s .args .items .now) (s .args .values .now) (s .args .v)))) (c .before .match .keys3)) (gave-plain (gives (converted 2 (valOf (s .args .items .now) (s .args .values .now) (s .args .v)))) _ _ _ refl (ap (λ (x : Float). Out.Value (Is.Float x)) (c .to-float .ensures ∙ float-in (room (s .args .oi .now) (s .args .ov .now)) (s .args .items .now) (s .args .values .now) (s .args .v) (s .pre .0))))
 
 same-length : tie.Need-same-length
 same-length c = search needs
@@ -53,8 +53,8 @@ same-length-2 : tie.Need-same-length-2
 same-length-2 c = search needs
 
 returns-4 : tie.Need-returns-4
-returns-4 c =
-    gave-is (ap gives (same-kind (c .before .before .before .before .before .before .before .before .before .args .to) (valOf (c .before .before .before .before .before .before .before .before .before .args .items .now) (c .before .before .before .before .before .before .before .before .before .args .values .now) (c .before .before .before .before .before .before .before .before .before .args .v)) (c .before .before .before .before .before .before .match .rest .0 .0 .1) (c .before .before .before .before .before .before .match .rest .0 .1) (c .before .before .before .before .before .before .match .rest .1))) (c .before .before .before .copied .ensures)
+returns-4 c = let s = c .before .before .before .before .before .before .before .before .before in
+    gave-is (ap gives (same-kind (s .args .to) (valOf (s .args .items .now) (s .args .values .now) (s .args .v)) (c .before .before .before .before .before .before .match .rest .0 .0 .1) (c .before .before .before .before .before .before .match .rest .0 .1) (c .before .before .before .before .before .before .match .rest .1))) (c .before .before .before .copied .ensures)
 
 pub convert-spec : {M : Type 1} → statement M
 convert-spec =

@@ -50,9 +50,9 @@ part-copy-end-2 : tie.Need-part-copy-end-2
 part-copy-end-2 c = search needs
 
 copy-requires : tie.Need-copy-requires
-copy-requires c κs =
-    let l = lends-lent (room (c .before .before .before .before .before .before .before .before .before .args .oi .now) (c .before .before .before .before .before .before .before .before .before .args .ov .now)) (c .before .before .before .before .before .before .before .before .before .args .items .now) (c .before .before .before .before .before .before .before .before .before .args .values .now) (c .before .before .before .before .before .before .start-of .result) (c .before .before .before .before .before .len-of .result) (c .before .before .before .before .before .before .before .before .before .args .v) (c .before .before .before .before .before .before .start-of .ensures) (c .before .before .before .before .before .len-of .ensures) (c .before .before .before .before .before .before .before .before .before .pre .0) in
-    let f = lends-few (room (c .before .before .before .before .before .before .before .before .before .args .oi .now) (c .before .before .before .before .before .before .before .before .before .args .ov .now)) (c .before .before .before .before .before .before .before .before .before .args .items .now) (c .before .before .before .before .before .before .before .before .before .args .values .now) (c .before .before .before .before .before .before .start-of .result) (c .before .before .before .before .before .len-of .result) (c .before .before .before .before .before .before .before .before .before .args .v) (c .before .before .before .before .before .before .start-of .ensures) (c .before .before .before .before .before .len-of .ensures) (c .before .before .before .before .before .before .before .before .before .pre .0) in
+copy-requires c κs = let s = c .before .before .before .before .before .before .before .before .before in
+    let l = lends-lent (room (s .args .oi .now) (s .args .ov .now)) (s .args .items .now) (s .args .values .now) (c .before .before .before .before .before .before .start-of .result) (c .before .before .before .before .before .len-of .result) (s .args .v) (c .before .before .before .before .before .before .start-of .ensures) (c .before .before .before .before .before .len-of .ensures) (s .pre .0) in
+    let f = lends-few (room (s .args .oi .now) (s .args .ov .now)) (s .args .items .now) (s .args .values .now) (c .before .before .before .before .before .before .start-of .result) (c .before .before .before .before .before .len-of .result) (s .args .v) (c .before .before .before .before .before .before .start-of .ensures) (c .before .before .before .before .before .len-of .ensures) (s .pre .0) in
     (l .long, (omega (arith, f), omega (arith, f)))
 
 same-length : tie.Need-same-length

@@ -15,8 +15,8 @@ enum-known-v-2 : tie.Need-enum-known-v-2
 enum-known-v-2 c = search needs
 
 least-requires : tie.Need-least-requires
-least-requires c κs =
-    subst (λ (v : Value). startOf v + lenOf v ≤ length (c .before .before .before .args .values .now)) (c .before .v2 .given .1) (c .before .before .before .pre)
+least-requires c κs = let s = c .before .before .before in
+    subst (λ (v : Value). startOf v + lenOf v ≤ length (s .args .values .now)) (c .before .v2 .given .1) (s .pre)
 
 enum-told : tie.Need-enum-told
 enum-told c = search needs

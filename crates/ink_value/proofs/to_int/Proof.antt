@@ -27,8 +27,8 @@ enum-known-v-4 : tie.Need-enum-known-v-4
 enum-known-v-4 c = search needs
 
 greatest-requires : tie.Need-greatest-requires
-greatest-requires c κs =
-    subst (λ (v : Value). startOf v + lenOf v ≤ length (c .before .before .before .args .values .now)) (c .before .v4 .given .1) (c .before .before .before .pre)
+greatest-requires c κs = let s = c .before .before .before in
+    subst (λ (v : Value). startOf v + lenOf v ≤ length (s .args .values .now)) (c .before .v4 .given .1) (s .pre)
 
 enum-told : tie.Need-enum-told
 enum-told c = search needs

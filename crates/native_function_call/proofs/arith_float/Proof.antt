@@ -28,33 +28,33 @@ max-requires c κs = search needs
 
 returns : tie.Need-returns
 unfolding arithF
-returns c =
-    at (λ o. arithF o (c .before .before .args .x) (c .before .before .args .y)) (c .before .match .keys1) (c .add .ensures)
+returns c = let s = c .before .before in
+    at (λ o. arithF o (s .args .x) (s .args .y)) (c .before .match .keys1) (c .add .ensures)
 
 returns-2 : tie.Need-returns-2
 unfolding arithF
-returns-2 c =
-    at (λ o. arithF o (c .before .before .args .x) (c .before .before .args .y)) (c .before .match .keys2) (c .sub .ensures)
+returns-2 c = let s = c .before .before in
+    at (λ o. arithF o (s .args .x) (s .args .y)) (c .before .match .keys2) (c .sub .ensures)
 
 returns-3 : tie.Need-returns-3
 unfolding arithF
-returns-3 c =
-    at (λ o. arithF o (c .before .before .args .x) (c .before .before .args .y)) (c .before .match .keys3) (c .div .ensures)
+returns-3 c = let s = c .before .before in
+    at (λ o. arithF o (s .args .x) (s .args .y)) (c .before .match .keys3) (c .div .ensures)
 
 returns-4 : tie.Need-returns-4
 unfolding arithF
-returns-4 c =
-    at (λ o. arithF o (c .before .before .args .x) (c .before .before .args .y)) (c .before .match .keys4) (c .mul .ensures)
+returns-4 c = let s = c .before .before in
+    at (λ o. arithF o (s .args .x) (s .args .y)) (c .before .match .keys4) (c .mul .ensures)
 
 returns-5 : tie.Need-returns-5
 unfolding arithF
-returns-5 c =
-    at (λ o. arithF o (c .before .before .args .x) (c .before .before .args .y)) (c .before .match .keys5) (c .rem .ensures)
+returns-5 c = let s = c .before .before in
+    at (λ o. arithF o (s .args .x) (s .args .y)) (c .before .match .keys5) (c .rem .ensures)
 
 returns-6 : tie.Need-returns-6
 unfolding arithF
-returns-6 c =
-    at (λ o. arithF o (c .before .before .args .x) (c .before .before .args .y)) (c .before .match .keys6) (c .min .ensures)
+returns-6 c = let s = c .before .before in
+    at (λ o. arithF o (s .args .x) (s .args .y)) (c .before .match .keys6) (c .min .ensures)
 
 returns-7 : tie.Need-returns-7
 unfolding arithF

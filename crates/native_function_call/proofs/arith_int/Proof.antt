@@ -33,45 +33,45 @@ max-requires c κs = search needs
 
 returns : tie.Need-returns
 unfolding arithZ
-returns c =
-    at (λ o. arithZ o (c .before .before .args .x) (c .before .before .args .y)) (c .before .match .keys1)
-    (ap gives (returned (c .wrapping-add .ok) ∙ c .wrapping-add .ensures ∙ read2 (λ (x y : ℤ). wrap (x +ℤ y)) (c .before .before .args .x) (c .before .before .args .y) (c .before .before .fits .x) (c .before .before .fits .y)))
+returns c = let s = c .before .before in
+    at (λ o. arithZ o (s .args .x) (s .args .y)) (c .before .match .keys1)
+    (ap gives (returned (c .wrapping-add .ok) ∙ c .wrapping-add .ensures ∙ read2 (λ (x y : ℤ). wrap (x +ℤ y)) (s .args .x) (s .args .y) (s .fits .x) (s .fits .y)))
 
 returns-2 : tie.Need-returns-2
 unfolding arithZ
-returns-2 c =
-    at (λ o. arithZ o (c .before .before .args .x) (c .before .before .args .y)) (c .before .match .keys2)
-    (ap gives (returned (c .wrapping-sub .ok) ∙ c .wrapping-sub .ensures ∙ read2 (λ (x y : ℤ). wrap (x -ℤ y)) (c .before .before .args .x) (c .before .before .args .y) (c .before .before .fits .x) (c .before .before .fits .y)))
+returns-2 c = let s = c .before .before in
+    at (λ o. arithZ o (s .args .x) (s .args .y)) (c .before .match .keys2)
+    (ap gives (returned (c .wrapping-sub .ok) ∙ c .wrapping-sub .ensures ∙ read2 (λ (x y : ℤ). wrap (x -ℤ y)) (s .args .x) (s .args .y) (s .fits .x) (s .fits .y)))
 
 returns-3 : tie.Need-returns-3
 unfolding arithZ
-returns-3 c =
-    at (λ o. arithZ o (c .before .before .args .x) (c .before .before .args .y)) (c .before .match .keys3)
-    (c .divide .ensures ∙ read2 (quotient) (c .before .before .args .x) (c .before .before .args .y) (c .before .before .fits .x) (c .before .before .fits .y))
+returns-3 c = let s = c .before .before in
+    at (λ o. arithZ o (s .args .x) (s .args .y)) (c .before .match .keys3)
+    (c .divide .ensures ∙ read2 (quotient) (s .args .x) (s .args .y) (s .fits .x) (s .fits .y))
 
 returns-4 : tie.Need-returns-4
 unfolding arithZ
-returns-4 c =
-    at (λ o. arithZ o (c .before .before .args .x) (c .before .before .args .y)) (c .before .match .keys4)
-    (ap gives (returned (c .wrapping-mul .ok) ∙ c .wrapping-mul .ensures ∙ read2 (λ (x y : ℤ). wrap (x *ℤ y)) (c .before .before .args .x) (c .before .before .args .y) (c .before .before .fits .x) (c .before .before .fits .y)))
+returns-4 c = let s = c .before .before in
+    at (λ o. arithZ o (s .args .x) (s .args .y)) (c .before .match .keys4)
+    (ap gives (returned (c .wrapping-mul .ok) ∙ c .wrapping-mul .ensures ∙ read2 (λ (x y : ℤ). wrap (x *ℤ y)) (s .args .x) (s .args .y) (s .fits .x) (s .fits .y)))
 
 returns-5 : tie.Need-returns-5
 unfolding arithZ
-returns-5 c =
-    at (λ o. arithZ o (c .before .before .args .x) (c .before .before .args .y)) (c .before .match .keys5)
-    (c .remainder-of .ensures ∙ read2 (remainder) (c .before .before .args .x) (c .before .before .args .y) (c .before .before .fits .x) (c .before .before .fits .y))
+returns-5 c = let s = c .before .before in
+    at (λ o. arithZ o (s .args .x) (s .args .y)) (c .before .match .keys5)
+    (c .remainder-of .ensures ∙ read2 (remainder) (s .args .x) (s .args .y) (s .fits .x) (s .fits .y))
 
 returns-6 : tie.Need-returns-6
 unfolding arithZ
-returns-6 c =
-    at (λ o. arithZ o (c .before .before .args .x) (c .before .before .args .y)) (c .before .match .keys6)
-    (ap gives (returned (c .min .ok) ∙ c .min .ensures ∙ read2 (minZ) (c .before .before .args .x) (c .before .before .args .y) (c .before .before .fits .x) (c .before .before .fits .y)))
+returns-6 c = let s = c .before .before in
+    at (λ o. arithZ o (s .args .x) (s .args .y)) (c .before .match .keys6)
+    (ap gives (returned (c .min .ok) ∙ c .min .ensures ∙ read2 (minZ) (s .args .x) (s .args .y) (s .fits .x) (s .fits .y)))
 
 returns-7 : tie.Need-returns-7
 unfolding arithZ
-returns-7 c =
+returns-7 c = let s = c .before .before in
     rw (ne-eqb _ _ (c .before .match .rest .0 .0 .0 .0 .0 .1), ne-eqb _ _ (c .before .match .rest .0 .0 .0 .0 .1), ne-eqb _ _ (c .before .match .rest .0 .0 .0 .1), ne-eqb _ _ (c .before .match .rest .0 .0 .1), ne-eqb _ _ (c .before .match .rest .0 .1), ne-eqb _ _ (c .before .match .rest .1))
-    (ap gives (returned (c .max .ok) ∙ c .max .ensures ∙ read2 (maxZ) (c .before .before .args .x) (c .before .before .args .y) (c .before .before .fits .x) (c .before .before .fits .y)))
+    (ap gives (returned (c .max .ok) ∙ c .max .ensures ∙ read2 (maxZ) (s .args .x) (s .args .y) (s .fits .x) (s .fits .y)))
 
 pub arith-int-spec : {M : Type 1} → statement M
 arith-int-spec =

@@ -55,12 +55,12 @@ unary-requires c κs =
     )
 
 located-requires : tie.Need-located-requires
-located-requires c κs =
-    let d = done (definitions (c .before .before .before .before .before .before .before .before .before .before .before .before .before .before .before .args .ends .now) (c .before .before .before .before .before .before .before .before .before .before .before .before .before .before .before .args .defined .now) (c .before .before .before .before .before .before .before .before .before .before .before .before .before .before .before .args .limit)) (c .before .before .before .before .before .before .before .before .before .before .before .before .before .before .before .args .op) ((valOf (c .before .before .before .before .before .before .before .before .before .before .before .before .before .before .before .args .items .now) (c .before .before .before .before .before .before .before .before .before .before .before .before .before .before .before .args .values .now) (c .before .before .before .before .before .before .before .before .before .before .before .before .before .before .before .args .a)) ∷ [])
-    (ap2 (unaryL (c .before .before .before .before .before .before .before .before .before .before .before .before .before .before .before .args .ends .now) (c .before .before .before .before .before .before .before .before .before .before .before .before .before .before .before .args .defined .now) (c .before .before .before .before .before .before .before .before .before .before .before .before .before .before .before .args .op)) (set-in (c .before .before .before .before .before .before .before .before .before .before .before .before .before .before .before .args .items .now) (c .before .before .before .before .before .before .before .before .before .before .before .before .before .before .before .args .values .now) (c .before .before .before .before .before .before .before .before .before .before .before .before .before .before .before .args .a) ∙ sym (c .before .before .before .before .before .before .before .before .before .origins-in .ensures)) (entries-in (c .before .before .before .before .before .before .before .before .before .before .before .before .before .before .before .args .items .now) (c .before .before .before .before .before .before .before .before .before .before .before .before .before .before .before .args .values .now) (c .before .before .before .before .before .before .before .before .before .before .before .before .before .before .before .args .a) ∙ sym (lends-held (c .before .before .before .before .before .before .before .before .before .before .before .before .before .before .before .args .limit) (c .before .before .before .before .before .before .before .before .before .before .before .before .before .before .before .args .items .now) (c .before .before .before .before .before .before .before .before .before .before .before .before .before .before .before .args .values .now) (c .before .before .before .before .before .before .before .before .before .before .before .start-of .result) (c .before .before .before .before .before .before .before .before .before .before .len-of .result) (c .before .before .before .before .before .before .before .before .before .before .before .before .before .before .before .args .a) (c .before .before .before .before .before .before .before .before .before .before .before .start-of .ensures) (c .before .before .before .before .before .before .before .before .before .before .len-of .ensures))))
-    (unary-fine (c .before .before .before .before .before .before .before .before .before .before .before .before .before .before .before .args .limit) (c .before .before .before .before .before .before .before .before .before .before .before .before .before .before .before .args .ends .now) (c .before .before .before .before .before .before .before .before .before .before .before .before .before .before .before .args .defined .now) (c .before .before .before .before .before .before .before .before .before .before .before .before .before .before .before .args .op) (originsIn (valOf (c .before .before .before .before .before .before .before .before .before .before .before .before .before .before .before .args .items .now) (c .before .before .before .before .before .before .before .before .before .before .before .before .before .before .before .args .values .now) (c .before .before .before .before .before .before .before .before .before .before .before .before .before .before .before .args .a))) (entriesOf (valOf (c .before .before .before .before .before .before .before .before .before .before .before .before .before .before .before .args .items .now) (c .before .before .before .before .before .before .before .before .before .before .before .before .before .before .before .args .values .now) (c .before .before .before .before .before .before .before .before .before .before .before .before .before .before .before .args .a))) (c .before .before .before .before .before .before .before .before .before .before .before .before .before .before .before .pre .0 .some) (c .before .before .before .before .before .before .before .before .before .before .before .before .before .before .before .pre .0 .within) (rising-in (c .before .before .before .before .before .before .before .before .before .before .before .before .before .before .before .args .limit) (c .before .before .before .before .before .before .before .before .before .before .before .before .before .before .before .args .items .now) (c .before .before .before .before .before .before .before .before .before .before .before .before .before .before .before .args .values .now) (c .before .before .before .before .before .before .before .before .before .before .before .before .before .before .before .args .a) (c .before .before .before .before .before .before .before .before .before .before .before .before .before .before .before .pre .1)))
-    (c .before .before .before .before .before .before .before .before .before .before .before .before .before .before .before .pre .0 .small) (c .before .before .before .before .unary .ensures) in
-    (omega (arith, d .short, c .before .before .before .before .before .before .before .before .before .before .before .before .before .before .before .pre .0), d .rises, c .before .before .before .before .before .before .before .before .before .before .before .before .before .before .before .pre .0 .few)
+located-requires c κs = let s = c .before .before .before .before .before .before .before .before .before .before .before .before .before .before .before in
+    let d = done (definitions (s .args .ends .now) (s .args .defined .now) (s .args .limit)) (s .args .op) ((valOf (s .args .items .now) (s .args .values .now) (s .args .a)) ∷ [])
+    (ap2 (unaryL (s .args .ends .now) (s .args .defined .now) (s .args .op)) (set-in (s .args .items .now) (s .args .values .now) (s .args .a) ∙ sym (c .before .before .before .before .before .before .before .before .before .origins-in .ensures)) (entries-in (s .args .items .now) (s .args .values .now) (s .args .a) ∙ sym (lends-held (s .args .limit) (s .args .items .now) (s .args .values .now) (c .before .before .before .before .before .before .before .before .before .before .before .start-of .result) (c .before .before .before .before .before .before .before .before .before .before .len-of .result) (s .args .a) (c .before .before .before .before .before .before .before .before .before .before .before .start-of .ensures) (c .before .before .before .before .before .before .before .before .before .before .len-of .ensures))))
+    (unary-fine (s .args .limit) (s .args .ends .now) (s .args .defined .now) (s .args .op) (originsIn (valOf (s .args .items .now) (s .args .values .now) (s .args .a))) (entriesOf (valOf (s .args .items .now) (s .args .values .now) (s .args .a))) (s .pre .0 .some) (s .pre .0 .within) (rising-in (s .args .limit) (s .args .items .now) (s .args .values .now) (s .args .a) (s .pre .1)))
+    (s .pre .0 .small) (c .before .before .before .before .unary .ensures) in
+    (omega (arith, d .short, s .pre .0), d .rises, s .pre .0 .few)
 
 same-length : tie.Need-same-length
 same-length c = search needs
@@ -69,11 +69,11 @@ same-length-2 : tie.Need-same-length-2
 same-length-2 c = search needs
 
 returns : tie.Need-returns
-returns c =
-    let d = done (definitions (c .before .before .before .before .before .before .before .before .before .before .before .before .before .before .before .before .args .ends .now) (c .before .before .before .before .before .before .before .before .before .before .before .before .before .before .before .before .args .defined .now) (c .before .before .before .before .before .before .before .before .before .before .before .before .before .before .before .before .args .limit)) (c .before .before .before .before .before .before .before .before .before .before .before .before .before .before .before .before .args .op) ((valOf (c .before .before .before .before .before .before .before .before .before .before .before .before .before .before .before .before .args .items .now) (c .before .before .before .before .before .before .before .before .before .before .before .before .before .before .before .before .args .values .now) (c .before .before .before .before .before .before .before .before .before .before .before .before .before .before .before .before .args .a)) ∷ [])
-    (ap2 (unaryL (c .before .before .before .before .before .before .before .before .before .before .before .before .before .before .before .before .args .ends .now) (c .before .before .before .before .before .before .before .before .before .before .before .before .before .before .before .before .args .defined .now) (c .before .before .before .before .before .before .before .before .before .before .before .before .before .before .before .before .args .op)) (set-in (c .before .before .before .before .before .before .before .before .before .before .before .before .before .before .before .before .args .items .now) (c .before .before .before .before .before .before .before .before .before .before .before .before .before .before .before .before .args .values .now) (c .before .before .before .before .before .before .before .before .before .before .before .before .before .before .before .before .args .a) ∙ sym (c .before .before .before .before .before .before .before .before .before .before .origins-in .ensures)) (entries-in (c .before .before .before .before .before .before .before .before .before .before .before .before .before .before .before .before .args .items .now) (c .before .before .before .before .before .before .before .before .before .before .before .before .before .before .before .before .args .values .now) (c .before .before .before .before .before .before .before .before .before .before .before .before .before .before .before .before .args .a) ∙ sym (lends-held (c .before .before .before .before .before .before .before .before .before .before .before .before .before .before .before .before .args .limit) (c .before .before .before .before .before .before .before .before .before .before .before .before .before .before .before .before .args .items .now) (c .before .before .before .before .before .before .before .before .before .before .before .before .before .before .before .before .args .values .now) (c .before .before .before .before .before .before .before .before .before .before .before .before .start-of .result) (c .before .before .before .before .before .before .before .before .before .before .before .len-of .result) (c .before .before .before .before .before .before .before .before .before .before .before .before .before .before .before .before .args .a) (c .before .before .before .before .before .before .before .before .before .before .before .before .start-of .ensures) (c .before .before .before .before .before .before .before .before .before .before .before .len-of .ensures))))
-    (unary-fine (c .before .before .before .before .before .before .before .before .before .before .before .before .before .before .before .before .args .limit) (c .before .before .before .before .before .before .before .before .before .before .before .before .before .before .before .before .args .ends .now) (c .before .before .before .before .before .before .before .before .before .before .before .before .before .before .before .before .args .defined .now) (c .before .before .before .before .before .before .before .before .before .before .before .before .before .before .before .before .args .op) (originsIn (valOf (c .before .before .before .before .before .before .before .before .before .before .before .before .before .before .before .before .args .items .now) (c .before .before .before .before .before .before .before .before .before .before .before .before .before .before .before .before .args .values .now) (c .before .before .before .before .before .before .before .before .before .before .before .before .before .before .before .before .args .a))) (entriesOf (valOf (c .before .before .before .before .before .before .before .before .before .before .before .before .before .before .before .before .args .items .now) (c .before .before .before .before .before .before .before .before .before .before .before .before .before .before .before .before .args .values .now) (c .before .before .before .before .before .before .before .before .before .before .before .before .before .before .before .before .args .a))) (c .before .before .before .before .before .before .before .before .before .before .before .before .before .before .before .before .pre .0 .some) (c .before .before .before .before .before .before .before .before .before .before .before .before .before .before .before .before .pre .0 .within) (rising-in (c .before .before .before .before .before .before .before .before .before .before .before .before .before .before .before .before .args .limit) (c .before .before .before .before .before .before .before .before .before .before .before .before .before .before .before .before .args .items .now) (c .before .before .before .before .before .before .before .before .before .before .before .before .before .before .before .before .args .values .now) (c .before .before .before .before .before .before .before .before .before .before .before .before .before .before .before .before .args .a) (c .before .before .before .before .before .before .before .before .before .before .before .before .before .before .before .before .pre .1)))
-    (c .before .before .before .before .before .before .before .before .before .before .before .before .before .before .before .before .pre .0 .small) (c .before .before .before .before .before .unary .ensures) in
+returns c = let s = c .before .before .before .before .before .before .before .before .before .before .before .before .before .before .before .before in
+    let d = done (definitions (s .args .ends .now) (s .args .defined .now) (s .args .limit)) (s .args .op) ((valOf (s .args .items .now) (s .args .values .now) (s .args .a)) ∷ [])
+    (ap2 (unaryL (s .args .ends .now) (s .args .defined .now) (s .args .op)) (set-in (s .args .items .now) (s .args .values .now) (s .args .a) ∙ sym (c .before .before .before .before .before .before .before .before .before .before .origins-in .ensures)) (entries-in (s .args .items .now) (s .args .values .now) (s .args .a) ∙ sym (lends-held (s .args .limit) (s .args .items .now) (s .args .values .now) (c .before .before .before .before .before .before .before .before .before .before .before .before .start-of .result) (c .before .before .before .before .before .before .before .before .before .before .before .len-of .result) (s .args .a) (c .before .before .before .before .before .before .before .before .before .before .before .before .start-of .ensures) (c .before .before .before .before .before .before .before .before .before .before .before .len-of .ensures))))
+    (unary-fine (s .args .limit) (s .args .ends .now) (s .args .defined .now) (s .args .op) (originsIn (valOf (s .args .items .now) (s .args .values .now) (s .args .a))) (entriesOf (valOf (s .args .items .now) (s .args .values .now) (s .args .a))) (s .pre .0 .some) (s .pre .0 .within) (rising-in (s .args .limit) (s .args .items .now) (s .args .values .now) (s .args .a) (s .pre .1)))
+    (s .pre .0 .small) (c .before .before .before .before .before .unary .ensures) in
     d .answers _ (c .located .ensures)
 
 pub list1-spec : {M : Type 1} → statement M

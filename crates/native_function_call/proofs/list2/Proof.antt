@@ -7,8 +7,8 @@ kind-requires : tie.Need-kind-requires
 kind-requires c κs = search needs
 
 list-list-requires : tie.Need-list-list-requires
-list-list-requires c κs =
-    (c .before .before .before .before .before .before .before .pre .0, (c .before .before .before .before .before .before .before .pre .1, sym (c .before .before .before .kind .ensures .0) ∙ c .before .before .if1 .taken))
+list-list-requires c κs = let s = c .before .before .before .before .before .before .before in
+    (s .pre .0, (s .pre .1, sym (c .before .before .before .kind .ensures .0) ∙ c .before .before .if1 .taken))
 
 same-length : tie.Need-same-length
 same-length c = search needs
@@ -20,8 +20,8 @@ returns : tie.Need-returns
 returns c = search needs
 
 list-int-requires : tie.Need-list-int-requires
-list-int-requires c κs =
-    (c .before .before .before .before .before .before .before .pre .0, (c .before .before .before .before .before .before .before .pre .1, λ e. c .before .before .if1 .left (c .before .before .before .kind .ensures .0 ∙ e)))
+list-int-requires c κs = let s = c .before .before .before .before .before .before .before in
+    (s .pre .0, (s .pre .1, λ e. c .before .before .if1 .left (c .before .before .before .kind .ensures .0 ∙ e)))
 
 same-length-3 : tie.Need-same-length-3
 same-length-3 c = search needs

@@ -55,16 +55,16 @@ part-range-end-2 : tie.Need-part-range-end-2
 part-range-end-2 c = search needs
 
 range-requires : tie.Need-range-requires
-range-requires c κs =
-    let h : (c .before .before .before .before .before .before .before .before .before .before .before .args .limit) ≤ (room (c .before .before .before .before .before .before .before .before .before .before .before .args .oi .now) (c .before .before .before .before .before .before .before .before .before .before .before .args .ov .now)) = omega (arith, c .before .before .before .before .before .before .before .before .before .before .before .pre .0) in
-    lends-lent (room (c .before .before .before .before .before .before .before .before .before .before .before .args .oi .now) (c .before .before .before .before .before .before .before .before .before .before .before .args .ov .now)) (c .before .before .before .before .before .before .before .before .before .before .before .args .items .now) (c .before .before .before .before .before .before .before .before .before .before .before .args .values .now) (c .before .before .before .before .before .before .before .start-of .result) (c .before .before .before .before .before .before .len-of .result) (c .before .before .before .before .before .before .before .before .before .before .before .args .a) (c .before .before .before .before .before .before .before .start-of .ensures) (c .before .before .before .before .before .before .len-of .ensures) (formed-limit (c .before .before .before .before .before .before .before .before .before .before .before .args .limit) (c .before .before .before .before .before .before .before .before .before .before .before .args .items .now) (c .before .before .before .before .before .before .before .before .before .before .before .args .values .now) (room (c .before .before .before .before .before .before .before .before .before .before .before .args .oi .now) (c .before .before .before .before .before .before .before .before .before .before .before .args .ov .now)) (c .before .before .before .before .before .before .before .before .before .before .before .args .a) h (c .before .before .before .before .before .before .before .before .before .before .before .pre .1 .0))
+range-requires c κs = let s = c .before .before .before .before .before .before .before .before .before .before .before in
+    let h : (s .args .limit) ≤ (room (s .args .oi .now) (s .args .ov .now)) = omega (arith, s .pre .0) in
+    lends-lent (room (s .args .oi .now) (s .args .ov .now)) (s .args .items .now) (s .args .values .now) (c .before .before .before .before .before .before .before .start-of .result) (c .before .before .before .before .before .before .len-of .result) (s .args .a) (c .before .before .before .before .before .before .before .start-of .ensures) (c .before .before .before .before .before .before .len-of .ensures) (formed-limit (s .args .limit) (s .args .items .now) (s .args .values .now) (room (s .args .oi .now) (s .args .ov .now)) (s .args .a) h (s .pre .1 .0))
 
 located-requires : tie.Need-located-requires
-located-requires c κs =
-    let d = done (definitions (c .before .before .before .before .before .before .before .before .before .before .before .before .before .before .before .before .args .ends .now) (c .before .before .before .before .before .before .before .before .before .before .before .before .before .before .before .before .args .defined .now) (c .before .before .before .before .before .before .before .before .before .before .before .before .before .before .before .before .args .limit)) 31 ((valOf (c .before .before .before .before .before .before .before .before .before .before .before .before .before .before .before .before .args .items .now) (c .before .before .before .before .before .before .before .before .before .before .before .before .before .before .before .before .args .values .now) (c .before .before .before .before .before .before .before .before .before .before .before .before .before .before .before .before .args .a)) ∷ (valOf (c .before .before .before .before .before .before .before .before .before .before .before .before .before .before .before .before .args .items .now) (c .before .before .before .before .before .before .before .before .before .before .before .before .before .before .before .before .args .values .now) (c .before .before .before .before .before .before .before .before .before .before .before .before .before .before .before .before .args .b)) ∷ (valOf (c .before .before .before .before .before .before .before .before .before .before .before .before .before .before .before .before .args .items .now) (c .before .before .before .before .before .before .before .before .before .before .before .before .before .before .before .before .args .values .now) (c .before .before .before .before .before .before .before .before .before .before .before .before .before .before .before .before .args .c)) ∷ [])
-    (ap3 (range (c .before .before .before .before .before .before .before .before .before .before .before .before .before .before .before .before .args .limit)) (sym (returned (c .before .before .before .before .before .before .before .before .before .before .lower-bound .ok) ∙ c .before .before .before .before .before .before .before .before .before .before .lower-bound .ensures ∙ low-in (c .before .before .before .before .before .before .before .before .before .before .before .before .before .before .before .before .args .limit) (c .before .before .before .before .before .before .before .before .before .before .before .before .before .before .before .before .args .items .now) (c .before .before .before .before .before .before .before .before .before .before .before .before .before .before .before .before .args .values .now) (c .before .before .before .before .before .before .before .before .before .before .before .before .before .before .before .before .args .b) (c .before .before .before .before .before .before .before .before .before .before .before .before .before .before .before .before .pre .1 .1))) (sym (returned (c .before .before .before .before .before .before .before .before .before .upper-bound .ok) ∙ c .before .before .before .before .before .before .before .before .before .upper-bound .ensures ∙ high-in (c .before .before .before .before .before .before .before .before .before .before .before .before .before .before .before .before .args .limit) (c .before .before .before .before .before .before .before .before .before .before .before .before .before .before .before .before .args .items .now) (c .before .before .before .before .before .before .before .before .before .before .before .before .before .before .before .before .args .values .now) (c .before .before .before .before .before .before .before .before .before .before .before .before .before .before .before .before .args .c) (c .before .before .before .before .before .before .before .before .before .before .before .before .before .before .before .before .pre .1 .2))) (entries-in (c .before .before .before .before .before .before .before .before .before .before .before .before .before .before .before .before .args .items .now) (c .before .before .before .before .before .before .before .before .before .before .before .before .before .before .before .before .args .values .now) (c .before .before .before .before .before .before .before .before .before .before .before .before .before .before .before .before .args .a) ∙ sym (lends-held (c .before .before .before .before .before .before .before .before .before .before .before .before .before .before .before .before .args .limit) (c .before .before .before .before .before .before .before .before .before .before .before .before .before .before .before .before .args .items .now) (c .before .before .before .before .before .before .before .before .before .before .before .before .before .before .before .before .args .values .now) (c .before .before .before .before .before .before .before .before .before .before .before .before .start-of .result) (c .before .before .before .before .before .before .before .before .before .before .before .len-of .result) (c .before .before .before .before .before .before .before .before .before .before .before .before .before .before .before .before .args .a) (c .before .before .before .before .before .before .before .before .before .before .before .before .start-of .ensures) (c .before .before .before .before .before .before .before .before .before .before .before .len-of .ensures))))
-    (range-fine (c .before .before .before .before .before .before .before .before .before .before .before .before .before .before .before .before .args .limit) (lowerOf (valOf (c .before .before .before .before .before .before .before .before .before .before .before .before .before .before .before .before .args .items .now) (c .before .before .before .before .before .before .before .before .before .before .before .before .before .before .before .before .args .values .now) (c .before .before .before .before .before .before .before .before .before .before .before .before .before .before .before .before .args .b))) (upperOf (valOf (c .before .before .before .before .before .before .before .before .before .before .before .before .before .before .before .before .args .items .now) (c .before .before .before .before .before .before .before .before .before .before .before .before .before .before .before .before .args .values .now) (c .before .before .before .before .before .before .before .before .before .before .before .before .before .before .before .before .args .c))) (entriesOf (valOf (c .before .before .before .before .before .before .before .before .before .before .before .before .before .before .before .before .args .items .now) (c .before .before .before .before .before .before .before .before .before .before .before .before .before .before .before .before .args .values .now) (c .before .before .before .before .before .before .before .before .before .before .before .before .before .before .before .before .args .a)))) (c .before .before .before .before .before .before .before .before .before .before .before .before .before .before .before .before .pre .0 .small) (c .before .before .before .before .range .ensures (c .before .before .before .before .before .before .before .before .before .before .before .before .before .before .before .before .args .limit) (of-lent (c .before .before .before .before .before .before .before .before .before .before .before .before .before .before .before .before .args .limit) _ _ (lends-lent (c .before .before .before .before .before .before .before .before .before .before .before .before .before .before .before .before .args .limit) (c .before .before .before .before .before .before .before .before .before .before .before .before .before .before .before .before .args .items .now) (c .before .before .before .before .before .before .before .before .before .before .before .before .before .before .before .before .args .values .now) (c .before .before .before .before .before .before .before .before .before .before .before .before .start-of .result) (c .before .before .before .before .before .before .before .before .before .before .before .len-of .result) (c .before .before .before .before .before .before .before .before .before .before .before .before .before .before .before .before .args .a) (c .before .before .before .before .before .before .before .before .before .before .before .before .start-of .ensures) (c .before .before .before .before .before .before .before .before .before .before .before .len-of .ensures) (c .before .before .before .before .before .before .before .before .before .before .before .before .before .before .before .before .pre .1 .0)))) in
-    (omega (arith, d .short, c .before .before .before .before .before .before .before .before .before .before .before .before .before .before .before .before .pre .0), d .rises, c .before .before .before .before .before .before .before .before .before .before .before .before .before .before .before .before .pre .0 .few)
+located-requires c κs = let s = c .before .before .before .before .before .before .before .before .before .before .before .before .before .before .before .before in
+    let d = done (definitions (s .args .ends .now) (s .args .defined .now) (s .args .limit)) (s .args .op) ((valOf (s .args .items .now) (s .args .values .now) (s .args .a)) ∷ (valOf (s .args .items .now) (s .args .values .now) (s .args .b)) ∷ (valOf (s .args .items .now) (s .args .values .now) (s .args .c)) ∷ [])
+    (ap3 (range (s .args .limit)) (sym (returned (c .before .before .before .before .before .before .before .before .before .before .lower-bound .ok) ∙ c .before .before .before .before .before .before .before .before .before .before .lower-bound .ensures ∙ low-in (s .args .limit) (s .args .items .now) (s .args .values .now) (s .args .b) (s .pre .1 .1))) (sym (returned (c .before .before .before .before .before .before .before .before .before .upper-bound .ok) ∙ c .before .before .before .before .before .before .before .before .before .upper-bound .ensures ∙ high-in (s .args .limit) (s .args .items .now) (s .args .values .now) (s .args .c) (s .pre .1 .2))) (entries-in (s .args .items .now) (s .args .values .now) (s .args .a) ∙ sym (lends-held (s .args .limit) (s .args .items .now) (s .args .values .now) (c .before .before .before .before .before .before .before .before .before .before .before .before .start-of .result) (c .before .before .before .before .before .before .before .before .before .before .before .len-of .result) (s .args .a) (c .before .before .before .before .before .before .before .before .before .before .before .before .start-of .ensures) (c .before .before .before .before .before .before .before .before .before .before .before .len-of .ensures))))
+    (range-fine (s .args .limit) (lowerOf (valOf (s .args .items .now) (s .args .values .now) (s .args .b))) (upperOf (valOf (s .args .items .now) (s .args .values .now) (s .args .c))) (entriesOf (valOf (s .args .items .now) (s .args .values .now) (s .args .a)))) (s .pre .0 .small) (c .before .before .before .before .range .ensures (s .args .limit) (of-lent (s .args .limit) _ _ (lends-lent (s .args .limit) (s .args .items .now) (s .args .values .now) (c .before .before .before .before .before .before .before .before .before .before .before .before .start-of .result) (c .before .before .before .before .before .before .before .before .before .before .before .len-of .result) (s .args .a) (c .before .before .before .before .before .before .before .before .before .before .before .before .start-of .ensures) (c .before .before .before .before .before .before .before .before .before .before .before .len-of .ensures) (s .pre .1 .0)))) in
+    (omega (arith, d .short, s .pre .0), d .rises, s .pre .0 .few)
 
 same-length : tie.Need-same-length
 same-length c = search needs
@@ -73,10 +73,10 @@ same-length-2 : tie.Need-same-length-2
 same-length-2 c = search needs
 
 returns : tie.Need-returns
-returns c =
-    let d = done (definitions (c .before .before .before .before .before .before .before .before .before .before .before .before .before .before .before .before .before .args .ends .now) (c .before .before .before .before .before .before .before .before .before .before .before .before .before .before .before .before .before .args .defined .now) (c .before .before .before .before .before .before .before .before .before .before .before .before .before .before .before .before .before .args .limit)) 31 ((valOf (c .before .before .before .before .before .before .before .before .before .before .before .before .before .before .before .before .before .args .items .now) (c .before .before .before .before .before .before .before .before .before .before .before .before .before .before .before .before .before .args .values .now) (c .before .before .before .before .before .before .before .before .before .before .before .before .before .before .before .before .before .args .a)) ∷ (valOf (c .before .before .before .before .before .before .before .before .before .before .before .before .before .before .before .before .before .args .items .now) (c .before .before .before .before .before .before .before .before .before .before .before .before .before .before .before .before .before .args .values .now) (c .before .before .before .before .before .before .before .before .before .before .before .before .before .before .before .before .before .args .b)) ∷ (valOf (c .before .before .before .before .before .before .before .before .before .before .before .before .before .before .before .before .before .args .items .now) (c .before .before .before .before .before .before .before .before .before .before .before .before .before .before .before .before .before .args .values .now) (c .before .before .before .before .before .before .before .before .before .before .before .before .before .before .before .before .before .args .c)) ∷ [])
-    (ap3 (range (c .before .before .before .before .before .before .before .before .before .before .before .before .before .before .before .before .before .args .limit)) (sym (returned (c .before .before .before .before .before .before .before .before .before .before .before .lower-bound .ok) ∙ c .before .before .before .before .before .before .before .before .before .before .before .lower-bound .ensures ∙ low-in (c .before .before .before .before .before .before .before .before .before .before .before .before .before .before .before .before .before .args .limit) (c .before .before .before .before .before .before .before .before .before .before .before .before .before .before .before .before .before .args .items .now) (c .before .before .before .before .before .before .before .before .before .before .before .before .before .before .before .before .before .args .values .now) (c .before .before .before .before .before .before .before .before .before .before .before .before .before .before .before .before .before .args .b) (c .before .before .before .before .before .before .before .before .before .before .before .before .before .before .before .before .before .pre .1 .1))) (sym (returned (c .before .before .before .before .before .before .before .before .before .before .upper-bound .ok) ∙ c .before .before .before .before .before .before .before .before .before .before .upper-bound .ensures ∙ high-in (c .before .before .before .before .before .before .before .before .before .before .before .before .before .before .before .before .before .args .limit) (c .before .before .before .before .before .before .before .before .before .before .before .before .before .before .before .before .before .args .items .now) (c .before .before .before .before .before .before .before .before .before .before .before .before .before .before .before .before .before .args .values .now) (c .before .before .before .before .before .before .before .before .before .before .before .before .before .before .before .before .before .args .c) (c .before .before .before .before .before .before .before .before .before .before .before .before .before .before .before .before .before .pre .1 .2))) (entries-in (c .before .before .before .before .before .before .before .before .before .before .before .before .before .before .before .before .before .args .items .now) (c .before .before .before .before .before .before .before .before .before .before .before .before .before .before .before .before .before .args .values .now) (c .before .before .before .before .before .before .before .before .before .before .before .before .before .before .before .before .before .args .a) ∙ sym (lends-held (c .before .before .before .before .before .before .before .before .before .before .before .before .before .before .before .before .before .args .limit) (c .before .before .before .before .before .before .before .before .before .before .before .before .before .before .before .before .before .args .items .now) (c .before .before .before .before .before .before .before .before .before .before .before .before .before .before .before .before .before .args .values .now) (c .before .before .before .before .before .before .before .before .before .before .before .before .before .start-of .result) (c .before .before .before .before .before .before .before .before .before .before .before .before .len-of .result) (c .before .before .before .before .before .before .before .before .before .before .before .before .before .before .before .before .before .args .a) (c .before .before .before .before .before .before .before .before .before .before .before .before .before .start-of .ensures) (c .before .before .before .before .before .before .before .before .before .before .before .before .len-of .ensures))))
-    (range-fine (c .before .before .before .before .before .before .before .before .before .before .before .before .before .before .before .before .before .args .limit) (lowerOf (valOf (c .before .before .before .before .before .before .before .before .before .before .before .before .before .before .before .before .before .args .items .now) (c .before .before .before .before .before .before .before .before .before .before .before .before .before .before .before .before .before .args .values .now) (c .before .before .before .before .before .before .before .before .before .before .before .before .before .before .before .before .before .args .b))) (upperOf (valOf (c .before .before .before .before .before .before .before .before .before .before .before .before .before .before .before .before .before .args .items .now) (c .before .before .before .before .before .before .before .before .before .before .before .before .before .before .before .before .before .args .values .now) (c .before .before .before .before .before .before .before .before .before .before .before .before .before .before .before .before .before .args .c))) (entriesOf (valOf (c .before .before .before .before .before .before .before .before .before .before .before .before .before .before .before .before .before .args .items .now) (c .before .before .before .before .before .before .before .before .before .before .before .before .before .before .before .before .before .args .values .now) (c .before .before .before .before .before .before .before .before .before .before .before .before .before .before .before .before .before .args .a)))) (c .before .before .before .before .before .before .before .before .before .before .before .before .before .before .before .before .before .pre .0 .small) (c .before .before .before .before .before .range .ensures (c .before .before .before .before .before .before .before .before .before .before .before .before .before .before .before .before .before .args .limit) (of-lent (c .before .before .before .before .before .before .before .before .before .before .before .before .before .before .before .before .before .args .limit) _ _ (lends-lent (c .before .before .before .before .before .before .before .before .before .before .before .before .before .before .before .before .before .args .limit) (c .before .before .before .before .before .before .before .before .before .before .before .before .before .before .before .before .before .args .items .now) (c .before .before .before .before .before .before .before .before .before .before .before .before .before .before .before .before .before .args .values .now) (c .before .before .before .before .before .before .before .before .before .before .before .before .before .start-of .result) (c .before .before .before .before .before .before .before .before .before .before .before .before .len-of .result) (c .before .before .before .before .before .before .before .before .before .before .before .before .before .before .before .before .before .args .a) (c .before .before .before .before .before .before .before .before .before .before .before .before .before .start-of .ensures) (c .before .before .before .before .before .before .before .before .before .before .before .before .len-of .ensures) (c .before .before .before .before .before .before .before .before .before .before .before .before .before .before .before .before .before .pre .1 .0)))) in
+returns c = let s = c .before .before .before .before .before .before .before .before .before .before .before .before .before .before .before .before .before in
+    let d = done (definitions (s .args .ends .now) (s .args .defined .now) (s .args .limit)) (s .args .op) ((valOf (s .args .items .now) (s .args .values .now) (s .args .a)) ∷ (valOf (s .args .items .now) (s .args .values .now) (s .args .b)) ∷ (valOf (s .args .items .now) (s .args .values .now) (s .args .c)) ∷ [])
+    (ap3 (range (s .args .limit)) (sym (returned (c .before .before .before .before .before .before .before .before .before .before .before .lower-bound .ok) ∙ c .before .before .before .before .before .before .before .before .before .before .before .lower-bound .ensures ∙ low-in (s .args .limit) (s .args .items .now) (s .args .values .now) (s .args .b) (s .pre .1 .1))) (sym (returned (c .before .before .before .before .before .before .before .before .before .before .upper-bound .ok) ∙ c .before .before .before .before .before .before .before .before .before .before .upper-bound .ensures ∙ high-in (s .args .limit) (s .args .items .now) (s .args .values .now) (s .args .c) (s .pre .1 .2))) (entries-in (s .args .items .now) (s .args .values .now) (s .args .a) ∙ sym (lends-held (s .args .limit) (s .args .items .now) (s .args .values .now) (c .before .before .before .before .before .before .before .before .before .before .before .before .before .start-of .result) (c .before .before .before .before .before .before .before .before .before .before .before .before .len-of .result) (s .args .a) (c .before .before .before .before .before .before .before .before .before .before .before .before .before .start-of .ensures) (c .before .before .before .before .before .before .before .before .before .before .before .before .len-of .ensures))))
+    (range-fine (s .args .limit) (lowerOf (valOf (s .args .items .now) (s .args .values .now) (s .args .b))) (upperOf (valOf (s .args .items .now) (s .args .values .now) (s .args .c))) (entriesOf (valOf (s .args .items .now) (s .args .values .now) (s .args .a)))) (s .pre .0 .small) (c .before .before .before .before .before .range .ensures (s .args .limit) (of-lent (s .args .limit) _ _ (lends-lent (s .args .limit) (s .args .items .now) (s .args .values .now) (c .before .before .before .before .before .before .before .before .before .before .before .before .before .start-of .result) (c .before .before .before .before .before .before .before .before .before .before .before .before .len-of .result) (s .args .a) (c .before .before .before .before .before .before .before .before .before .before .before .before .before .start-of .ensures) (c .before .before .before .before .before .before .before .before .before .before .before .before .len-of .ensures) (s .pre .1 .0)))) in
     d .answers _ (c .located .ensures)
 
 pub list3-spec : {M : Type 1} → statement M

@@ -56,19 +56,19 @@ part-increment-end-2 : tie.Need-part-increment-end-2
 part-increment-end-2 c = search needs
 
 increment-requires : tie.Need-increment-requires
-increment-requires c κs =
-    let h = c .before .before .before .before .before .before .before .before .before .before .before .before .pre .0 in
-    (h .tables, (lends-lent 65536 (c .before .before .before .before .before .before .before .before .before .before .before .before .args .items .now) (c .before .before .before .before .before .before .before .before .before .before .before .before .args .values .now) (c .before .before .before .before .before .before .before .before .start-of .result) (c .before .before .before .before .before .before .before .len-of .result) (c .before .before .before .before .before .before .before .before .before .before .before .before .args .a) (c .before .before .before .before .before .before .before .before .start-of .ensures) (c .before .before .before .before .before .before .before .len-of .ensures) (formed-limit (c .before .before .before .before .before .before .before .before .before .before .before .before .args .limit) (c .before .before .before .before .before .before .before .before .before .before .before .before .args .items .now) (c .before .before .before .before .before .before .before .before .before .before .before .before .args .values .now) 65536 (c .before .before .before .before .before .before .before .before .before .before .before .before .args .a) (omega (arith, h .small)) (c .before .before .before .before .before .before .before .before .before .before .before .before .pre .1 .0 .0)), (omega (arith, h), omega (arith, h))))
+increment-requires c κs = let s = c .before .before .before .before .before .before .before .before .before .before .before .before in
+    let h = s .pre .0 in
+    (h .tables, (lends-lent 65536 (s .args .items .now) (s .args .values .now) (c .before .before .before .before .before .before .before .before .start-of .result) (c .before .before .before .before .before .before .before .len-of .result) (s .args .a) (c .before .before .before .before .before .before .before .before .start-of .ensures) (c .before .before .before .before .before .before .before .len-of .ensures) (formed-limit (s .args .limit) (s .args .items .now) (s .args .values .now) 65536 (s .args .a) (omega (arith, h .small)) (s .pre .1 .0 .0)), (omega (arith, h), omega (arith, h))))
 
 located-requires : tie.Need-located-requires
-located-requires c κs =
-    let d = done (definitions (c .before .before .before .before .before .before .before .before .before .before .before .before .before .before .before .before .before .args .ends .now) (c .before .before .before .before .before .before .before .before .before .before .before .before .before .before .before .before .before .args .defined .now) (c .before .before .before .before .before .before .before .before .before .before .before .before .before .before .before .before .before .args .limit)) (c .before .before .before .before .before .before .before .before .before .before .before .before .before .before .before .before .before .args .op) ((valOf (c .before .before .before .before .before .before .before .before .before .before .before .before .before .before .before .before .before .args .items .now) (c .before .before .before .before .before .before .before .before .before .before .before .before .before .before .before .before .before .args .values .now) (c .before .before .before .before .before .before .before .before .before .before .before .before .before .before .before .before .before .args .a)) ∷ (valOf (c .before .before .before .before .before .before .before .before .before .before .before .before .before .before .before .before .before .args .items .now) (c .before .before .before .before .before .before .before .before .before .before .before .before .before .before .before .before .before .args .values .now) (c .before .before .before .before .before .before .before .before .before .before .before .before .before .before .before .before .before .args .b)) ∷ [])
-    (right-int (definitions (c .before .before .before .before .before .before .before .before .before .before .before .before .before .before .before .before .before .args .ends .now) (c .before .before .before .before .before .before .before .before .before .before .before .before .before .before .before .before .before .args .defined .now) (c .before .before .before .before .before .before .before .before .before .before .before .before .before .before .before .before .before .args .limit)) (c .before .before .before .before .before .before .before .before .before .before .before .before .before .before .before .before .before .args .op) (valOf (c .before .before .before .before .before .before .before .before .before .before .before .before .before .before .before .before .before .args .items .now) (c .before .before .before .before .before .before .before .before .before .before .before .before .before .before .before .before .before .args .values .now) (c .before .before .before .before .before .before .before .before .before .before .before .before .before .before .before .before .before .args .a)) (c .before .before .before .before .before .before .before .before .before .before .before .before .before .before .before .before .before .args .items .now) (c .before .before .before .before .before .before .before .before .before .before .before .before .before .before .before .before .before .args .values .now) (c .before .before .before .before .before .before .before .before .before .before .before .before .before .before .before .before .before .args .b) (c .before .before .before .before .before .before .before .before .before .before .before .before .before .before .before .before .before .pre .1 .1)
-    ∙ ap3 (increment (c .before .before .before .before .before .before .before .before .before .before .before .before .before .before .before .before .before .args .ends .now) (c .before .before .before .before .before .before .before .before .before .before .before .before .before .before .before .before .before .args .defined .now)) (set-in (c .before .before .before .before .before .before .before .before .before .before .before .before .before .before .before .before .before .args .items .now) (c .before .before .before .before .before .before .before .before .before .before .before .before .before .before .before .before .before .args .values .now) (c .before .before .before .before .before .before .before .before .before .before .before .before .before .before .before .before .before .args .a) ∙ sym (c .before .before .before .before .before .before .before .before .before .before .before .origins-in .ensures))
-    (sym (returned (c .before .before .before .before .before .before .before .before .before .step-by .ok) ∙ c .before .before .before .before .before .before .before .before .before .step-by .ensures ∙ ap (stepBy (c .before .before .before .before .before .before .before .before .before .before .before .before .before .before .before .before .before .args .op)) (returned (c .before .before .before .before .before .before .before .before .before .before .to-int .ok) ∙ c .before .before .before .before .before .before .before .before .before .before .to-int .ensures ∙ int-in (c .before .before .before .before .before .before .before .before .before .before .before .before .before .before .before .before .before .args .limit) (c .before .before .before .before .before .before .before .before .before .before .before .before .before .before .before .before .before .args .items .now) (c .before .before .before .before .before .before .before .before .before .before .before .before .before .before .before .before .before .args .values .now) (c .before .before .before .before .before .before .before .before .before .before .before .before .before .before .before .before .before .args .b) (c .before .before .before .before .before .before .before .before .before .before .before .before .before .before .before .before .before .pre .1 .0 .1)))) (entries-in (c .before .before .before .before .before .before .before .before .before .before .before .before .before .before .before .before .before .args .items .now) (c .before .before .before .before .before .before .before .before .before .before .before .before .before .before .before .before .before .args .values .now) (c .before .before .before .before .before .before .before .before .before .before .before .before .before .before .before .before .before .args .a) ∙ sym (lends-held (c .before .before .before .before .before .before .before .before .before .before .before .before .before .before .before .before .before .args .limit) (c .before .before .before .before .before .before .before .before .before .before .before .before .before .before .before .before .before .args .items .now) (c .before .before .before .before .before .before .before .before .before .before .before .before .before .before .before .before .before .args .values .now) (c .before .before .before .before .before .before .before .before .before .before .before .before .before .start-of .result) (c .before .before .before .before .before .before .before .before .before .before .before .before .len-of .result) (c .before .before .before .before .before .before .before .before .before .before .before .before .before .before .before .before .before .args .a) (c .before .before .before .before .before .before .before .before .before .before .before .before .before .start-of .ensures) (c .before .before .before .before .before .before .before .before .before .before .before .before .len-of .ensures))))
-    (subst (Fine (c .before .before .before .before .before .before .before .before .before .before .before .before .before .before .before .before .before .args .limit)) (sym (right-int (definitions (c .before .before .before .before .before .before .before .before .before .before .before .before .before .before .before .before .before .args .ends .now) (c .before .before .before .before .before .before .before .before .before .before .before .before .before .before .before .before .before .args .defined .now) (c .before .before .before .before .before .before .before .before .before .before .before .before .before .before .before .before .before .args .limit)) (c .before .before .before .before .before .before .before .before .before .before .before .before .before .before .before .before .before .args .op) (valOf (c .before .before .before .before .before .before .before .before .before .before .before .before .before .before .before .before .before .args .items .now) (c .before .before .before .before .before .before .before .before .before .before .before .before .before .before .before .before .before .args .values .now) (c .before .before .before .before .before .before .before .before .before .before .before .before .before .before .before .before .before .args .a)) (c .before .before .before .before .before .before .before .before .before .before .before .before .before .before .before .before .before .args .items .now) (c .before .before .before .before .before .before .before .before .before .before .before .before .before .before .before .before .before .args .values .now) (c .before .before .before .before .before .before .before .before .before .before .before .before .before .before .before .before .before .args .b) (c .before .before .before .before .before .before .before .before .before .before .before .before .before .before .before .before .before .pre .1 .1)))
-    (shift-fine (c .before .before .before .before .before .before .before .before .before .before .before .before .before .before .before .before .before .args .limit) (c .before .before .before .before .before .before .before .before .before .before .before .before .before .before .before .before .before .args .ends .now) (c .before .before .before .before .before .before .before .before .before .before .before .before .before .before .before .before .before .args .defined .now) (originsIn (valOf (c .before .before .before .before .before .before .before .before .before .before .before .before .before .before .before .before .before .args .items .now) (c .before .before .before .before .before .before .before .before .before .before .before .before .before .before .before .before .before .args .values .now) (c .before .before .before .before .before .before .before .before .before .before .before .before .before .before .before .before .before .args .a))) (stepBy (c .before .before .before .before .before .before .before .before .before .before .before .before .before .before .before .before .before .args .op) (asInt (valOf (c .before .before .before .before .before .before .before .before .before .before .before .before .before .before .before .before .before .args .items .now) (c .before .before .before .before .before .before .before .before .before .before .before .before .before .before .before .before .before .args .values .now) (c .before .before .before .before .before .before .before .before .before .before .before .before .before .before .before .before .before .args .b)))) (entriesOf (valOf (c .before .before .before .before .before .before .before .before .before .before .before .before .before .before .before .before .before .args .items .now) (c .before .before .before .before .before .before .before .before .before .before .before .before .before .before .before .before .before .args .values .now) (c .before .before .before .before .before .before .before .before .before .before .before .before .before .before .before .before .before .args .a))) (c .before .before .before .before .before .before .before .before .before .before .before .before .before .before .before .before .before .pre .0 .within))) (c .before .before .before .before .before .before .before .before .before .before .before .before .before .before .before .before .before .pre .0 .small) (c .before .before .before .before .increment .ensures) in
-    (omega (arith, d .short, c .before .before .before .before .before .before .before .before .before .before .before .before .before .before .before .before .before .pre .0), d .rises, c .before .before .before .before .before .before .before .before .before .before .before .before .before .before .before .before .before .pre .0 .few)
+located-requires c κs = let s = c .before .before .before .before .before .before .before .before .before .before .before .before .before .before .before .before .before in
+    let d = done (definitions (s .args .ends .now) (s .args .defined .now) (s .args .limit)) (s .args .op) ((valOf (s .args .items .now) (s .args .values .now) (s .args .a)) ∷ (valOf (s .args .items .now) (s .args .values .now) (s .args .b)) ∷ [])
+    (right-int (definitions (s .args .ends .now) (s .args .defined .now) (s .args .limit)) (s .args .op) (valOf (s .args .items .now) (s .args .values .now) (s .args .a)) (s .args .items .now) (s .args .values .now) (s .args .b) (s .pre .1 .1)
+    ∙ ap3 (increment (s .args .ends .now) (s .args .defined .now)) (set-in (s .args .items .now) (s .args .values .now) (s .args .a) ∙ sym (c .before .before .before .before .before .before .before .before .before .before .before .origins-in .ensures))
+    (sym (returned (c .before .before .before .before .before .before .before .before .before .step-by .ok) ∙ c .before .before .before .before .before .before .before .before .before .step-by .ensures ∙ ap (stepBy (s .args .op)) (returned (c .before .before .before .before .before .before .before .before .before .before .to-int .ok) ∙ c .before .before .before .before .before .before .before .before .before .before .to-int .ensures ∙ int-in (s .args .limit) (s .args .items .now) (s .args .values .now) (s .args .b) (s .pre .1 .0 .1)))) (entries-in (s .args .items .now) (s .args .values .now) (s .args .a) ∙ sym (lends-held (s .args .limit) (s .args .items .now) (s .args .values .now) (c .before .before .before .before .before .before .before .before .before .before .before .before .before .start-of .result) (c .before .before .before .before .before .before .before .before .before .before .before .before .len-of .result) (s .args .a) (c .before .before .before .before .before .before .before .before .before .before .before .before .before .start-of .ensures) (c .before .before .before .before .before .before .before .before .before .before .before .before .len-of .ensures))))
+    (subst (Fine (s .args .limit)) (sym (right-int (definitions (s .args .ends .now) (s .args .defined .now) (s .args .limit)) (s .args .op) (valOf (s .args .items .now) (s .args .values .now) (s .args .a)) (s .args .items .now) (s .args .values .now) (s .args .b) (s .pre .1 .1)))
+    (shift-fine (s .args .limit) (s .args .ends .now) (s .args .defined .now) (originsIn (valOf (s .args .items .now) (s .args .values .now) (s .args .a))) (stepBy (s .args .op) (asInt (valOf (s .args .items .now) (s .args .values .now) (s .args .b)))) (entriesOf (valOf (s .args .items .now) (s .args .values .now) (s .args .a))) (s .pre .0 .within))) (s .pre .0 .small) (c .before .before .before .before .increment .ensures) in
+    (omega (arith, d .short, s .pre .0), d .rises, s .pre .0 .few)
 
 same-length : tie.Need-same-length
 same-length c = search needs
@@ -77,13 +77,13 @@ same-length-2 : tie.Need-same-length-2
 same-length-2 c = search needs
 
 returns : tie.Need-returns
-returns c =
-    let d = done (definitions (c .before .before .before .before .before .before .before .before .before .before .before .before .before .before .before .before .before .before .args .ends .now) (c .before .before .before .before .before .before .before .before .before .before .before .before .before .before .before .before .before .before .args .defined .now) (c .before .before .before .before .before .before .before .before .before .before .before .before .before .before .before .before .before .before .args .limit)) (c .before .before .before .before .before .before .before .before .before .before .before .before .before .before .before .before .before .before .args .op) ((valOf (c .before .before .before .before .before .before .before .before .before .before .before .before .before .before .before .before .before .before .args .items .now) (c .before .before .before .before .before .before .before .before .before .before .before .before .before .before .before .before .before .before .args .values .now) (c .before .before .before .before .before .before .before .before .before .before .before .before .before .before .before .before .before .before .args .a)) ∷ (valOf (c .before .before .before .before .before .before .before .before .before .before .before .before .before .before .before .before .before .before .args .items .now) (c .before .before .before .before .before .before .before .before .before .before .before .before .before .before .before .before .before .before .args .values .now) (c .before .before .before .before .before .before .before .before .before .before .before .before .before .before .before .before .before .before .args .b)) ∷ [])
-    (right-int (definitions (c .before .before .before .before .before .before .before .before .before .before .before .before .before .before .before .before .before .before .args .ends .now) (c .before .before .before .before .before .before .before .before .before .before .before .before .before .before .before .before .before .before .args .defined .now) (c .before .before .before .before .before .before .before .before .before .before .before .before .before .before .before .before .before .before .args .limit)) (c .before .before .before .before .before .before .before .before .before .before .before .before .before .before .before .before .before .before .args .op) (valOf (c .before .before .before .before .before .before .before .before .before .before .before .before .before .before .before .before .before .before .args .items .now) (c .before .before .before .before .before .before .before .before .before .before .before .before .before .before .before .before .before .before .args .values .now) (c .before .before .before .before .before .before .before .before .before .before .before .before .before .before .before .before .before .before .args .a)) (c .before .before .before .before .before .before .before .before .before .before .before .before .before .before .before .before .before .before .args .items .now) (c .before .before .before .before .before .before .before .before .before .before .before .before .before .before .before .before .before .before .args .values .now) (c .before .before .before .before .before .before .before .before .before .before .before .before .before .before .before .before .before .before .args .b) (c .before .before .before .before .before .before .before .before .before .before .before .before .before .before .before .before .before .before .pre .1 .1)
-    ∙ ap3 (increment (c .before .before .before .before .before .before .before .before .before .before .before .before .before .before .before .before .before .before .args .ends .now) (c .before .before .before .before .before .before .before .before .before .before .before .before .before .before .before .before .before .before .args .defined .now)) (set-in (c .before .before .before .before .before .before .before .before .before .before .before .before .before .before .before .before .before .before .args .items .now) (c .before .before .before .before .before .before .before .before .before .before .before .before .before .before .before .before .before .before .args .values .now) (c .before .before .before .before .before .before .before .before .before .before .before .before .before .before .before .before .before .before .args .a) ∙ sym (c .before .before .before .before .before .before .before .before .before .before .before .before .origins-in .ensures))
-    (sym (returned (c .before .before .before .before .before .before .before .before .before .before .step-by .ok) ∙ c .before .before .before .before .before .before .before .before .before .before .step-by .ensures ∙ ap (stepBy (c .before .before .before .before .before .before .before .before .before .before .before .before .before .before .before .before .before .before .args .op)) (returned (c .before .before .before .before .before .before .before .before .before .before .before .to-int .ok) ∙ c .before .before .before .before .before .before .before .before .before .before .before .to-int .ensures ∙ int-in (c .before .before .before .before .before .before .before .before .before .before .before .before .before .before .before .before .before .before .args .limit) (c .before .before .before .before .before .before .before .before .before .before .before .before .before .before .before .before .before .before .args .items .now) (c .before .before .before .before .before .before .before .before .before .before .before .before .before .before .before .before .before .before .args .values .now) (c .before .before .before .before .before .before .before .before .before .before .before .before .before .before .before .before .before .before .args .b) (c .before .before .before .before .before .before .before .before .before .before .before .before .before .before .before .before .before .before .pre .1 .0 .1)))) (entries-in (c .before .before .before .before .before .before .before .before .before .before .before .before .before .before .before .before .before .before .args .items .now) (c .before .before .before .before .before .before .before .before .before .before .before .before .before .before .before .before .before .before .args .values .now) (c .before .before .before .before .before .before .before .before .before .before .before .before .before .before .before .before .before .before .args .a) ∙ sym (lends-held (c .before .before .before .before .before .before .before .before .before .before .before .before .before .before .before .before .before .before .args .limit) (c .before .before .before .before .before .before .before .before .before .before .before .before .before .before .before .before .before .before .args .items .now) (c .before .before .before .before .before .before .before .before .before .before .before .before .before .before .before .before .before .before .args .values .now) (c .before .before .before .before .before .before .before .before .before .before .before .before .before .before .start-of .result) (c .before .before .before .before .before .before .before .before .before .before .before .before .before .len-of .result) (c .before .before .before .before .before .before .before .before .before .before .before .before .before .before .before .before .before .before .args .a) (c .before .before .before .before .before .before .before .before .before .before .before .before .before .before .start-of .ensures) (c .before .before .before .before .before .before .before .before .before .before .before .before .before .len-of .ensures))))
-    (subst (Fine (c .before .before .before .before .before .before .before .before .before .before .before .before .before .before .before .before .before .before .args .limit)) (sym (right-int (definitions (c .before .before .before .before .before .before .before .before .before .before .before .before .before .before .before .before .before .before .args .ends .now) (c .before .before .before .before .before .before .before .before .before .before .before .before .before .before .before .before .before .before .args .defined .now) (c .before .before .before .before .before .before .before .before .before .before .before .before .before .before .before .before .before .before .args .limit)) (c .before .before .before .before .before .before .before .before .before .before .before .before .before .before .before .before .before .before .args .op) (valOf (c .before .before .before .before .before .before .before .before .before .before .before .before .before .before .before .before .before .before .args .items .now) (c .before .before .before .before .before .before .before .before .before .before .before .before .before .before .before .before .before .before .args .values .now) (c .before .before .before .before .before .before .before .before .before .before .before .before .before .before .before .before .before .before .args .a)) (c .before .before .before .before .before .before .before .before .before .before .before .before .before .before .before .before .before .before .args .items .now) (c .before .before .before .before .before .before .before .before .before .before .before .before .before .before .before .before .before .before .args .values .now) (c .before .before .before .before .before .before .before .before .before .before .before .before .before .before .before .before .before .before .args .b) (c .before .before .before .before .before .before .before .before .before .before .before .before .before .before .before .before .before .before .pre .1 .1)))
-    (shift-fine (c .before .before .before .before .before .before .before .before .before .before .before .before .before .before .before .before .before .before .args .limit) (c .before .before .before .before .before .before .before .before .before .before .before .before .before .before .before .before .before .before .args .ends .now) (c .before .before .before .before .before .before .before .before .before .before .before .before .before .before .before .before .before .before .args .defined .now) (originsIn (valOf (c .before .before .before .before .before .before .before .before .before .before .before .before .before .before .before .before .before .before .args .items .now) (c .before .before .before .before .before .before .before .before .before .before .before .before .before .before .before .before .before .before .args .values .now) (c .before .before .before .before .before .before .before .before .before .before .before .before .before .before .before .before .before .before .args .a))) (stepBy (c .before .before .before .before .before .before .before .before .before .before .before .before .before .before .before .before .before .before .args .op) (asInt (valOf (c .before .before .before .before .before .before .before .before .before .before .before .before .before .before .before .before .before .before .args .items .now) (c .before .before .before .before .before .before .before .before .before .before .before .before .before .before .before .before .before .before .args .values .now) (c .before .before .before .before .before .before .before .before .before .before .before .before .before .before .before .before .before .before .args .b)))) (entriesOf (valOf (c .before .before .before .before .before .before .before .before .before .before .before .before .before .before .before .before .before .before .args .items .now) (c .before .before .before .before .before .before .before .before .before .before .before .before .before .before .before .before .before .before .args .values .now) (c .before .before .before .before .before .before .before .before .before .before .before .before .before .before .before .before .before .before .args .a))) (c .before .before .before .before .before .before .before .before .before .before .before .before .before .before .before .before .before .before .pre .0 .within))) (c .before .before .before .before .before .before .before .before .before .before .before .before .before .before .before .before .before .before .pre .0 .small) (c .before .before .before .before .before .increment .ensures) in
+returns c = let s = c .before .before .before .before .before .before .before .before .before .before .before .before .before .before .before .before .before .before in
+    let d = done (definitions (s .args .ends .now) (s .args .defined .now) (s .args .limit)) (s .args .op) ((valOf (s .args .items .now) (s .args .values .now) (s .args .a)) ∷ (valOf (s .args .items .now) (s .args .values .now) (s .args .b)) ∷ [])
+    (right-int (definitions (s .args .ends .now) (s .args .defined .now) (s .args .limit)) (s .args .op) (valOf (s .args .items .now) (s .args .values .now) (s .args .a)) (s .args .items .now) (s .args .values .now) (s .args .b) (s .pre .1 .1)
+    ∙ ap3 (increment (s .args .ends .now) (s .args .defined .now)) (set-in (s .args .items .now) (s .args .values .now) (s .args .a) ∙ sym (c .before .before .before .before .before .before .before .before .before .before .before .before .origins-in .ensures))
+    (sym (returned (c .before .before .before .before .before .before .before .before .before .before .step-by .ok) ∙ c .before .before .before .before .before .before .before .before .before .before .step-by .ensures ∙ ap (stepBy (s .args .op)) (returned (c .before .before .before .before .before .before .before .before .before .before .before .to-int .ok) ∙ c .before .before .before .before .before .before .before .before .before .before .before .to-int .ensures ∙ int-in (s .args .limit) (s .args .items .now) (s .args .values .now) (s .args .b) (s .pre .1 .0 .1)))) (entries-in (s .args .items .now) (s .args .values .now) (s .args .a) ∙ sym (lends-held (s .args .limit) (s .args .items .now) (s .args .values .now) (c .before .before .before .before .before .before .before .before .before .before .before .before .before .before .start-of .result) (c .before .before .before .before .before .before .before .before .before .before .before .before .before .len-of .result) (s .args .a) (c .before .before .before .before .before .before .before .before .before .before .before .before .before .before .start-of .ensures) (c .before .before .before .before .before .before .before .before .before .before .before .before .before .len-of .ensures))))
+    (subst (Fine (s .args .limit)) (sym (right-int (definitions (s .args .ends .now) (s .args .defined .now) (s .args .limit)) (s .args .op) (valOf (s .args .items .now) (s .args .values .now) (s .args .a)) (s .args .items .now) (s .args .values .now) (s .args .b) (s .pre .1 .1)))
+    (shift-fine (s .args .limit) (s .args .ends .now) (s .args .defined .now) (originsIn (valOf (s .args .items .now) (s .args .values .now) (s .args .a))) (stepBy (s .args .op) (asInt (valOf (s .args .items .now) (s .args .values .now) (s .args .b)))) (entriesOf (valOf (s .args .items .now) (s .args .values .now) (s .args .a))) (s .pre .0 .within))) (s .pre .0 .small) (c .before .before .before .before .before .increment .ensures) in
     d .answers _ (c .located .ensures)
 
 pub list-int-spec : {M : Type 1} → statement M

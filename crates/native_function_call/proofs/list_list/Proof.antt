@@ -80,20 +80,20 @@ part-merge-end-4 : tie.Need-part-merge-end-4
 part-merge-end-4 c = search needs
 
 merge-requires : tie.Need-merge-requires
-merge-requires c κs =
-    let h : (c .before .before .before .before .before .before .before .before .before .before .before .before .before .args .limit) ≤ (room (c .before .before .before .before .before .before .before .before .before .before .before .before .before .args .oi .now) (c .before .before .before .before .before .before .before .before .before .before .before .before .before .args .ov .now)) = omega (arith, c .before .before .before .before .before .before .before .before .before .before .before .before .before .pre .0) in (
-      lends-lent (room (c .before .before .before .before .before .before .before .before .before .before .before .before .before .args .oi .now) (c .before .before .before .before .before .before .before .before .before .before .before .before .before .args .ov .now)) (c .before .before .before .before .before .before .before .before .before .before .before .before .before .args .items .now) (c .before .before .before .before .before .before .before .before .before .before .before .before .before .args .values .now) (c .before .before .before .before .before .before .before .before .before .start-of .result) (c .before .before .before .before .before .before .before .before .len-of .result) (c .before .before .before .before .before .before .before .before .before .before .before .before .before .args .a) (c .before .before .before .before .before .before .before .before .before .start-of .ensures) (c .before .before .before .before .before .before .before .before .len-of .ensures) (formed-limit (c .before .before .before .before .before .before .before .before .before .before .before .before .before .args .limit) (c .before .before .before .before .before .before .before .before .before .before .before .before .before .args .items .now) (c .before .before .before .before .before .before .before .before .before .before .before .before .before .args .values .now) (room (c .before .before .before .before .before .before .before .before .before .before .before .before .before .args .oi .now) (c .before .before .before .before .before .before .before .before .before .before .before .before .before .args .ov .now)) (c .before .before .before .before .before .before .before .before .before .before .before .before .before .args .a) h (c .before .before .before .before .before .before .before .before .before .before .before .before .before .pre .1 .0 .0)),
-      lends-lent (room (c .before .before .before .before .before .before .before .before .before .before .before .before .before .args .oi .now) (c .before .before .before .before .before .before .before .before .before .before .before .before .before .args .ov .now)) (c .before .before .before .before .before .before .before .before .before .before .before .before .before .args .items .now) (c .before .before .before .before .before .before .before .before .before .before .before .before .before .args .values .now) (c .before .before .before .before .before .before .before .start-of2 .result) (c .before .before .before .before .before .before .len-of2 .result) (c .before .before .before .before .before .before .before .before .before .before .before .before .before .args .b) (c .before .before .before .before .before .before .before .start-of2 .ensures) (c .before .before .before .before .before .before .len-of2 .ensures) (formed-limit (c .before .before .before .before .before .before .before .before .before .before .before .before .before .args .limit) (c .before .before .before .before .before .before .before .before .before .before .before .before .before .args .items .now) (c .before .before .before .before .before .before .before .before .before .before .before .before .before .args .values .now) (room (c .before .before .before .before .before .before .before .before .before .before .before .before .before .args .oi .now) (c .before .before .before .before .before .before .before .before .before .before .before .before .before .args .ov .now)) (c .before .before .before .before .before .before .before .before .before .before .before .before .before .args .b) h (c .before .before .before .before .before .before .before .before .before .before .before .before .before .pre .1 .0 .1)),
+merge-requires c κs = let s = c .before .before .before .before .before .before .before .before .before .before .before .before .before in
+    let h : (s .args .limit) ≤ (room (s .args .oi .now) (s .args .ov .now)) = omega (arith, s .pre .0) in (
+      lends-lent (room (s .args .oi .now) (s .args .ov .now)) (s .args .items .now) (s .args .values .now) (c .before .before .before .before .before .before .before .before .before .start-of .result) (c .before .before .before .before .before .before .before .before .len-of .result) (s .args .a) (c .before .before .before .before .before .before .before .before .before .start-of .ensures) (c .before .before .before .before .before .before .before .before .len-of .ensures) (formed-limit (s .args .limit) (s .args .items .now) (s .args .values .now) (room (s .args .oi .now) (s .args .ov .now)) (s .args .a) h (s .pre .1 .0 .0)),
+      lends-lent (room (s .args .oi .now) (s .args .ov .now)) (s .args .items .now) (s .args .values .now) (c .before .before .before .before .before .before .before .start-of2 .result) (c .before .before .before .before .before .before .len-of2 .result) (s .args .b) (c .before .before .before .before .before .before .before .start-of2 .ensures) (c .before .before .before .before .before .before .len-of2 .ensures) (formed-limit (s .args .limit) (s .args .items .now) (s .args .values .now) (room (s .args .oi .now) (s .args .ov .now)) (s .args .b) h (s .pre .1 .0 .1)),
     )
 
 located-requires : tie.Need-located-requires
-located-requires c κs =
-    let d = made (definitions (c .before .before .before .before .before .before .before .before .before .before .before .before .before .before .before .before .before .before .args .ends .now) (c .before .before .before .before .before .before .before .before .before .before .before .before .before .before .before .before .before .before .args .defined .now) (c .before .before .before .before .before .before .before .before .before .before .before .before .before .before .before .before .before .before .args .limit)) (c .before .before .before .before .before .before .before .before .before .before .before .before .before .before .before .before .before .before .args .op) ((valOf (c .before .before .before .before .before .before .before .before .before .before .before .before .before .before .before .before .before .before .args .items .now) (c .before .before .before .before .before .before .before .before .before .before .before .before .before .before .before .before .before .before .args .values .now) (c .before .before .before .before .before .before .before .before .before .before .before .before .before .before .before .before .before .before .args .a)) ∷ (valOf (c .before .before .before .before .before .before .before .before .before .before .before .before .before .before .before .before .before .before .args .items .now) (c .before .before .before .before .before .before .before .before .before .before .before .before .before .before .before .before .before .before .args .values .now) (c .before .before .before .before .before .before .before .before .before .before .before .before .before .before .before .before .before .before .args .b)) ∷ [])
-    (right-list (definitions (c .before .before .before .before .before .before .before .before .before .before .before .before .before .before .before .before .before .before .args .ends .now) (c .before .before .before .before .before .before .before .before .before .before .before .before .before .before .before .before .before .before .args .defined .now) (c .before .before .before .before .before .before .before .before .before .before .before .before .before .before .before .before .before .before .args .limit)) (c .before .before .before .before .before .before .before .before .before .before .before .before .before .before .before .before .before .before .args .op) (valOf (c .before .before .before .before .before .before .before .before .before .before .before .before .before .before .before .before .before .before .args .items .now) (c .before .before .before .before .before .before .before .before .before .before .before .before .before .before .before .before .before .before .args .values .now) (c .before .before .before .before .before .before .before .before .before .before .before .before .before .before .before .before .before .before .args .a)) (c .before .before .before .before .before .before .before .before .before .before .before .before .before .before .before .before .before .before .args .items .now) (c .before .before .before .before .before .before .before .before .before .before .before .before .before .before .before .before .before .before .args .values .now) (c .before .before .before .before .before .before .before .before .before .before .before .before .before .before .before .before .before .before .args .b) (c .before .before .before .before .before .before .before .before .before .before .before .before .before .before .before .before .before .before .pre .1 .1)
-    ∙ ap2 (mergeL (c .before .before .before .before .before .before .before .before .before .before .before .before .before .before .before .before .before .before .args .limit) (c .before .before .before .before .before .before .before .before .before .before .before .before .before .before .before .before .before .before .args .op)) (entries-in (c .before .before .before .before .before .before .before .before .before .before .before .before .before .before .before .before .before .before .args .items .now) (c .before .before .before .before .before .before .before .before .before .before .before .before .before .before .before .before .before .before .args .values .now) (c .before .before .before .before .before .before .before .before .before .before .before .before .before .before .before .before .before .before .args .a) ∙ sym (lends-held (c .before .before .before .before .before .before .before .before .before .before .before .before .before .before .before .before .before .before .args .limit) (c .before .before .before .before .before .before .before .before .before .before .before .before .before .before .before .before .before .before .args .items .now) (c .before .before .before .before .before .before .before .before .before .before .before .before .before .before .before .before .before .before .args .values .now) (c .before .before .before .before .before .before .before .before .before .before .before .before .before .before .start-of .result) (c .before .before .before .before .before .before .before .before .before .before .before .before .before .len-of .result) (c .before .before .before .before .before .before .before .before .before .before .before .before .before .before .before .before .before .before .args .a) (c .before .before .before .before .before .before .before .before .before .before .before .before .before .before .start-of .ensures) (c .before .before .before .before .before .before .before .before .before .before .before .before .before .len-of .ensures))) (entries-in (c .before .before .before .before .before .before .before .before .before .before .before .before .before .before .before .before .before .before .args .items .now) (c .before .before .before .before .before .before .before .before .before .before .before .before .before .before .before .before .before .before .args .values .now) (c .before .before .before .before .before .before .before .before .before .before .before .before .before .before .before .before .before .before .args .b) ∙ sym (lends-held (c .before .before .before .before .before .before .before .before .before .before .before .before .before .before .before .before .before .before .args .limit) (c .before .before .before .before .before .before .before .before .before .before .before .before .before .before .before .before .before .before .args .items .now) (c .before .before .before .before .before .before .before .before .before .before .before .before .before .before .before .before .before .before .args .values .now) (c .before .before .before .before .before .before .before .before .before .before .before .before .start-of2 .result) (c .before .before .before .before .before .before .before .before .before .before .before .len-of2 .result) (c .before .before .before .before .before .before .before .before .before .before .before .before .before .before .before .before .before .before .args .b) (c .before .before .before .before .before .before .before .before .before .before .before .before .start-of2 .ensures) (c .before .before .before .before .before .before .before .before .before .before .before .len-of2 .ensures))))
-    (merge-fine (c .before .before .before .before .before .before .before .before .before .before .before .before .before .before .before .before .before .before .args .limit) (c .before .before .before .before .before .before .before .before .before .before .before .before .before .before .before .before .before .before .args .op) _ _) (c .before .before .before .before .before .before .before .before .before .before .before .before .before .before .before .before .before .before .pre .0 .small)
-    (c .before .before .before .before .merge .ensures (c .before .before .before .before .before .before .before .before .before .before .before .before .before .before .before .before .before .before .args .limit) (of-lent (c .before .before .before .before .before .before .before .before .before .before .before .before .before .before .before .before .before .before .args .limit) _ _ (lends-lent (c .before .before .before .before .before .before .before .before .before .before .before .before .before .before .before .before .before .before .args .limit) (c .before .before .before .before .before .before .before .before .before .before .before .before .before .before .before .before .before .before .args .items .now) (c .before .before .before .before .before .before .before .before .before .before .before .before .before .before .before .before .before .before .args .values .now) (c .before .before .before .before .before .before .before .before .before .before .before .before .before .before .start-of .result) (c .before .before .before .before .before .before .before .before .before .before .before .before .before .len-of .result) (c .before .before .before .before .before .before .before .before .before .before .before .before .before .before .before .before .before .before .args .a) (c .before .before .before .before .before .before .before .before .before .before .before .before .before .before .start-of .ensures) (c .before .before .before .before .before .before .before .before .before .before .before .before .before .len-of .ensures) (c .before .before .before .before .before .before .before .before .before .before .before .before .before .before .before .before .before .before .pre .1 .0 .0))) (of-lent (c .before .before .before .before .before .before .before .before .before .before .before .before .before .before .before .before .before .before .args .limit) _ _ (lends-lent (c .before .before .before .before .before .before .before .before .before .before .before .before .before .before .before .before .before .before .args .limit) (c .before .before .before .before .before .before .before .before .before .before .before .before .before .before .before .before .before .before .args .items .now) (c .before .before .before .before .before .before .before .before .before .before .before .before .before .before .before .before .before .before .args .values .now) (c .before .before .before .before .before .before .before .before .before .before .before .before .start-of2 .result) (c .before .before .before .before .before .before .before .before .before .before .before .len-of2 .result) (c .before .before .before .before .before .before .before .before .before .before .before .before .before .before .before .before .before .before .args .b) (c .before .before .before .before .before .before .before .before .before .before .before .before .start-of2 .ensures) (c .before .before .before .before .before .before .before .before .before .before .before .len-of2 .ensures) (c .before .before .before .before .before .before .before .before .before .before .before .before .before .before .before .before .before .before .pre .1 .0 .1)))) in
-    (omega (arith, d .short, c .before .before .before .before .before .before .before .before .before .before .before .before .before .before .before .before .before .before .pre .0), d .rises, c .before .before .before .before .before .before .before .before .before .before .before .before .before .before .before .before .before .before .pre .0 .few)
+located-requires c κs = let s = c .before .before .before .before .before .before .before .before .before .before .before .before .before .before .before .before .before .before in
+    let d = made (definitions (s .args .ends .now) (s .args .defined .now) (s .args .limit)) (s .args .op) ((valOf (s .args .items .now) (s .args .values .now) (s .args .a)) ∷ (valOf (s .args .items .now) (s .args .values .now) (s .args .b)) ∷ [])
+    (right-list (definitions (s .args .ends .now) (s .args .defined .now) (s .args .limit)) (s .args .op) (valOf (s .args .items .now) (s .args .values .now) (s .args .a)) (s .args .items .now) (s .args .values .now) (s .args .b) (s .pre .1 .1)
+    ∙ ap2 (mergeL (s .args .limit) (s .args .op)) (entries-in (s .args .items .now) (s .args .values .now) (s .args .a) ∙ sym (lends-held (s .args .limit) (s .args .items .now) (s .args .values .now) (c .before .before .before .before .before .before .before .before .before .before .before .before .before .before .start-of .result) (c .before .before .before .before .before .before .before .before .before .before .before .before .before .len-of .result) (s .args .a) (c .before .before .before .before .before .before .before .before .before .before .before .before .before .before .start-of .ensures) (c .before .before .before .before .before .before .before .before .before .before .before .before .before .len-of .ensures))) (entries-in (s .args .items .now) (s .args .values .now) (s .args .b) ∙ sym (lends-held (s .args .limit) (s .args .items .now) (s .args .values .now) (c .before .before .before .before .before .before .before .before .before .before .before .before .start-of2 .result) (c .before .before .before .before .before .before .before .before .before .before .before .len-of2 .result) (s .args .b) (c .before .before .before .before .before .before .before .before .before .before .before .before .start-of2 .ensures) (c .before .before .before .before .before .before .before .before .before .before .before .len-of2 .ensures))))
+    (merge-fine (s .args .limit) (s .args .op) _ _) (s .pre .0 .small)
+    (c .before .before .before .before .merge .ensures (s .args .limit) (of-lent (s .args .limit) _ _ (lends-lent (s .args .limit) (s .args .items .now) (s .args .values .now) (c .before .before .before .before .before .before .before .before .before .before .before .before .before .before .start-of .result) (c .before .before .before .before .before .before .before .before .before .before .before .before .before .len-of .result) (s .args .a) (c .before .before .before .before .before .before .before .before .before .before .before .before .before .before .start-of .ensures) (c .before .before .before .before .before .before .before .before .before .before .before .before .before .len-of .ensures) (s .pre .1 .0 .0))) (of-lent (s .args .limit) _ _ (lends-lent (s .args .limit) (s .args .items .now) (s .args .values .now) (c .before .before .before .before .before .before .before .before .before .before .before .before .start-of2 .result) (c .before .before .before .before .before .before .before .before .before .before .before .len-of2 .result) (s .args .b) (c .before .before .before .before .before .before .before .before .before .before .before .before .start-of2 .ensures) (c .before .before .before .before .before .before .before .before .before .before .before .len-of2 .ensures) (s .pre .1 .0 .1)))) in
+    (omega (arith, d .short, s .pre .0), d .rises, s .pre .0 .few)
 
 same-length : tie.Need-same-length
 same-length c = search needs
@@ -102,12 +102,12 @@ same-length-2 : tie.Need-same-length-2
 same-length-2 c = search needs
 
 returns : tie.Need-returns
-returns c =
-    let d = made (definitions (c .before .before .before .before .before .before .before .before .before .before .before .before .before .before .before .before .before .before .before .args .ends .now) (c .before .before .before .before .before .before .before .before .before .before .before .before .before .before .before .before .before .before .before .args .defined .now) (c .before .before .before .before .before .before .before .before .before .before .before .before .before .before .before .before .before .before .before .args .limit)) (c .before .before .before .before .before .before .before .before .before .before .before .before .before .before .before .before .before .before .before .args .op) ((valOf (c .before .before .before .before .before .before .before .before .before .before .before .before .before .before .before .before .before .before .before .args .items .now) (c .before .before .before .before .before .before .before .before .before .before .before .before .before .before .before .before .before .before .before .args .values .now) (c .before .before .before .before .before .before .before .before .before .before .before .before .before .before .before .before .before .before .before .args .a)) ∷ (valOf (c .before .before .before .before .before .before .before .before .before .before .before .before .before .before .before .before .before .before .before .args .items .now) (c .before .before .before .before .before .before .before .before .before .before .before .before .before .before .before .before .before .before .before .args .values .now) (c .before .before .before .before .before .before .before .before .before .before .before .before .before .before .before .before .before .before .before .args .b)) ∷ [])
-    (right-list (definitions (c .before .before .before .before .before .before .before .before .before .before .before .before .before .before .before .before .before .before .before .args .ends .now) (c .before .before .before .before .before .before .before .before .before .before .before .before .before .before .before .before .before .before .before .args .defined .now) (c .before .before .before .before .before .before .before .before .before .before .before .before .before .before .before .before .before .before .before .args .limit)) (c .before .before .before .before .before .before .before .before .before .before .before .before .before .before .before .before .before .before .before .args .op) (valOf (c .before .before .before .before .before .before .before .before .before .before .before .before .before .before .before .before .before .before .before .args .items .now) (c .before .before .before .before .before .before .before .before .before .before .before .before .before .before .before .before .before .before .before .args .values .now) (c .before .before .before .before .before .before .before .before .before .before .before .before .before .before .before .before .before .before .before .args .a)) (c .before .before .before .before .before .before .before .before .before .before .before .before .before .before .before .before .before .before .before .args .items .now) (c .before .before .before .before .before .before .before .before .before .before .before .before .before .before .before .before .before .before .before .args .values .now) (c .before .before .before .before .before .before .before .before .before .before .before .before .before .before .before .before .before .before .before .args .b) (c .before .before .before .before .before .before .before .before .before .before .before .before .before .before .before .before .before .before .before .pre .1 .1)
-    ∙ ap2 (mergeL (c .before .before .before .before .before .before .before .before .before .before .before .before .before .before .before .before .before .before .before .args .limit) (c .before .before .before .before .before .before .before .before .before .before .before .before .before .before .before .before .before .before .before .args .op)) (entries-in (c .before .before .before .before .before .before .before .before .before .before .before .before .before .before .before .before .before .before .before .args .items .now) (c .before .before .before .before .before .before .before .before .before .before .before .before .before .before .before .before .before .before .before .args .values .now) (c .before .before .before .before .before .before .before .before .before .before .before .before .before .before .before .before .before .before .before .args .a) ∙ sym (lends-held (c .before .before .before .before .before .before .before .before .before .before .before .before .before .before .before .before .before .before .before .args .limit) (c .before .before .before .before .before .before .before .before .before .before .before .before .before .before .before .before .before .before .before .args .items .now) (c .before .before .before .before .before .before .before .before .before .before .before .before .before .before .before .before .before .before .before .args .values .now) (c .before .before .before .before .before .before .before .before .before .before .before .before .before .before .before .start-of .result) (c .before .before .before .before .before .before .before .before .before .before .before .before .before .before .len-of .result) (c .before .before .before .before .before .before .before .before .before .before .before .before .before .before .before .before .before .before .before .args .a) (c .before .before .before .before .before .before .before .before .before .before .before .before .before .before .before .start-of .ensures) (c .before .before .before .before .before .before .before .before .before .before .before .before .before .before .len-of .ensures))) (entries-in (c .before .before .before .before .before .before .before .before .before .before .before .before .before .before .before .before .before .before .before .args .items .now) (c .before .before .before .before .before .before .before .before .before .before .before .before .before .before .before .before .before .before .before .args .values .now) (c .before .before .before .before .before .before .before .before .before .before .before .before .before .before .before .before .before .before .before .args .b) ∙ sym (lends-held (c .before .before .before .before .before .before .before .before .before .before .before .before .before .before .before .before .before .before .before .args .limit) (c .before .before .before .before .before .before .before .before .before .before .before .before .before .before .before .before .before .before .before .args .items .now) (c .before .before .before .before .before .before .before .before .before .before .before .before .before .before .before .before .before .before .before .args .values .now) (c .before .before .before .before .before .before .before .before .before .before .before .before .before .start-of2 .result) (c .before .before .before .before .before .before .before .before .before .before .before .before .len-of2 .result) (c .before .before .before .before .before .before .before .before .before .before .before .before .before .before .before .before .before .before .before .args .b) (c .before .before .before .before .before .before .before .before .before .before .before .before .before .start-of2 .ensures) (c .before .before .before .before .before .before .before .before .before .before .before .before .len-of2 .ensures))))
-    (merge-fine (c .before .before .before .before .before .before .before .before .before .before .before .before .before .before .before .before .before .before .before .args .limit) (c .before .before .before .before .before .before .before .before .before .before .before .before .before .before .before .before .before .before .before .args .op) _ _) (c .before .before .before .before .before .before .before .before .before .before .before .before .before .before .before .before .before .before .before .pre .0 .small)
-    (c .before .before .before .before .before .merge .ensures (c .before .before .before .before .before .before .before .before .before .before .before .before .before .before .before .before .before .before .before .args .limit) (of-lent (c .before .before .before .before .before .before .before .before .before .before .before .before .before .before .before .before .before .before .before .args .limit) _ _ (lends-lent (c .before .before .before .before .before .before .before .before .before .before .before .before .before .before .before .before .before .before .before .args .limit) (c .before .before .before .before .before .before .before .before .before .before .before .before .before .before .before .before .before .before .before .args .items .now) (c .before .before .before .before .before .before .before .before .before .before .before .before .before .before .before .before .before .before .before .args .values .now) (c .before .before .before .before .before .before .before .before .before .before .before .before .before .before .before .start-of .result) (c .before .before .before .before .before .before .before .before .before .before .before .before .before .before .len-of .result) (c .before .before .before .before .before .before .before .before .before .before .before .before .before .before .before .before .before .before .before .args .a) (c .before .before .before .before .before .before .before .before .before .before .before .before .before .before .before .start-of .ensures) (c .before .before .before .before .before .before .before .before .before .before .before .before .before .before .len-of .ensures) (c .before .before .before .before .before .before .before .before .before .before .before .before .before .before .before .before .before .before .before .pre .1 .0 .0))) (of-lent (c .before .before .before .before .before .before .before .before .before .before .before .before .before .before .before .before .before .before .before .args .limit) _ _ (lends-lent (c .before .before .before .before .before .before .before .before .before .before .before .before .before .before .before .before .before .before .before .args .limit) (c .before .before .before .before .before .before .before .before .before .before .before .before .before .before .before .before .before .before .before .args .items .now) (c .before .before .before .before .before .before .before .before .before .before .before .before .before .before .before .before .before .before .before .args .values .now) (c .before .before .before .before .before .before .before .before .before .before .before .before .before .start-of2 .result) (c .before .before .before .before .before .before .before .before .before .before .before .before .len-of2 .result) (c .before .before .before .before .before .before .before .before .before .before .before .before .before .before .before .before .before .before .before .args .b) (c .before .before .before .before .before .before .before .before .before .before .before .before .before .start-of2 .ensures) (c .before .before .before .before .before .before .before .before .before .before .before .before .len-of2 .ensures) (c .before .before .before .before .before .before .before .before .before .before .before .before .before .before .before .before .before .before .before .pre .1 .0 .1)))) in
+returns c = let s = c .before .before .before .before .before .before .before .before .before .before .before .before .before .before .before .before .before .before .before in
+    let d = made (definitions (s .args .ends .now) (s .args .defined .now) (s .args .limit)) (s .args .op) ((valOf (s .args .items .now) (s .args .values .now) (s .args .a)) ∷ (valOf (s .args .items .now) (s .args .values .now) (s .args .b)) ∷ [])
+    (right-list (definitions (s .args .ends .now) (s .args .defined .now) (s .args .limit)) (s .args .op) (valOf (s .args .items .now) (s .args .values .now) (s .args .a)) (s .args .items .now) (s .args .values .now) (s .args .b) (s .pre .1 .1)
+    ∙ ap2 (mergeL (s .args .limit) (s .args .op)) (entries-in (s .args .items .now) (s .args .values .now) (s .args .a) ∙ sym (lends-held (s .args .limit) (s .args .items .now) (s .args .values .now) (c .before .before .before .before .before .before .before .before .before .before .before .before .before .before .before .start-of .result) (c .before .before .before .before .before .before .before .before .before .before .before .before .before .before .len-of .result) (s .args .a) (c .before .before .before .before .before .before .before .before .before .before .before .before .before .before .before .start-of .ensures) (c .before .before .before .before .before .before .before .before .before .before .before .before .before .before .len-of .ensures))) (entries-in (s .args .items .now) (s .args .values .now) (s .args .b) ∙ sym (lends-held (s .args .limit) (s .args .items .now) (s .args .values .now) (c .before .before .before .before .before .before .before .before .before .before .before .before .before .start-of2 .result) (c .before .before .before .before .before .before .before .before .before .before .before .before .len-of2 .result) (s .args .b) (c .before .before .before .before .before .before .before .before .before .before .before .before .before .start-of2 .ensures) (c .before .before .before .before .before .before .before .before .before .before .before .before .len-of2 .ensures))))
+    (merge-fine (s .args .limit) (s .args .op) _ _) (s .pre .0 .small)
+    (c .before .before .before .before .before .merge .ensures (s .args .limit) (of-lent (s .args .limit) _ _ (lends-lent (s .args .limit) (s .args .items .now) (s .args .values .now) (c .before .before .before .before .before .before .before .before .before .before .before .before .before .before .before .start-of .result) (c .before .before .before .before .before .before .before .before .before .before .before .before .before .before .len-of .result) (s .args .a) (c .before .before .before .before .before .before .before .before .before .before .before .before .before .before .before .start-of .ensures) (c .before .before .before .before .before .before .before .before .before .before .before .before .before .before .len-of .ensures) (s .pre .1 .0 .0))) (of-lent (s .args .limit) _ _ (lends-lent (s .args .limit) (s .args .items .now) (s .args .values .now) (c .before .before .before .before .before .before .before .before .before .before .before .before .before .start-of2 .result) (c .before .before .before .before .before .before .before .before .before .before .before .before .len-of2 .result) (s .args .b) (c .before .before .before .before .before .before .before .before .before .before .before .before .before .start-of2 .ensures) (c .before .before .before .before .before .before .before .before .before .before .before .before .len-of2 .ensures) (s .pre .1 .0 .1)))) in
     d .answers _ (c .located .ensures)
 
 pub list-list-spec : {M : Type 1} → statement M

@@ -5,8 +5,8 @@ use Rattle.native_function_call.proofs.located.Statement.{statement}
 use Rattle.native_function_call.proofs.located.Tie as tie
 
 slice-aggregate-origins-of : tie.Need-slice-aggregate-origins-of
-slice-aggregate-origins-of c =
-    sym (length-take-le (c .before .before .before .args .n) (c .before .before .before .args .items .now) (c .before .before .before .pre .0))
+slice-aggregate-origins-of c = let s = c .before .before .before in
+    sym (length-take-le (s .args .n) (s .args .items .now) (s .pre .0))
 
 origins-of-requires : tie.Need-origins-of-requires
 origins-of-requires c κs = search needs

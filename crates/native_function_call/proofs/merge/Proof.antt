@@ -28,8 +28,8 @@ same-length-2 c = search needs
 
 returns : tie.Need-returns
 unfolding mergeL
-returns c =
-    λ limit p q. wrote-is (ap (λ o. mergeL limit o (entries (c .before .before .before .before .before .before .before .before .before .before .args .ai .now) (c .before .before .before .before .before .before .before .before .before .before .args .av .now)) (entries (c .before .before .before .before .before .before .before .before .before .before .args .bi .now) (c .before .before .before .before .before .before .before .before .before .before .args .bv .now))) (c .before .before .before .before .before .before .match .keys1)) (c .before .before .before .union .ensures limit p q)
+returns c = let s = c .before .before .before .before .before .before .before .before .before .before in
+    λ limit p q. wrote-is (ap (λ o. mergeL limit o (entries (s .args .ai .now) (s .args .av .now)) (entries (s .args .bi .now) (s .args .bv .now))) (c .before .before .before .before .before .before .match .keys1)) (c .before .before .before .union .ensures limit p q)
 
 same-length-3 : tie.Need-same-length-3
 same-length-3 c = search needs
@@ -39,8 +39,8 @@ same-length-4 c = search needs
 
 returns-2 : tie.Need-returns-2
 unfolding mergeL
-returns-2 c =
-    λ limit p q. wrote-is (ap (λ o. mergeL limit o (entries (c .before .before .before .before .before .before .before .before .before .before .args .ai .now) (c .before .before .before .before .before .before .before .before .before .before .args .av .now)) (entries (c .before .before .before .before .before .before .before .before .before .before .args .bi .now) (c .before .before .before .before .before .before .before .before .before .before .args .bv .now))) (c .before .before .before .before .before .before .match .keys2) ∙ ap (λ (l : List ℕ). without limit (entries (c .before .before .before .before .before .before .before .before .before .before .args .ai .now) (c .before .before .before .before .before .before .before .before .before .before .args .av .now)) l) (items-entries (c .before .before .before .before .before .before .before .before .before .before .args .bi .now) (c .before .before .before .before .before .before .before .before .before .before .args .bv .now) (c .before .before .before .before .before .before .before .before .before .before .pre .1 .long))) (c .before .before .before .without .ensures limit p)
+returns-2 c = let s = c .before .before .before .before .before .before .before .before .before .before in
+    λ limit p q. wrote-is (ap (λ o. mergeL limit o (entries (s .args .ai .now) (s .args .av .now)) (entries (s .args .bi .now) (s .args .bv .now))) (c .before .before .before .before .before .before .match .keys2) ∙ ap (λ (l : List ℕ). without limit (entries (s .args .ai .now) (s .args .av .now)) l) (items-entries (s .args .bi .now) (s .args .bv .now) (s .pre .1 .long))) (c .before .before .before .without .ensures limit p)
 
 same-length-5 : tie.Need-same-length-5
 same-length-5 c = search needs
@@ -50,8 +50,8 @@ same-length-6 c = search needs
 
 returns-3 : tie.Need-returns-3
 unfolding mergeL
-returns-3 c =
-    λ limit p q. wrote-is (rw (ne-eqb _ _ (c .before .before .before .before .before .before .match .rest .0 .1), ne-eqb _ _ (c .before .before .before .before .before .before .match .rest .1)) (ap (λ (l : List ℕ). intersect limit (entries (c .before .before .before .before .before .before .before .before .before .before .args .ai .now) (c .before .before .before .before .before .before .before .before .before .before .args .av .now)) l) (items-entries (c .before .before .before .before .before .before .before .before .before .before .args .bi .now) (c .before .before .before .before .before .before .before .before .before .before .args .bv .now) (c .before .before .before .before .before .before .before .before .before .before .pre .1 .long)))) (c .before .before .before .intersect .ensures limit p)
+returns-3 c = let s = c .before .before .before .before .before .before .before .before .before .before in
+    λ limit p q. wrote-is (rw (ne-eqb _ _ (c .before .before .before .before .before .before .match .rest .0 .1), ne-eqb _ _ (c .before .before .before .before .before .before .match .rest .1)) (ap (λ (l : List ℕ). intersect limit (entries (s .args .ai .now) (s .args .av .now)) l) (items-entries (s .args .bi .now) (s .args .bv .now) (s .pre .1 .long)))) (c .before .before .before .intersect .ensures limit p)
 
 pub merge-spec : {M : Type 1} → statement M
 merge-spec =

@@ -15,13 +15,13 @@ neg-requires c κs = search needs
 
 returns : tie.Need-returns
 unfolding realUnary
-returns c =
-    λ limit is f. rw (eq-eqb _ _ (c .before .if1 .taken)) (c .neg .ensures ∙ ap negF (c .before .before .to-float .ensures ∙ float-in limit is (c .before .before .before .args .values .now) (c .before .before .before .args .a) f))
+returns c = let s = c .before .before .before in
+    λ limit is f. rw (eq-eqb _ _ (c .before .if1 .taken)) (c .neg .ensures ∙ ap negF (c .before .before .to-float .ensures ∙ float-in limit is (s .args .values .now) (s .args .a) f))
 
 returns-2 : tie.Need-returns-2
 unfolding realUnary
-returns-2 c =
-    λ limit is f. rw (ne-eqb _ _ (c .if1 .left)) (c .before .to-float .ensures ∙ float-in limit is (c .before .before .args .values .now) (c .before .before .args .a) f)
+returns-2 c = let s = c .before .before in
+    λ limit is f. rw (ne-eqb _ _ (c .if1 .left)) (c .before .to-float .ensures ∙ float-in limit is (s .args .values .now) (s .args .a) f)
 
 pub real1-spec : {M : Type 1} → statement M
 real1-spec = tie.close (tie.spec to-float-requires neg-requires returns returns-2)

@@ -35,23 +35,23 @@ test-lists-requires : tie.Need-test-lists-requires
 test-lists-requires c κs = search needs
 
 returns : tie.Need-returns
-returns c =
-    c .test-int .ensures ∙ ap2 (testZ (c .before .before .before .before .before .before .args .op)) (returned (c .before .before .to-int .ok) ∙ c .before .before .to-int .ensures ∙ int-in 65536 (c .before .before .before .before .before .before .args .items .now) (c .before .before .before .before .before .before .args .values .now) (c .before .before .before .before .before .before .args .a) (c .before .before .before .before .before .before .pre .0)) (returned (c .before .to-int2 .ok) ∙ c .before .to-int2 .ensures ∙ int-in 65536 (c .before .before .before .before .before .before .args .items .now) (c .before .before .before .before .before .before .args .values .now) (c .before .before .before .before .before .before .args .b) (c .before .before .before .before .before .before .pre .1))
-    ∙ sym (ap (λ (k : Kind). testAs k (c .before .before .before .before .before .before .args .op) (valOf (c .before .before .before .before .before .before .args .items .now) (c .before .before .before .before .before .before .args .values .now) (c .before .before .before .before .before .before .args .a)) (valOf (c .before .before .before .before .before .before .args .items .now) (c .before .before .before .before .before .before .args .values .now) (c .before .before .before .before .before .before .args .b))) (common-in (c .before .before .before .before .before .before .args .items .now) (c .before .before .before .before .before .before .args .values .now) (c .before .before .before .before .before .before .args .a) (c .before .before .before .before .before .before .args .b) (c .before .before .before .before .common .result) (c .before .before .before .before .common .ensures) ∙ ap kindAt (c .before .before .before .match .keys1)))
+returns c = let s = c .before .before .before .before .before .before in
+    c .test-int .ensures ∙ ap2 (testZ (s .args .op)) (returned (c .before .before .to-int .ok) ∙ c .before .before .to-int .ensures ∙ int-in 65536 (s .args .items .now) (s .args .values .now) (s .args .a) (s .pre .0)) (returned (c .before .to-int2 .ok) ∙ c .before .to-int2 .ensures ∙ int-in 65536 (s .args .items .now) (s .args .values .now) (s .args .b) (s .pre .1))
+    ∙ sym (ap (λ (k : Kind). testAs k (s .args .op) (valOf (s .args .items .now) (s .args .values .now) (s .args .a)) (valOf (s .args .items .now) (s .args .values .now) (s .args .b))) (common-in (s .args .items .now) (s .args .values .now) (s .args .a) (s .args .b) (c .before .before .before .before .common .result) (c .before .before .before .before .common .ensures) ∙ ap kindAt (c .before .before .before .match .keys1)))
 
 returns-2 : tie.Need-returns-2
-returns-2 c =
-    c .test-float .ensures ∙ ap2 (testF (c .before .before .before .before .before .before .args .op)) (c .before .before .to-float .ensures ∙ float-in 65536 (c .before .before .before .before .before .before .args .items .now) (c .before .before .before .before .before .before .args .values .now) (c .before .before .before .before .before .before .args .a) (c .before .before .before .before .before .before .pre .0)) (c .before .to-float2 .ensures ∙ float-in 65536 (c .before .before .before .before .before .before .args .items .now) (c .before .before .before .before .before .before .args .values .now) (c .before .before .before .before .before .before .args .b) (c .before .before .before .before .before .before .pre .1))
-    ∙ sym (ap (λ (k : Kind). testAs k (c .before .before .before .before .before .before .args .op) (valOf (c .before .before .before .before .before .before .args .items .now) (c .before .before .before .before .before .before .args .values .now) (c .before .before .before .before .before .before .args .a)) (valOf (c .before .before .before .before .before .before .args .items .now) (c .before .before .before .before .before .before .args .values .now) (c .before .before .before .before .before .before .args .b))) (common-in (c .before .before .before .before .before .before .args .items .now) (c .before .before .before .before .before .before .args .values .now) (c .before .before .before .before .before .before .args .a) (c .before .before .before .before .before .before .args .b) (c .before .before .before .before .common .result) (c .before .before .before .before .common .ensures) ∙ ap kindAt (c .before .before .before .match .keys2)))
+returns-2 c = let s = c .before .before .before .before .before .before in
+    c .test-float .ensures ∙ ap2 (testF (s .args .op)) (c .before .before .to-float .ensures ∙ float-in 65536 (s .args .items .now) (s .args .values .now) (s .args .a) (s .pre .0)) (c .before .to-float2 .ensures ∙ float-in 65536 (s .args .items .now) (s .args .values .now) (s .args .b) (s .pre .1))
+    ∙ sym (ap (λ (k : Kind). testAs k (s .args .op) (valOf (s .args .items .now) (s .args .values .now) (s .args .a)) (valOf (s .args .items .now) (s .args .values .now) (s .args .b))) (common-in (s .args .items .now) (s .args .values .now) (s .args .a) (s .args .b) (c .before .before .before .before .common .result) (c .before .before .before .before .common .ensures) ∙ ap kindAt (c .before .before .before .match .keys2)))
 
 returns-3 : tie.Need-returns-3
-returns-3 c =
-    c .test-lists .ensures ∙ sym (ap (λ (k : Kind). testAs k (c .before .before .before .before .args .op) (valOf (c .before .before .before .before .args .items .now) (c .before .before .before .before .args .values .now) (c .before .before .before .before .args .a)) (valOf (c .before .before .before .before .args .items .now) (c .before .before .before .before .args .values .now) (c .before .before .before .before .args .b))) (common-in (c .before .before .before .before .args .items .now) (c .before .before .before .before .args .values .now) (c .before .before .before .before .args .a) (c .before .before .before .before .args .b) (c .before .before .common .result) (c .before .before .common .ensures) ∙ ap kindAt (c .before .match .keys3)))
+returns-3 c = let s = c .before .before .before .before in
+    c .test-lists .ensures ∙ sym (ap (λ (k : Kind). testAs k (s .args .op) (valOf (s .args .items .now) (s .args .values .now) (s .args .a)) (valOf (s .args .items .now) (s .args .values .now) (s .args .b))) (common-in (s .args .items .now) (s .args .values .now) (s .args .a) (s .args .b) (c .before .before .common .result) (c .before .before .common .ensures) ∙ ap kindAt (c .before .match .keys3)))
 
 returns-4 : tie.Need-returns-4
-returns-4 c =
-    sym (test-other (c .before .common .result) (c .match .rest .0 .0 .1) (c .match .rest .0 .1) (c .match .rest .1) (c .before .before .before .args .op) (valOf (c .before .before .before .args .items .now) (c .before .before .before .args .values .now) (c .before .before .before .args .a)) (valOf (c .before .before .before .args .items .now) (c .before .before .before .args .values .now) (c .before .before .before .args .b)))
-    ∙ sym (ap (λ (k : Kind). testAs k (c .before .before .before .args .op) (valOf (c .before .before .before .args .items .now) (c .before .before .before .args .values .now) (c .before .before .before .args .a)) (valOf (c .before .before .before .args .items .now) (c .before .before .before .args .values .now) (c .before .before .before .args .b))) (common-in (c .before .before .before .args .items .now) (c .before .before .before .args .values .now) (c .before .before .before .args .a) (c .before .before .before .args .b) (c .before .common .result) (c .before .common .ensures)))
+returns-4 c = let s = c .before .before .before in
+    sym (test-other (c .before .common .result) (c .match .rest .0 .0 .1) (c .match .rest .0 .1) (c .match .rest .1) (s .args .op) (valOf (s .args .items .now) (s .args .values .now) (s .args .a)) (valOf (s .args .items .now) (s .args .values .now) (s .args .b)))
+    ∙ sym (ap (λ (k : Kind). testAs k (s .args .op) (valOf (s .args .items .now) (s .args .values .now) (s .args .a)) (valOf (s .args .items .now) (s .args .values .now) (s .args .b))) (common-in (s .args .items .now) (s .args .values .now) (s .args .a) (s .args .b) (c .before .common .result) (c .before .common .ensures)))
 
 pub test2-spec : {M : Type 1} → statement M
 test2-spec =

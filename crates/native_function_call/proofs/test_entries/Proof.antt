@@ -29,33 +29,33 @@ hasnt-requires c κs = search needs
 
 returns : tie.Need-returns
 unfolding testL
-returns c =
-    at (λ o. testL o (entries (c .before .before .before .before .args .ai .now) (c .before .before .before .before .args .av .now)) (entries (c .before .before .before .before .args .bi .now) (c .before .before .before .before .args .bv .now))) (c .before .match .keys1) (c .greater .ensures ∙ by-values greater 65536 (c .before .before .before .before .args .ai .now) (c .before .before .before .before .args .av .now) (c .before .before .before .before .args .bi .now) (c .before .before .before .before .args .bv .now) (c .before .before .before .before .pre .0) (c .before .before .before .before .pre .1))
+returns c = let s = c .before .before .before .before in
+    at (λ o. testL o (entries (s .args .ai .now) (s .args .av .now)) (entries (s .args .bi .now) (s .args .bv .now))) (c .before .match .keys1) (c .greater .ensures ∙ by-values greater 65536 (s .args .ai .now) (s .args .av .now) (s .args .bi .now) (s .args .bv .now) (s .pre .0) (s .pre .1))
 
 returns-2 : tie.Need-returns-2
 unfolding testL
-returns-2 c =
-    at (λ o. testL o (entries (c .before .before .before .before .args .ai .now) (c .before .before .before .before .args .av .now)) (entries (c .before .before .before .before .args .bi .now) (c .before .before .before .before .args .bv .now))) (c .before .match .keys2) (c .less .ensures ∙ by-values less 65536 (c .before .before .before .before .args .ai .now) (c .before .before .before .before .args .av .now) (c .before .before .before .before .args .bi .now) (c .before .before .before .before .args .bv .now) (c .before .before .before .before .pre .0) (c .before .before .before .before .pre .1))
+returns-2 c = let s = c .before .before .before .before in
+    at (λ o. testL o (entries (s .args .ai .now) (s .args .av .now)) (entries (s .args .bi .now) (s .args .bv .now))) (c .before .match .keys2) (c .less .ensures ∙ by-values less 65536 (s .args .ai .now) (s .args .av .now) (s .args .bi .now) (s .args .bv .now) (s .pre .0) (s .pre .1))
 
 returns-3 : tie.Need-returns-3
 unfolding testL
-returns-3 c =
-    at (λ o. testL o (entries (c .before .before .before .before .args .ai .now) (c .before .before .before .before .args .av .now)) (entries (c .before .before .before .before .args .bi .now) (c .before .before .before .before .args .bv .now))) (c .before .match .keys3) (c .greater-or-equals .ensures ∙ by-values greaterOrEquals 65536 (c .before .before .before .before .args .ai .now) (c .before .before .before .before .args .av .now) (c .before .before .before .before .args .bi .now) (c .before .before .before .before .args .bv .now) (c .before .before .before .before .pre .0) (c .before .before .before .before .pre .1))
+returns-3 c = let s = c .before .before .before .before in
+    at (λ o. testL o (entries (s .args .ai .now) (s .args .av .now)) (entries (s .args .bi .now) (s .args .bv .now))) (c .before .match .keys3) (c .greater-or-equals .ensures ∙ by-values greaterOrEquals 65536 (s .args .ai .now) (s .args .av .now) (s .args .bi .now) (s .args .bv .now) (s .pre .0) (s .pre .1))
 
 returns-4 : tie.Need-returns-4
 unfolding testL
-returns-4 c =
-    at (λ o. testL o (entries (c .before .before .before .before .args .ai .now) (c .before .before .before .before .args .av .now)) (entries (c .before .before .before .before .args .bi .now) (c .before .before .before .before .args .bv .now))) (c .before .match .keys4) (c .less-or-equals .ensures ∙ by-values lessOrEquals 65536 (c .before .before .before .before .args .ai .now) (c .before .before .before .before .args .av .now) (c .before .before .before .before .args .bi .now) (c .before .before .before .before .args .bv .now) (c .before .before .before .before .pre .0) (c .before .before .before .before .pre .1))
+returns-4 c = let s = c .before .before .before .before in
+    at (λ o. testL o (entries (s .args .ai .now) (s .args .av .now)) (entries (s .args .bi .now) (s .args .bv .now))) (c .before .match .keys4) (c .less-or-equals .ensures ∙ by-values lessOrEquals 65536 (s .args .ai .now) (s .args .av .now) (s .args .bi .now) (s .args .bv .now) (s .pre .0) (s .pre .1))
 
 returns-5 : tie.Need-returns-5
 unfolding testL
-returns-5 c =
-    at (λ o. testL o (entries (c .before .before .before .before .args .ai .now) (c .before .before .before .before .args .av .now)) (entries (c .before .before .before .before .args .bi .now) (c .before .before .before .before .args .bv .now))) (c .before .match .keys5) (c .has .ensures ∙ by-items has 65536 (c .before .before .before .before .args .ai .now) (c .before .before .before .before .args .av .now) (c .before .before .before .before .args .bi .now) (c .before .before .before .before .args .bv .now) (c .before .before .before .before .pre .0) (c .before .before .before .before .pre .1))
+returns-5 c = let s = c .before .before .before .before in
+    at (λ o. testL o (entries (s .args .ai .now) (s .args .av .now)) (entries (s .args .bi .now) (s .args .bv .now))) (c .before .match .keys5) (c .has .ensures ∙ by-items has 65536 (s .args .ai .now) (s .args .av .now) (s .args .bi .now) (s .args .bv .now) (s .pre .0) (s .pre .1))
 
 returns-6 : tie.Need-returns-6
 unfolding testL
-returns-6 c =
-    rw (ne-eqb _ _ (c .before .match .rest .0 .0 .0 .0 .1), ne-eqb _ _ (c .before .match .rest .0 .0 .0 .1), ne-eqb _ _ (c .before .match .rest .0 .0 .1), ne-eqb _ _ (c .before .match .rest .0 .1), ne-eqb _ _ (c .before .match .rest .1)) (c .hasnt .ensures ∙ by-items hasnt 65536 (c .before .before .before .before .args .ai .now) (c .before .before .before .before .args .av .now) (c .before .before .before .before .args .bi .now) (c .before .before .before .before .args .bv .now) (c .before .before .before .before .pre .0) (c .before .before .before .before .pre .1))
+returns-6 c = let s = c .before .before .before .before in
+    rw (ne-eqb _ _ (c .before .match .rest .0 .0 .0 .0 .1), ne-eqb _ _ (c .before .match .rest .0 .0 .0 .1), ne-eqb _ _ (c .before .match .rest .0 .0 .1), ne-eqb _ _ (c .before .match .rest .0 .1), ne-eqb _ _ (c .before .match .rest .1)) (c .hasnt .ensures ∙ by-items hasnt 65536 (s .args .ai .now) (s .args .av .now) (s .args .bi .now) (s .args .bv .now) (s .pre .0) (s .pre .1))
 
 pub test-entries-spec : {M : Type 1} → statement M
 test-entries-spec =

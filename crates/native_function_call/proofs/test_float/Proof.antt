@@ -43,38 +43,38 @@ either-requires c κs = search needs
 
 returns : tie.Need-returns
 unfolding testF
-returns c =
-    at (λ o. testF o (c .before .before .args .x) (c .before .before .args .y)) (c .before .match .keys1) (c .eq .ensures)
+returns c = let s = c .before .before in
+    at (λ o. testF o (s .args .x) (s .args .y)) (c .before .match .keys1) (c .eq .ensures)
 
 returns-2 : tie.Need-returns-2
 unfolding testF
-returns-2 c =
-    at (λ o. testF o (c .before .before .args .x) (c .before .before .args .y)) (c .before .match .keys2) (c .gt .ensures)
+returns-2 c = let s = c .before .before in
+    at (λ o. testF o (s .args .x) (s .args .y)) (c .before .match .keys2) (c .gt .ensures)
 
 returns-3 : tie.Need-returns-3
 unfolding testF
-returns-3 c =
-    at (λ o. testF o (c .before .before .args .x) (c .before .before .args .y)) (c .before .match .keys3) (c .lt .ensures)
+returns-3 c = let s = c .before .before in
+    at (λ o. testF o (s .args .x) (s .args .y)) (c .before .match .keys3) (c .lt .ensures)
 
 returns-4 : tie.Need-returns-4
 unfolding testF
-returns-4 c =
-    at (λ o. testF o (c .before .before .args .x) (c .before .before .args .y)) (c .before .match .keys4) (c .ge .ensures)
+returns-4 c = let s = c .before .before in
+    at (λ o. testF o (s .args .x) (s .args .y)) (c .before .match .keys4) (c .ge .ensures)
 
 returns-5 : tie.Need-returns-5
 unfolding testF
-returns-5 c =
-    at (λ o. testF o (c .before .before .args .x) (c .before .before .args .y)) (c .before .match .keys5) (c .le .ensures)
+returns-5 c = let s = c .before .before in
+    at (λ o. testF o (s .args .x) (s .args .y)) (c .before .match .keys5) (c .le .ensures)
 
 returns-6 : tie.Need-returns-6
 unfolding testF
-returns-6 c =
-    at (λ o. testF o (c .before .before .args .x) (c .before .before .args .y)) (c .before .match .keys6) (c .ne .ensures)
+returns-6 c = let s = c .before .before in
+    at (λ o. testF o (s .args .x) (s .args .y)) (c .before .match .keys6) (c .ne .ensures)
 
 returns-7 : tie.Need-returns-7
 unfolding testF
-returns-7 c =
-    at (λ o. testF o (c .before .before .before .before .args .x) (c .before .before .before .before .args .y)) (c .before .before .before .match .keys7) (cc)
+returns-7 c = let s = c .before .before .before .before in
+    at (λ o. testF o (s .args .x) (s .args .y)) (c .before .before .before .match .keys7) (cc)
 
 returns-8 : tie.Need-returns-8
 unfolding testF

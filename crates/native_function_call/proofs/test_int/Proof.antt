@@ -49,45 +49,45 @@ either-requires c κs = search needs
 
 returns : tie.Need-returns
 unfolding testZ
-returns c =
-    at (λ o. testZ o (c .before .before .args .x) (c .before .before .args .y)) (c .before .match .keys1) (c .eq .ensures ∙ read2 (eqZ) (c .before .before .args .x) (c .before .before .args .y) (c .before .before .fits .x) (c .before .before .fits .y))
+returns c = let s = c .before .before in
+    at (λ o. testZ o (s .args .x) (s .args .y)) (c .before .match .keys1) (c .eq .ensures ∙ read2 (eqZ) (s .args .x) (s .args .y) (s .fits .x) (s .fits .y))
 
 returns-2 : tie.Need-returns-2
 unfolding testZ
-returns-2 c =
-    at (λ o. testZ o (c .before .before .args .x) (c .before .before .args .y)) (c .before .match .keys2) (c .gt .ensures ∙ read2 (λ (x y : ℤ). ltZ y x) (c .before .before .args .x) (c .before .before .args .y) (c .before .before .fits .x) (c .before .before .fits .y))
+returns-2 c = let s = c .before .before in
+    at (λ o. testZ o (s .args .x) (s .args .y)) (c .before .match .keys2) (c .gt .ensures ∙ read2 (λ (x y : ℤ). ltZ y x) (s .args .x) (s .args .y) (s .fits .x) (s .fits .y))
 
 returns-3 : tie.Need-returns-3
 unfolding testZ
-returns-3 c =
-    at (λ o. testZ o (c .before .before .args .x) (c .before .before .args .y)) (c .before .match .keys3) (c .lt .ensures ∙ read2 (ltZ) (c .before .before .args .x) (c .before .before .args .y) (c .before .before .fits .x) (c .before .before .fits .y))
+returns-3 c = let s = c .before .before in
+    at (λ o. testZ o (s .args .x) (s .args .y)) (c .before .match .keys3) (c .lt .ensures ∙ read2 (ltZ) (s .args .x) (s .args .y) (s .fits .x) (s .fits .y))
 
 returns-4 : tie.Need-returns-4
 unfolding testZ
-returns-4 c =
-    at (λ o. testZ o (c .before .before .args .x) (c .before .before .args .y)) (c .before .match .keys4) (c .ge .ensures ∙ read2 (λ (x y : ℤ). leZ y x) (c .before .before .args .x) (c .before .before .args .y) (c .before .before .fits .x) (c .before .before .fits .y))
+returns-4 c = let s = c .before .before in
+    at (λ o. testZ o (s .args .x) (s .args .y)) (c .before .match .keys4) (c .ge .ensures ∙ read2 (λ (x y : ℤ). leZ y x) (s .args .x) (s .args .y) (s .fits .x) (s .fits .y))
 
 returns-5 : tie.Need-returns-5
 unfolding testZ
-returns-5 c =
-    at (λ o. testZ o (c .before .before .args .x) (c .before .before .args .y)) (c .before .match .keys5) (c .le .ensures ∙ read2 (leZ) (c .before .before .args .x) (c .before .before .args .y) (c .before .before .fits .x) (c .before .before .fits .y))
+returns-5 c = let s = c .before .before in
+    at (λ o. testZ o (s .args .x) (s .args .y)) (c .before .match .keys5) (c .le .ensures ∙ read2 (leZ) (s .args .x) (s .args .y) (s .fits .x) (s .fits .y))
 
 returns-6 : tie.Need-returns-6
 unfolding testZ
-returns-6 c =
-    at (λ o. testZ o (c .before .before .args .x) (c .before .before .args .y)) (c .before .match .keys6) (c .ne .ensures ∙ read2 (λ (x y : ℤ). not (eqZ x y)) (c .before .before .args .x) (c .before .before .args .y) (c .before .before .fits .x) (c .before .before .fits .y))
+returns-6 c = let s = c .before .before in
+    at (λ o. testZ o (s .args .x) (s .args .y)) (c .before .match .keys6) (c .ne .ensures ∙ read2 (λ (x y : ℤ). not (eqZ x y)) (s .args .x) (s .args .y) (s .fits .x) (s .fits .y))
 
 returns-7 : tie.Need-returns-7
 unfolding testZ
-returns-7 c =
-    at (λ o. testZ o (c .before .before .before .before .args .x) (c .before .before .before .before .args .y)) (c .before .before .before .match .keys7)
-    (c .both .ensures ∙ ap (λ (b : Bool). b && c .before .truthy2 .result) (c .before .before .truthy .ensures ∙ read truthyZ (c .before .before .before .before .args .x) (c .before .before .before .before .fits .x)) ∙ ap (λ (b : Bool). truthyZ (c .before .before .before .before .args .x) && b) (c .before .truthy2 .ensures ∙ read truthyZ (c .before .before .before .before .args .y) (c .before .before .before .before .fits .y)))
+returns-7 c = let s = c .before .before .before .before in
+    at (λ o. testZ o (s .args .x) (s .args .y)) (c .before .before .before .match .keys7)
+    (c .both .ensures ∙ ap (λ (b : Bool). b && c .before .truthy2 .result) (c .before .before .truthy .ensures ∙ read truthyZ (s .args .x) (s .fits .x)) ∙ ap (λ (b : Bool). truthyZ (s .args .x) && b) (c .before .truthy2 .ensures ∙ read truthyZ (s .args .y) (s .fits .y)))
 
 returns-8 : tie.Need-returns-8
 unfolding testZ
-returns-8 c =
+returns-8 c = let s = c .before .before .before .before in
     rw (ne-eqb _ _ (c .before .before .before .match .rest .0 .0 .0 .0 .0 .0 .1), ne-eqb _ _ (c .before .before .before .match .rest .0 .0 .0 .0 .0 .1), ne-eqb _ _ (c .before .before .before .match .rest .0 .0 .0 .0 .1), ne-eqb _ _ (c .before .before .before .match .rest .0 .0 .0 .1), ne-eqb _ _ (c .before .before .before .match .rest .0 .0 .1), ne-eqb _ _ (c .before .before .before .match .rest .0 .1), ne-eqb _ _ (c .before .before .before .match .rest .1))
-    (c .either .ensures ∙ ap (λ (b : Bool). b || c .before .truthy4 .result) (c .before .before .truthy3 .ensures ∙ read truthyZ (c .before .before .before .before .args .x) (c .before .before .before .before .fits .x)) ∙ ap (λ (b : Bool). truthyZ (c .before .before .before .before .args .x) || b) (c .before .truthy4 .ensures ∙ read truthyZ (c .before .before .before .before .args .y) (c .before .before .before .before .fits .y)))
+    (c .either .ensures ∙ ap (λ (b : Bool). b || c .before .truthy4 .result) (c .before .before .truthy3 .ensures ∙ read truthyZ (s .args .x) (s .fits .x)) ∙ ap (λ (b : Bool). truthyZ (s .args .x) || b) (c .before .truthy4 .ensures ∙ read truthyZ (s .args .y) (s .fits .y)))
 
 pub test-int-spec : {M : Type 1} → statement M
 test-int-spec =

@@ -33,18 +33,18 @@ test-held-requires c κs = search needs
 
 returns : tie.Need-returns
 unfolding testLists
-returns c =
-    at (λ o. testLists o (valOf (c .before .before .before .before .before .args .items .now) (c .before .before .before .before .before .args .values .now) (c .before .before .before .before .before .args .a)) (valOf (c .before .before .before .before .before .args .items .now) (c .before .before .before .before .before .args .values .now) (c .before .before .before .before .before .args .b))) (c .before .before .before .match .keys1) (c .both .ensures ∙ ap2 (λ (x y : Bool). x && y) (c .before .before .is-truthy .ensures ∙ truth-in 65536 (c .before .before .before .before .before .args .items .now) (c .before .before .before .before .before .args .values .now) (c .before .before .before .before .before .args .a) (c .before .before .before .before .before .pre .0)) (c .before .is-truthy2 .ensures ∙ truth-in 65536 (c .before .before .before .before .before .args .items .now) (c .before .before .before .before .before .args .values .now) (c .before .before .before .before .before .args .b) (c .before .before .before .before .before .pre .1)))
+returns c = let s = c .before .before .before .before .before in
+    at (λ o. testLists o (valOf (s .args .items .now) (s .args .values .now) (s .args .a)) (valOf (s .args .items .now) (s .args .values .now) (s .args .b))) (c .before .before .before .match .keys1) (c .both .ensures ∙ ap2 (λ (x y : Bool). x && y) (c .before .before .is-truthy .ensures ∙ truth-in 65536 (s .args .items .now) (s .args .values .now) (s .args .a) (s .pre .0)) (c .before .is-truthy2 .ensures ∙ truth-in 65536 (s .args .items .now) (s .args .values .now) (s .args .b) (s .pre .1)))
 
 returns-2 : tie.Need-returns-2
 unfolding testLists
-returns-2 c =
-    at (λ o. testLists o (valOf (c .before .before .before .before .before .args .items .now) (c .before .before .before .before .before .args .values .now) (c .before .before .before .before .before .args .a)) (valOf (c .before .before .before .before .before .args .items .now) (c .before .before .before .before .before .args .values .now) (c .before .before .before .before .before .args .b))) (c .before .before .before .match .keys2) (c .either .ensures ∙ ap2 (λ (x y : Bool). x || y) (c .before .before .is-truthy3 .ensures ∙ truth-in 65536 (c .before .before .before .before .before .args .items .now) (c .before .before .before .before .before .args .values .now) (c .before .before .before .before .before .args .a) (c .before .before .before .before .before .pre .0)) (c .before .is-truthy4 .ensures ∙ truth-in 65536 (c .before .before .before .before .before .args .items .now) (c .before .before .before .before .before .args .values .now) (c .before .before .before .before .before .args .b) (c .before .before .before .before .before .pre .1)))
+returns-2 c = let s = c .before .before .before .before .before in
+    at (λ o. testLists o (valOf (s .args .items .now) (s .args .values .now) (s .args .a)) (valOf (s .args .items .now) (s .args .values .now) (s .args .b))) (c .before .before .before .match .keys2) (c .either .ensures ∙ ap2 (λ (x y : Bool). x || y) (c .before .before .is-truthy3 .ensures ∙ truth-in 65536 (s .args .items .now) (s .args .values .now) (s .args .a) (s .pre .0)) (c .before .is-truthy4 .ensures ∙ truth-in 65536 (s .args .items .now) (s .args .values .now) (s .args .b) (s .pre .1)))
 
 returns-3 : tie.Need-returns-3
 unfolding testLists
-returns-3 c =
-    rw (ne-eqb _ _ (c .before .match .rest .0 .1), ne-eqb _ _ (c .before .match .rest .1)) (c .test-held .ensures ∙ ap2 (testL (c .before .before .before .args .op)) (sym (entries-in (c .before .before .before .args .items .now) (c .before .before .before .args .values .now) (c .before .before .before .args .a))) (sym (entries-in (c .before .before .before .args .items .now) (c .before .before .before .args .values .now) (c .before .before .before .args .b))))
+returns-3 c = let s = c .before .before .before in
+    rw (ne-eqb _ _ (c .before .match .rest .0 .1), ne-eqb _ _ (c .before .match .rest .1)) (c .test-held .ensures ∙ ap2 (testL (s .args .op)) (sym (entries-in (s .args .items .now) (s .args .values .now) (s .args .a))) (sym (entries-in (s .args .items .now) (s .args .values .now) (s .args .b))))
 
 pub test-lists-spec : {M : Type 1} → statement M
 test-lists-spec =

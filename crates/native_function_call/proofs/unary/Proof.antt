@@ -29,8 +29,8 @@ same-length-2 c = search needs
 
 returns : tie.Need-returns
 unfolding unaryL
-returns c =
-    wrote-is (ap (λ o. unaryL (c .before .before .before .before .before .before .before .before .before .before .args .ends .now) (c .before .before .before .before .before .before .before .before .before .before .args .defined .now) o (c .before .before .before .before .before .before .before .before .before .before .args .set) (entries (c .before .before .before .before .before .before .before .before .before .before .args .ai .now) (c .before .before .before .before .before .before .before .before .before .before .args .av .now))) (c .before .before .before .before .before .before .match .keys1)) (c .before .before .before .list-min .ensures)
+returns c = let s = c .before .before .before .before .before .before .before .before .before .before in
+    wrote-is (ap (λ o. unaryL (s .args .ends .now) (s .args .defined .now) o (s .args .set) (entries (s .args .ai .now) (s .args .av .now))) (c .before .before .before .before .before .before .match .keys1)) (c .before .before .before .list-min .ensures)
 
 same-length-3 : tie.Need-same-length-3
 same-length-3 c = search needs
@@ -40,8 +40,8 @@ same-length-4 c = search needs
 
 returns-2 : tie.Need-returns-2
 unfolding unaryL
-returns-2 c =
-    wrote-is (ap (λ o. unaryL (c .before .before .before .before .before .before .before .before .before .before .args .ends .now) (c .before .before .before .before .before .before .before .before .before .before .args .defined .now) o (c .before .before .before .before .before .before .before .before .before .before .args .set) (entries (c .before .before .before .before .before .before .before .before .before .before .args .ai .now) (c .before .before .before .before .before .before .before .before .before .before .args .av .now))) (c .before .before .before .before .before .before .match .keys2)) (c .before .before .before .list-max .ensures)
+returns-2 c = let s = c .before .before .before .before .before .before .before .before .before .before in
+    wrote-is (ap (λ o. unaryL (s .args .ends .now) (s .args .defined .now) o (s .args .set) (entries (s .args .ai .now) (s .args .av .now))) (c .before .before .before .before .before .before .match .keys2)) (c .before .before .before .list-max .ensures)
 
 same-length-5 : tie.Need-same-length-5
 same-length-5 c = search needs
@@ -51,8 +51,8 @@ same-length-6 c = search needs
 
 returns-3 : tie.Need-returns-3
 unfolding unaryL
-returns-3 c =
-    wrote-is (ap (λ o. unaryL (c .before .before .before .before .before .before .before .before .before .before .args .ends .now) (c .before .before .before .before .before .before .before .before .before .before .args .defined .now) o (c .before .before .before .before .before .before .before .before .before .before .args .set) (entries (c .before .before .before .before .before .before .before .before .before .before .args .ai .now) (c .before .before .before .before .before .before .before .before .before .before .args .av .now))) (c .before .before .before .before .before .before .match .keys3)) (c .before .before .before .all .ensures)
+returns-3 c = let s = c .before .before .before .before .before .before .before .before .before .before in
+    wrote-is (ap (λ o. unaryL (s .args .ends .now) (s .args .defined .now) o (s .args .set) (entries (s .args .ai .now) (s .args .av .now))) (c .before .before .before .before .before .before .match .keys3)) (c .before .before .before .all .ensures)
 
 same-length-7 : tie.Need-same-length-7
 same-length-7 c = search needs
@@ -62,8 +62,8 @@ same-length-8 c = search needs
 
 returns-4 : tie.Need-returns-4
 unfolding unaryL
-returns-4 c =
-    wrote-is (rw (ne-eqb _ _ (c .before .before .before .before .before .before .match .rest .0 .0 .1), ne-eqb _ _ (c .before .before .before .before .before .before .match .rest .0 .1), ne-eqb _ _ (c .before .before .before .before .before .before .match .rest .1)) (ap (invert (c .before .before .before .before .before .before .before .before .before .before .args .ends .now) (c .before .before .before .before .before .before .before .before .before .before .args .defined .now) (c .before .before .before .before .before .before .before .before .before .before .args .set)) (items-entries (c .before .before .before .before .before .before .before .before .before .before .args .ai .now) (c .before .before .before .before .before .before .before .before .before .before .args .av .now) (c .before .before .before .before .before .before .before .before .before .before .pre .0 .1 .long)))) (c .before .before .before .invert .ensures)
+returns-4 c = let s = c .before .before .before .before .before .before .before .before .before .before in
+    wrote-is (rw (ne-eqb _ _ (c .before .before .before .before .before .before .match .rest .0 .0 .1), ne-eqb _ _ (c .before .before .before .before .before .before .match .rest .0 .1), ne-eqb _ _ (c .before .before .before .before .before .before .match .rest .1)) (ap (invert (s .args .ends .now) (s .args .defined .now) (s .args .set)) (items-entries (s .args .ai .now) (s .args .av .now) (s .pre .0 .1 .long)))) (c .before .before .before .invert .ensures)
 
 pub unary-spec : {M : Type 1} → statement M
 unary-spec =

@@ -38,27 +38,27 @@ to-int-requires-2 c κs = search needs
 
 returns : tie.Need-returns
 unfolding wholeUnary
-returns c =
-    λ limit is f. at (λ o. wholeUnary o (valOf is (c .before .before .before .args .values .now) (c .before .before .before .args .a))) (c .before .before .match .keys1)
-    (returned (c .wrapping-neg .ok) ∙ c .wrapping-neg .ensures ∙ ap (λ (z : ℤ). wrap (negℤ z)) (returned (c .before .to-int .ok) ∙ c .before .to-int .ensures ∙ int-in limit is (c .before .before .before .args .values .now) (c .before .before .before .args .a) f))
+returns c = let s = c .before .before .before in
+    λ limit is f. at (λ o. wholeUnary o (valOf is (s .args .values .now) (s .args .a))) (c .before .before .match .keys1)
+    (returned (c .wrapping-neg .ok) ∙ c .wrapping-neg .ensures ∙ ap (λ (z : ℤ). wrap (negℤ z)) (returned (c .before .to-int .ok) ∙ c .before .to-int .ensures ∙ int-in limit is (s .args .values .now) (s .args .a) f))
 
 returns-2 : tie.Need-returns-2
 unfolding wholeUnary
-returns-2 c =
-    λ limit is f. at (λ o. wholeUnary o (valOf is (c .before .before .before .args .values .now) (c .before .before .before .args .a))) (c .before .before .match .keys2)
-    (returned (c .bit .ok) ∙ c .bit .ensures ∙ ap (λ (t : Bool). bitZ (not t)) (c .before .is-truthy .ensures ∙ truth-in limit is (c .before .before .before .args .values .now) (c .before .before .before .args .a) f))
+returns-2 c = let s = c .before .before .before in
+    λ limit is f. at (λ o. wholeUnary o (valOf is (s .args .values .now) (s .args .a))) (c .before .before .match .keys2)
+    (returned (c .bit .ok) ∙ c .bit .ensures ∙ ap (λ (t : Bool). bitZ (not t)) (c .before .is-truthy .ensures ∙ truth-in limit is (s .args .values .now) (s .args .a) f))
 
 returns-3 : tie.Need-returns-3
 unfolding wholeUnary
-returns-3 c =
-    λ limit is f. at (λ o. wholeUnary o (valOf is (c .before .before .args .values .now) (c .before .before .args .a))) (c .before .match .keys3)
-    (back32 (pos (c .len-of .result)) (record { sfits = omega (arith, c .len-of .ensures, c .before .before .pre .1) })
-    ∙ ap pos (c .len-of .ensures ∙ sym (len-in limit is (c .before .before .args .values .now) (c .before .before .args .a) f) ∙ sym (ap length (entries-in is (c .before .before .args .values .now) (c .before .before .args .a)))))
+returns-3 c = let s = c .before .before in
+    λ limit is f. at (λ o. wholeUnary o (valOf is (s .args .values .now) (s .args .a))) (c .before .match .keys3)
+    (back32 (pos (c .len-of .result)) (record { sfits = omega (arith, c .len-of .ensures, s .pre .1) })
+    ∙ ap pos (c .len-of .ensures ∙ sym (len-in limit is (s .args .values .now) (s .args .a) f) ∙ sym (ap length (entries-in is (s .args .values .now) (s .args .a)))))
 
 returns-4 : tie.Need-returns-4
 unfolding wholeUnary
-returns-4 c =
-    λ limit is f. rw (ne-eqb _ _ (c .before .match .rest .0 .0 .1), ne-eqb _ _ (c .before .match .rest .0 .1), ne-eqb _ _ (c .before .match .rest .1)) (returned (c .to-int2 .ok) ∙ c .to-int2 .ensures ∙ int-in limit is (c .before .before .args .values .now) (c .before .before .args .a) f)
+returns-4 c = let s = c .before .before in
+    λ limit is f. rw (ne-eqb _ _ (c .before .match .rest .0 .0 .1), ne-eqb _ _ (c .before .match .rest .0 .1), ne-eqb _ _ (c .before .match .rest .1)) (returned (c .to-int2 .ok) ∙ c .to-int2 .ensures ∙ int-in limit is (s .args .values .now) (s .args .a) f)
 
 pub whole1-spec : {M : Type 1} → statement M
 whole1-spec =

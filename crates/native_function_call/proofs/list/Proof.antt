@@ -1,0 +1,76 @@
+use mathlib.Core.Path.{_≡_, ap}
+use mathlib.Core.List.{[], _∷_}
+use Prim.Native.Nat.{ℕ}
+use native.Mathlib.Omega.{arith}
+use lib.ListN.{take}
+use Rattle.ink_value.specs.Val.{listK}
+use Rattle.ink_value.specs.Value.{valOf}
+use Rattle.ink_value.proofs.Given.{gave-is}
+use Rattle.native_function_call.specs.Lists.{definitions}
+use Rattle.native_function_call.specs.Apply.{compute}
+use borrow.Author.Needs.{needs}
+use Rattle.native_function_call.proofs.list.Statement.{statement}
+use Rattle.native_function_call.proofs.list.Tie as tie
+
+list1-requires : tie.Need-list1-requires
+list1-requires c κs = search needs
+
+same-length : tie.Need-same-length
+same-length c = search needs
+
+same-length-2 : tie.Need-same-length-2
+same-length-2 c = search needs
+
+returns : tie.Need-returns
+unfolding compute
+returns c =
+    let s = c .before .before .before .before .before .before .before .before .before .before in
+    gave-is (ap (λ (n : ℕ). compute (definitions (s .args .ends .now) (s .args .defined .now) (s .args .limit)) (s .args .op) (take n (valOf (s .args .items .now) (s .args .values .now) (s .args .a) ∷ valOf (s .args .items .now) (s .args .values .now) (s .args .b) ∷ valOf (s .args .items .now) (s .args .values .now) (s .args .c) ∷ [])) listK) (c .before .before .before .before .before .before .if1 .taken)) (c .before .before .before .list1 .ensures)
+
+list2-requires : tie.Need-list2-requires
+list2-requires c κs = search needs
+
+same-length-3 : tie.Need-same-length-3
+same-length-3 c = search needs
+
+same-length-4 : tie.Need-same-length-4
+same-length-4 c = search needs
+
+returns-2 : tie.Need-returns-2
+unfolding compute
+returns-2 c =
+    let s = c .before .before .before .before .before .before .before .before .before .before .before in
+    gave-is (ap (λ (n : ℕ). compute (definitions (s .args .ends .now) (s .args .defined .now) (s .args .limit)) (s .args .op) (take n (valOf (s .args .items .now) (s .args .values .now) (s .args .a) ∷ valOf (s .args .items .now) (s .args .values .now) (s .args .b) ∷ valOf (s .args .items .now) (s .args .values .now) (s .args .c) ∷ [])) listK) (c .before .before .before .before .before .before .if2 .taken)) (c .before .before .before .list2 .ensures)
+
+list3-requires : tie.Need-list3-requires
+list3-requires c κs = search needs
+
+same-length-5 : tie.Need-same-length-5
+same-length-5 c = search needs
+
+same-length-6 : tie.Need-same-length-6
+same-length-6 c = search needs
+
+returns-3 : tie.Need-returns-3
+unfolding compute
+returns-3 c =
+    let s = c .before .before .before .before .before .before .before .before .before .before .before in
+    let three : s .args .count ≡ 3 = omega (arith, c .before .before .before .before .before .before .before .if1 .left, c .before .before .before .before .before .before .if2 .left, s .pre .1 .1 .0, s .pre .1 .1 .1) in
+    gave-is (ap (λ (n : ℕ). compute (definitions (s .args .ends .now) (s .args .defined .now) (s .args .limit)) (s .args .op) (take n (valOf (s .args .items .now) (s .args .values .now) (s .args .a) ∷ valOf (s .args .items .now) (s .args .values .now) (s .args .b) ∷ valOf (s .args .items .now) (s .args .values .now) (s .args .c) ∷ [])) listK) three) (c .before .before .before .list3 .ensures)
+
+pub list-spec : {M : Type 1} → statement M
+list-spec =
+    tie.close
+    (tie.spec
+    list1-requires
+    same-length
+    same-length-2
+    returns
+    list2-requires
+    same-length-3
+    same-length-4
+    returns-2
+    list3-requires
+    same-length-5
+    same-length-6
+    returns-3)
