@@ -7,8 +7,9 @@ ghost use lib.IntN.{ℤ};
 ghost use lib.ListN.{length};
 ghost use Rattle.ink_number.specs.Answer.{gives};
 ghost use Rattle.ink_list.specs.Entries.{room};
+ghost use Rattle.ink_value.specs.Slices.{valIn, Gives};
 ghost use Rattle.ink_value.specs.Convert.{bitZ, greatestOf, castable, converted, cast, coerceBool, coerceInt, coerceFloat};
-ghost use Rattle.ink_value.specs.Value.{part, valOf, codeOfValue, startOf, lenOf, setIn, intOf, floatOf, truthOf, lowOf, highOf, Formed, placed, Gave};
+ghost use Rattle.ink_value.specs.Value.{part, valOf, codeOfValue, startOf, lenOf, setIn, intOf, floatOf, truthOf, lowOf, highOf, Formed, placed};
 ghost use Rattle.ink_list.specs.Ops.{extremeValue, valueOfList};
 
 // A value. A list's entries stand beside it, in two parallel slices, from `start` on.
@@ -59,7 +60,7 @@ fn greatest(values: &[i32], start: usize, len: usize) -> i32
     ensures { λ r. ⌜ r ≡ valueOfList (part start len (now (values .entry))) ⌝ }
 {
     let end = start + len;
-    ink_list::value_of_list(&values[start..end])
+    ink_list::extremes::value_of_list(&values[start..end])
 }
 
 fn least(values: &[i32], start: usize, len: usize) -> i32
@@ -67,7 +68,7 @@ fn least(values: &[i32], start: usize, len: usize) -> i32
     ensures { λ r. ⌜ r ≡ extremeValue true (part start len (now (values .entry))) ⌝ }
 {
     let end = start + len;
-    ink_list::extreme_value(true, &values[start..end])
+    ink_list::extremes::extreme_value(true, &values[start..end])
 }
 
 // The greatest of the values that stand from `start` on, or 2147483647.
@@ -230,14 +231,13 @@ fn castable(to: u8, from: u8) -> bool
 // A list, copied to the output.
 fn copied(v: Value, items: &[u16], values: &[i32], oi: &mut [u16], ov: &mut [i32]) -> Outcome
     requires { ⌜ Formed (room (now oi) (now ov)) (now items) (now values) v × (codeOfValue v ≡ 3) ⌝ }
-    ensures { λ r. ⌜ Gave (gives (valOf (now (items .entry)) (now (values .entry)) v)) r
-        (now (oi .entry)) (now (oi .exit)) (now (ov .entry)) (now (ov .exit)) ⌝ }
+    ensures { λ r. ⌜ Gives (gives (valIn items values v)) r oi ov ⌝ }
 {
     let i = start_of(v);
     let m = len_of(v);
     let set = origins_in(v);
     let e = i + m;
-    let n = ink_list::copy(&items[i..e], &values[i..e], oi, ov);
+    let n = ink_list::entries::copy(&items[i..e], &values[i..e], oi, ov);
     Outcome::Value(Value::List {
         origins: set,
         start: 0,
@@ -255,8 +255,7 @@ fn convert(
     ov: &mut [i32],
 ) -> Outcome
     requires { ⌜ Formed (room (now oi) (now ov)) (now items) (now values) v × (castable to (codeOfValue v) ≡ true) ⌝ }
-    ensures { λ r. ⌜ Gave (gives (converted to (valOf (now (items .entry)) (now (values .entry)) v))) r
-        (now (oi .entry)) (now (oi .exit)) (now (ov .entry)) (now (ov .exit)) ⌝ }
+    ensures { λ r. ⌜ Gives (gives (converted to (valIn items values v))) r oi ov ⌝ }
 {
     match to {
         0 => Outcome::Value(Value::Bool(is_truthy(v))),
@@ -276,8 +275,7 @@ pub fn cast(
     out_values: &mut [i32],
 ) -> Outcome
     requires { ⌜ Formed (room (now «out_items») (now «out_values»)) (now items) (now values) v ⌝ }
-    ensures { λ r. ⌜ Gave (cast to (valOf (now (items .entry)) (now (values .entry)) v)) r
-        (now («out_items» .entry)) (now («out_items» .exit)) (now («out_values» .entry)) (now («out_values» .exit)) ⌝ }
+    ensures { λ r. ⌜ Gives (cast to (valIn items values v)) r «out_items» «out_values» ⌝ }
 {
     if castable(to, kind(v)) {
         return convert(to, v, items, values, out_items, out_values);

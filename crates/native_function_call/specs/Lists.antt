@@ -2,10 +2,12 @@
 use mathlib.Core.Bool.{Bool, cond}
 use mathlib.Core.List.{List}
 use Prim.Native.Nat.{ℕ, _≤_}
+use denote.Ref.{now}
 use lib.Dec.{eqb}
 use lib.IntN.{ℤ, negℤ}
 use lib.ListN.{length}
 use Rattle.native_function_call.specs.Op.{opAdd, opSubtract, opGreater, opLess, opGreaterThanOrEquals, opLessThanOrEquals, opHas, opListMin, opListMax, opAll}
+use Rattle.ink_list.specs.Slices.{Slice}
 use Rattle.ink_list.specs.Entries.{Entry, items, values}
 use Rattle.ink_value.specs.Val.{Val}
 use Rattle.ink_value.specs.Convert.{lowerOf, upperOf}
@@ -58,6 +60,10 @@ rangeL u b c a = range (u .limit) (lowerOf b) (upperOf c) a
 
 abbrev pub definitions : List ℕ → List ℤ → ℕ → ListDefinitions
 definitions ends defined limit = record { ends = ends; defined = defined; limit = limit }
+
+-- the same of two lent slices
+abbrev pub definitionsIn : Slice ℕ → Slice ℤ → ℕ → ListDefinitions
+definitionsIn ends defined limit = definitions (now (ends .entry)) (now (defined .entry)) limit
 
 -- the definitions' tables, and output slices with places for as many entries as there may be items
 pub record Room (u : ListDefinitions) (oi : List ℕ) (ov : List ℤ) : Type 0 where

@@ -3,24 +3,22 @@ use ink_number::int::Divided;
 use ink_value::Outcome;
 use ink_value::Value;
 ghost use mathlib.Core.Path.{_≡_};
-ghost use mathlib.Core.Bool.{Bool, true, _&&_, _||_, not};
+ghost use mathlib.Core.Bool.{true, _&&_, _||_};
 ghost use mathlib.Core.List.{List, [], _∷_};
 ghost use Prim.Native.Nat.{ℕ, _<_, _≤_, _+_, max};
-ghost use lib.IntN.{ℤ, pos};
 ghost use lib.ListN.{length, take};
 ghost use Rattle.ink_value.specs.Val.{kindAt, kindOf, listK};
-ghost use Rattle.ink_number.specs.Answer.{gives};
-ghost use Rattle.native_function_call.specs.Kinds.{common, kindApply, kindEntry, decoded, operandCount, kindRange, kindAnswer, Coded, KindsGiven};
+ghost use Rattle.native_function_call.specs.Kinds.{common, kindEntry, decoded, operandCount, kindRange, kindAnswer, Coded, KindsGiven};
 ghost use Rattle.native_function_call.specs.Numbers.{arithZ, arithF, testZ, testF};
-ghost use Rattle.ink_value.specs.Convert.{bitZ, castable, converted, cast, coerceBool, coerceInt, coerceFloat, greatestOf};
-ghost use Rattle.native_function_call.specs.Lists.{ListDefinitions, testL, mergeL, unaryL, stepBy, Room, definitions};
+ghost use Rattle.native_function_call.specs.Lists.{ListDefinitions, testL, mergeL, unaryL, stepBy, Room, definitions, definitionsIn};
+ghost use Rattle.ink_value.specs.Slices.{valIn, Gives};
+ghost use Rattle.ink_list.specs.Slices.{list, Answers};
 ghost use Rattle.native_function_call.specs.Apply.{ofInt, testLists, testAs, wholeUnary, realUnary, compute, call, entriesFor, listed};
-ghost use Rattle.ink_value.specs.Value.{codeOfValue, valOf, placed, part, startOf, lenOf, setIn, intOf, floatOf, truthOf, lowOf, highOf, held, Formed, Gave};
-ghost use Rattle.ink_list.specs.Entries.{entries, room, Ascends, Rising, Lent, Wrote};
+ghost use Rattle.ink_value.specs.Value.{codeOfValue, valOf, placed, startOf, lenOf, held, Formed};
+ghost use Rattle.ink_list.specs.Entries.{room, Ascends, Rising, Lent};
 ghost use Rattle.ink_number.specs.Int.{divided};
 ghost use Rattle.ink_value.specs.declared.Value.the-variants as Is;
 ghost use Rattle.ink_value.specs.declared.Outcome.the-variants as Out;
-ghost use Rattle.ink_list.specs.Ops.{extremeValue, valueOfList};
 ghost use Rattle.ink_list.specs.Defs.{Tables, originsOf};
 
 // What an operator gives on kinds: the kind of its result, or a refusal.
@@ -973,15 +971,15 @@ fn test_float(op: u8, x: f32, y: f32) -> bool
 
 fn test_entries(op: u8, ai: &[u16], av: &[i32], bi: &[u16], bv: &[i32]) -> bool
     requires { ⌜ Lent 65536 (now ai) (now av) × Lent 65536 (now bi) (now bv) ⌝ }
-    ensures { λ r. ⌜ r ≡ testL op (entries (now (ai .entry)) (now (av .entry))) (entries (now (bi .entry)) (now (bv .entry))) ⌝ }
+    ensures { λ r. ⌜ r ≡ testL op (list ai av) (list bi bv) ⌝ }
 {
     match op {
-        7 => ink_list::greater(av, bv),
-        8 => ink_list::less(av, bv),
-        9 => ink_list::greater_or_equals(av, bv),
-        10 => ink_list::less_or_equals(av, bv),
-        22 => ink_list::has(ai, bi),
-        _ => ink_list::hasnt(ai, bi),
+        7 => ink_list::extremes::greater(av, bv),
+        8 => ink_list::extremes::less(av, bv),
+        9 => ink_list::extremes::greater_or_equals(av, bv),
+        10 => ink_list::extremes::less_or_equals(av, bv),
+        22 => ink_list::merge::has(ai, bi),
+        _ => ink_list::merge::hasnt(ai, bi),
     }
 }
 
@@ -996,14 +994,13 @@ fn merge(
 ) -> usize
     requires { ⌜ Lent (room (now oi) (now ov)) (now ai) (now av) ⌝ }
     requires { ⌜ Lent (room (now oi) (now ov)) (now bi) (now bv) ⌝ }
-    ensures { λ r. ⌜ ((limit : ℕ) → Rising limit (entries (now (ai .entry)) (now (av .entry))) → Rising limit (entries (now (bi .entry)) (now (bv .entry)))
-        → Wrote (mergeL limit op (entries (now (ai .entry)) (now (av .entry))) (entries (now (bi .entry)) (now (bv .entry)))) r
-        (now (oi .entry)) (now (oi .exit)) (now (ov .entry)) (now (ov .exit))) ⌝ }
+    ensures { λ r. ⌜ ((limit : ℕ) → Rising limit (list ai av) → Rising limit (list bi bv)
+        → Answers (mergeL limit op (list ai av) (list bi bv)) r oi ov) ⌝ }
 {
     match op {
-        0 => ink_list::union(ai, av, bi, bv, oi, ov),
-        1 => ink_list::without(ai, av, bi, oi, ov),
-        _ => ink_list::intersect(ai, av, bi, oi, ov),
+        0 => ink_list::merge::union(ai, av, bi, bv, oi, ov),
+        1 => ink_list::merge::without(ai, av, bi, oi, ov),
+        _ => ink_list::merge::intersect(ai, av, bi, oi, ov),
     }
 }
 
@@ -1019,14 +1016,13 @@ fn unary(
 ) -> usize
     requires { ⌜ Tables (now ends) (now defined) × Lent 65536 (now ai) (now av) ⌝ }
     requires { ⌜ (1 ≤ length (now oi)) × (1 ≤ length (now ov)) × (length (now defined) ≤ length (now oi)) × (length (now defined) ≤ length (now ov)) ⌝ }
-    ensures { λ r. ⌜ Wrote (unaryL (now (ends .entry)) (now (defined .entry)) op set (entries (now (ai .entry)) (now (av .entry)))) r
-        (now (oi .entry)) (now (oi .exit)) (now (ov .entry)) (now (ov .exit)) ⌝ }
+    ensures { λ r. ⌜ Answers (unaryL (now (ends .entry)) (now (defined .entry)) op set (list ai av)) r oi ov ⌝ }
 {
     match op {
-        25 => ink_list::list_min(ai, av, oi, ov),
-        26 => ink_list::list_max(ai, av, oi, ov),
-        27 => ink_list::all(set, ends, defined, oi, ov),
-        _ => ink_list::invert(ai, set, ends, defined, oi, ov),
+        25 => ink_list::extremes::list_min(ai, av, oi, ov),
+        26 => ink_list::extremes::list_max(ai, av, oi, ov),
+        27 => ink_list::definitions::all(set, ends, defined, oi, ov),
+        _ => ink_list::definitions::invert(ai, set, ends, defined, oi, ov),
     }
 }
 
@@ -1071,7 +1067,7 @@ fn test_held(op: u8, a: Value, b: Value, items: &[u16], values: &[i32]) -> bool
 // With a list among the operands.
 fn test_lists(op: u8, a: Value, b: Value, items: &[u16], values: &[i32]) -> bool
     requires { ⌜ Formed 65536 (now items) (now values) a × Formed 65536 (now items) (now values) b ⌝ }
-    ensures { λ r. ⌜ r ≡ testLists op (valOf (now (items .entry)) (now (values .entry)) a) (valOf (now (items .entry)) (now (values .entry)) b) ⌝ }
+    ensures { λ r. ⌜ r ≡ testLists op (valIn items values a) (valIn items values b) ⌝ }
 {
     match op {
         13 => both(ink_value::is_truthy(a), ink_value::is_truthy(b)),
@@ -1082,8 +1078,8 @@ fn test_lists(op: u8, a: Value, b: Value, items: &[u16], values: &[i32]) -> bool
 
 fn test2(op: u8, a: Value, b: Value, items: &[u16], values: &[i32]) -> bool
     requires { ⌜ Formed 65536 (now items) (now values) a × Formed 65536 (now items) (now values) b ⌝ }
-    ensures { λ r. ⌜ r ≡ testAs (common (kindOf (valOf (now (items .entry)) (now (values .entry)) a)) (kindOf (valOf (now (items .entry)) (now (values .entry)) b)))
-        op (valOf (now (items .entry)) (now (values .entry)) a) (valOf (now (items .entry)) (now (values .entry)) b) ⌝ }
+    ensures { λ r. ⌜ r ≡ testAs (common (kindOf (valIn items values a)) (kindOf (valIn items values b)))
+        op (valIn items values a) (valIn items values b) ⌝ }
 {
     let k = common(a, b);
     match k {
@@ -1130,7 +1126,7 @@ fn located(n: usize, items: &[u16], ends: &[u16]) -> Outcome
     requires { ⌜ (n ≤ length (now items)) × Ascends 0 65536 (take n (now items)) × (length (now ends) ≤ 64) ⌝ }
     ensures { λ r. ⌜ r ≡ Out.Value (Is.List (originsOf (now (ends .entry)) (take n (now (items .entry)))) 0 n) ⌝ }
 {
-    let origins = ink_list::origins_of(&items[..n], ends);
+    let origins = ink_list::definitions::origins_of(&items[..n], ends);
     Outcome::Value(Value::List {
         origins,
         start: 0,
@@ -1152,9 +1148,8 @@ fn list1(
 ) -> Outcome
     requires { ⌜ Room (definitions (now ends) (now defined) limit) (now oi) (now ov) ⌝ }
     requires { ⌜ Formed limit (now items) (now values) a ⌝ }
-    ensures { λ r. ⌜ Gave (listed (definitions (now (ends .entry)) (now (defined .entry)) limit) op (valOf (now (items .entry)) (now (values .entry)) a ∷ [])
-        (entriesFor (definitions (now (ends .entry)) (now (defined .entry)) limit) op (valOf (now (items .entry)) (now (values .entry)) a ∷ []))) r
-        (now (oi .entry)) (now (oi .exit)) (now (ov .entry)) (now (ov .exit)) ⌝ }
+    ensures { λ r. ⌜ Gives (listed (definitionsIn ends defined limit) op (valIn items values a ∷ [])
+        (entriesFor (definitionsIn ends defined limit) op (valIn items values a ∷ []))) r oi ov ⌝ }
 {
     let i = ink_value::start_of(a);
     let m = ink_value::len_of(a);
@@ -1180,9 +1175,8 @@ fn list_list(
     requires { ⌜ Room (definitions (now ends) (now defined) limit) (now oi) (now ov) ⌝ }
     requires { ⌜ Formed limit (now items) (now values) a × Formed limit (now items) (now values) b ⌝ }
     requires { ⌜ codeOfValue b ≡ 3 ⌝ }
-    ensures { λ r. ⌜ Gave (listed (definitions (now (ends .entry)) (now (defined .entry)) limit) op (valOf (now (items .entry)) (now (values .entry)) a ∷ valOf (now (items .entry)) (now (values .entry)) b ∷ [])
-        (entriesFor (definitions (now (ends .entry)) (now (defined .entry)) limit) op (valOf (now (items .entry)) (now (values .entry)) a ∷ valOf (now (items .entry)) (now (values .entry)) b ∷ []))) r
-        (now (oi .entry)) (now (oi .exit)) (now (ov .entry)) (now (ov .exit)) ⌝ }
+    ensures { λ r. ⌜ Gives (listed (definitionsIn ends defined limit) op (valIn items values a ∷ valIn items values b ∷ [])
+        (entriesFor (definitionsIn ends defined limit) op (valIn items values a ∷ valIn items values b ∷ []))) r oi ov ⌝ }
 {
     let i = ink_value::start_of(a);
     let m = ink_value::len_of(a);
@@ -1218,16 +1212,24 @@ fn list_int(
     requires { ⌜ Room (definitions (now ends) (now defined) limit) (now oi) (now ov) ⌝ }
     requires { ⌜ Formed limit (now items) (now values) a × Formed limit (now items) (now values) b ⌝ }
     requires { ⌜ (codeOfValue b ≡ 3 → ⊥) ⌝ }
-    ensures { λ r. ⌜ Gave (listed (definitions (now (ends .entry)) (now (defined .entry)) limit) op (valOf (now (items .entry)) (now (values .entry)) a ∷ valOf (now (items .entry)) (now (values .entry)) b ∷ [])
-        (entriesFor (definitions (now (ends .entry)) (now (defined .entry)) limit) op (valOf (now (items .entry)) (now (values .entry)) a ∷ valOf (now (items .entry)) (now (values .entry)) b ∷ []))) r
-        (now (oi .entry)) (now (oi .exit)) (now (ov .entry)) (now (ov .exit)) ⌝ }
+    ensures { λ r. ⌜ Gives (listed (definitionsIn ends defined limit) op (valIn items values a ∷ valIn items values b ∷ [])
+        (entriesFor (definitionsIn ends defined limit) op (valIn items values a ∷ valIn items values b ∷ []))) r oi ov ⌝ }
 {
     let i = ink_value::start_of(a);
     let m = ink_value::len_of(a);
     let set = ink_value::origins_in(a);
     let by = step_by(op, ink_value::to_int(b, values));
     let e = i + m;
-    let n = ink_list::increment(&items[i..e], &values[i..e], by, set, ends, defined, oi, ov);
+    let n = ink_list::definitions::increment(
+        &items[i..e],
+        &values[i..e],
+        by,
+        set,
+        ends,
+        defined,
+        oi,
+        ov,
+    );
     located(n, oi, ends)
 }
 
@@ -1245,9 +1247,8 @@ fn list2(
 ) -> Outcome
     requires { ⌜ Room (definitions (now ends) (now defined) limit) (now oi) (now ov) ⌝ }
     requires { ⌜ Formed limit (now items) (now values) a × Formed limit (now items) (now values) b ⌝ }
-    ensures { λ r. ⌜ Gave (listed (definitions (now (ends .entry)) (now (defined .entry)) limit) op (valOf (now (items .entry)) (now (values .entry)) a ∷ valOf (now (items .entry)) (now (values .entry)) b ∷ [])
-        (entriesFor (definitions (now (ends .entry)) (now (defined .entry)) limit) op (valOf (now (items .entry)) (now (values .entry)) a ∷ valOf (now (items .entry)) (now (values .entry)) b ∷ []))) r
-        (now (oi .entry)) (now (oi .exit)) (now (ov .entry)) (now (ov .exit)) ⌝ }
+    ensures { λ r. ⌜ Gives (listed (definitionsIn ends defined limit) op (valIn items values a ∷ valIn items values b ∷ [])
+        (entriesFor (definitionsIn ends defined limit) op (valIn items values a ∷ valIn items values b ∷ []))) r oi ov ⌝ }
 {
     if ink_value::kind(b) == 3 {
         return list_list(op, a, b, items, values, ends, defined, limit, oi, ov);
@@ -1271,16 +1272,15 @@ fn list3(
 ) -> Outcome
     requires { ⌜ Room (definitions (now ends) (now defined) limit) (now oi) (now ov) ⌝ }
     requires { ⌜ Formed limit (now items) (now values) a × Formed limit (now items) (now values) b × Formed limit (now items) (now values) c ⌝ }
-    ensures { λ r. ⌜ Gave (listed (definitions (now (ends .entry)) (now (defined .entry)) limit) op (valOf (now (items .entry)) (now (values .entry)) a ∷ valOf (now (items .entry)) (now (values .entry)) b ∷ valOf (now (items .entry)) (now (values .entry)) c ∷ [])
-        (entriesFor (definitions (now (ends .entry)) (now (defined .entry)) limit) op (valOf (now (items .entry)) (now (values .entry)) a ∷ valOf (now (items .entry)) (now (values .entry)) b ∷ valOf (now (items .entry)) (now (values .entry)) c ∷ []))) r
-        (now (oi .entry)) (now (oi .exit)) (now (ov .entry)) (now (ov .exit)) ⌝ }
+    ensures { λ r. ⌜ Gives (listed (definitionsIn ends defined limit) op (valIn items values a ∷ valIn items values b ∷ valIn items values c ∷ [])
+        (entriesFor (definitionsIn ends defined limit) op (valIn items values a ∷ valIn items values b ∷ valIn items values c ∷ []))) r oi ov ⌝ }
 {
     let i = ink_value::start_of(a);
     let m = ink_value::len_of(a);
     let lower = ink_value::lower_bound(b, values);
     let upper = ink_value::upper_bound(c, values);
     let e = i + m;
-    let n = ink_list::range(&items[i..e], &values[i..e], lower, upper, oi, ov);
+    let n = ink_list::extremes::range(&items[i..e], &values[i..e], lower, upper, oi, ov);
     located(n, oi, ends)
 }
 
@@ -1302,7 +1302,7 @@ fn scalar1(op: u8, kind: u8, a: Value, values: &[i32]) -> Outcome
 // A result that is no List, of two operands.
 fn scalar2(op: u8, kind: u8, a: Value, b: Value, items: &[u16], values: &[i32]) -> Outcome
     requires { ⌜ (kind ≡ 3 → ⊥) × Formed 65536 (now items) (now values) a × Formed 65536 (now items) (now values) b ⌝ }
-    ensures { λ r. ⌜ ((u : ListDefinitions) → r ≡ placed (compute u op (valOf (now (items .entry)) (now (values .entry)) a ∷ valOf (now (items .entry)) (now (values .entry)) b ∷ []) (kindAt kind))) ⌝ }
+    ensures { λ r. ⌜ ((u : ListDefinitions) → r ≡ placed (compute u op (valIn items values a ∷ valIn items values b ∷ []) (kindAt kind))) ⌝ }
 {
     match kind {
         0 => Outcome::Value(Value::Bool(test2(op, a, b, items, values))),
@@ -1332,7 +1332,7 @@ pub fn scalar(
 ) -> Outcome
     requires { ⌜ (kind ≡ 3 → ⊥) × (1 ≤ count) × (count ≤ 2) ⌝ }
     requires { ⌜ Formed 65535 (now items) (now values) a × Formed 65535 (now items) (now values) b ⌝ }
-    ensures { λ r. ⌜ ((u : ListDefinitions) → r ≡ placed (compute u op (take count (valOf (now (items .entry)) (now (values .entry)) a ∷ valOf (now (items .entry)) (now (values .entry)) b ∷ [])) (kindAt kind))) ⌝ }
+    ensures { λ r. ⌜ ((u : ListDefinitions) → r ≡ placed (compute u op (take count (valIn items values a ∷ valIn items values b ∷ [])) (kindAt kind))) ⌝ }
 {
     if count == 1 {
         return scalar1(op, kind, a, values);
@@ -1358,8 +1358,7 @@ pub fn list(
     requires { ⌜ Room (definitions (now ends) (now defined) limit) (now oi) (now ov) ⌝ }
     requires { ⌜ Formed limit (now items) (now values) a × Formed limit (now items) (now values) b × Formed limit (now items) (now values) c ⌝ }
     requires { ⌜ (1 ≤ count) × (count ≤ 3) ⌝ }
-    ensures { λ r. ⌜ Gave (compute (definitions (now (ends .entry)) (now (defined .entry)) limit) op (take count (valOf (now (items .entry)) (now (values .entry)) a ∷ valOf (now (items .entry)) (now (values .entry)) b ∷ valOf (now (items .entry)) (now (values .entry)) c ∷ [])) listK) r
-        (now (oi .entry)) (now (oi .exit)) (now (ov .entry)) (now (ov .exit)) ⌝ }
+    ensures { λ r. ⌜ Gives (compute (definitionsIn ends defined limit) op (take count (valIn items values a ∷ valIn items values b ∷ valIn items values c ∷ [])) listK) r oi ov ⌝ }
 {
     if count == 1 {
         return list1(op, a, items, values, ends, defined, limit, oi, ov);
@@ -1413,8 +1412,7 @@ fn computed(
     requires { ⌜ Room (definitions (now ends) (now defined) limit) (now oi) (now ov) ⌝ }
     requires { ⌜ Formed limit (now items) (now values) a × Formed limit (now items) (now values) b × Formed limit (now items) (now values) c ⌝ }
     requires { ⌜ (1 ≤ count) × (count ≤ 3) × (count ≡ 3 → kind ≡ 3) ⌝ }
-    ensures { λ r. ⌜ Gave (compute (definitions (now (ends .entry)) (now (defined .entry)) limit) op (take count (valOf (now (items .entry)) (now (values .entry)) a ∷ valOf (now (items .entry)) (now (values .entry)) b ∷ valOf (now (items .entry)) (now (values .entry)) c ∷ [])) (kindAt kind)) r
-        (now (oi .entry)) (now (oi .exit)) (now (ov .entry)) (now (ov .exit)) ⌝ }
+    ensures { λ r. ⌜ Gives (compute (definitionsIn ends defined limit) op (take count (valIn items values a ∷ valIn items values b ∷ valIn items values c ∷ [])) (kindAt kind)) r oi ov ⌝ }
 {
     if kind == 3 {
         return list(
@@ -1452,8 +1450,7 @@ pub fn apply(
 ) -> Outcome
     requires { ⌜ Room (definitions (now ends) (now defined) limit) (now oi) (now ov) ⌝ }
     requires { ⌜ Formed limit (now items) (now values) a × Formed limit (now items) (now values) b × Formed limit (now items) (now values) c ⌝ }
-    ensures { λ r. ⌜ Gave (call (definitions (now (ends .entry)) (now (defined .entry)) limit) op count (take count (valOf (now (items .entry)) (now (values .entry)) a ∷ valOf (now (items .entry)) (now (values .entry)) b ∷ valOf (now (items .entry)) (now (values .entry)) c ∷ []))) r
-        (now (oi .entry)) (now (oi .exit)) (now (ov .entry)) (now (ov .exit)) ⌝ }
+    ensures { λ r. ⌜ Gives (call (definitionsIn ends defined limit) op count (take count (valIn items values a ∷ valIn items values b ∷ valIn items values c ∷ []))) r oi ov ⌝ }
 {
     let answer = kinds(op, count, a, b, c);
     match answer {
