@@ -10,3 +10,8 @@ pub data Answer {ℓ} (X : Type ℓ) : Type ℓ where
 abbrev pub ask {ℓ} : {X : Type ℓ} → ℕ → Bool → Answer X → Answer X
 ask n true rest = rest
 ask n false rest = refuses n
+
+-- a call that goes on with a result
+abbrev pub andThen {ℓ ℓ′} : {X : Type ℓ} {Y : Type ℓ′} → Answer X → (X → Answer Y) → Answer Y
+andThen (gives x) f = f x
+andThen (refuses n) f = refuses n

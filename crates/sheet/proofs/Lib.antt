@@ -1,0 +1,5 @@
+-- Demand 3, and the laws that vetting and running cite.
+pub mod Demand
+pub mod Whole
+pub mod Stack
+pub mod Wellformed

@@ -1,0 +1,56 @@
+-- Demand 3 of whole calls: every pack, every sheet number, any kinds of slots. Assumes nothing.
+use mathlib.Core.Path.{_≡_, refl, sym, ap, _∙_, subst}
+use mathlib.Core.Logic.{inr}
+use mathlib.Core.Bool.{Bool, true, false}
+use mathlib.Core.List.{List, map}
+use Prim.Native.Nat.{ℕ}
+use native.Mathlib.Omega.{arith}
+use lib.Dec.{ltb}
+use lib.ListN.{length}
+use Rattle.ink_number.specs.Answer.{Answer, gives, refuses, ask, andThen}
+use Rattle.ink_value.specs.Val.{Val, Kind, kindOf}
+use Rattle.pack.specs.Bodies.{Pack}
+use Rattle.pack.specs.Judge.{judge}
+use Rattle.pack.specs.Read.{literalOf, sheetOf}
+use Rattle.pack.specs.declared.format.Format.{Format}
+use Rattle.sheet.specs.Machine.{Run, End, ended, stopped, run, vet}
+use Rattle.sheet.specs.Whole.{definitionsOf, opened, started, sheetRun, sheetVet}
+use Rattle.sheet.specs.Foretold.{verdict, Begins, Foretold}
+use Rattle.sheet.proofs.Demand.{demand3}
+
+-- both calls open the pack alike, where their memory is long enough
+opened-alike : (F : Format) (p : List ℕ) (s : ℕ) (memory memory' : Pack → Bool) → ((d : Pack) → judge F p ≡ gives d → memory d ≡ true)
+    → ((d : Pack) → judge F p ≡ gives d → memory' d ≡ true) → opened F p s memory ≡ opened F p s memory'
+unfolding opened
+opened-alike F p s memory memory' h h' = go (judge F p) refl
+  where
+    go : (a : Answer Pack) → judge F p ≡ a
+        → andThen a (λ d. ask 6 (ltb s (length (d .sheets))) (ask 7 (memory d) (gives d)))
+        ≡ andThen a (λ d. ask 6 (ltb s (length (d .sheets))) (ask 7 (memory' d) (gives d)))
+    go (gives d) e = ap (λ (t : Bool). ask 6 (ltb s (length (d .sheets))) (ask 7 t (gives d))) (h d e ∙ sym (h' d e))
+    go (refuses r) e = refl
+
+-- how many instructions a sheet has, where the call gets to it
+abbrev pub countOf : Answer Pack → ℕ → ℕ
+countOf (gives d) s = length (sheetOf d s)
+countOf (refuses r) s = 0
+
+module _ (F : Format) (s : ℕ) (f : List ℕ) (slots : List Val) where
+  foretold : (a : Answer Pack)
+      → ((k : Kind) → started a (λ d. vet (sheetOf d s) (map kindOf slots)) .end ≡ ended k
+      → Begins f (started a (λ d. vet (sheetOf d s) (map kindOf slots)) .stacks))
+      → Foretold (countOf a s) (verdict (started a (λ d. vet (sheetOf d s) (map kindOf slots)) .end)) f
+      (started a (λ d. run (definitionsOf F d) (sheetOf d s) (literalOf d) slots))
+  foretold (gives d) w = demand3 (definitionsOf F d) f (sheetOf d s) (literalOf d) slots w
+  foretold (refuses r) w = inr refl
+
+-- f is what stands in the forecast slice
+pub demand3-whole : (F : Format) (p : List ℕ) (s : ℕ) (memory memory' : Pack → Bool) (f : List ℕ) (slots : List Val)
+    → ((d : Pack) → judge F p ≡ gives d → memory d ≡ true) → ((d : Pack) → judge F p ≡ gives d → memory' d ≡ true)
+    → ((k : Kind) → sheetVet F p s memory (map kindOf slots) .end ≡ ended k → Begins f (sheetVet F p s memory (map kindOf slots) .stacks))
+    → Foretold (countOf (opened F p s memory) s) (verdict (sheetVet F p s memory (map kindOf slots) .end)) f (sheetRun F p s memory' slots)
+demand3-whole F p s memory memory' f slots h h' w =
+    subst (λ (a : Answer Pack). Foretold (countOf (opened F p s memory) s) (verdict (sheetVet F p s memory (map kindOf slots) .end)) f
+    (started a (λ d. run (definitionsOf F d) (sheetOf d s) (literalOf d) slots)))
+    (opened-alike F p s memory memory' h h')
+    (foretold F s f slots (opened F p s memory) w)

@@ -1,0 +1,35 @@
+-- A call on the bytes of a pack: questions 1 to 7, and then the machine. Assumes nothing.
+use mathlib.Core.Bool.{Bool}
+use mathlib.Core.List.{List, []}
+use Prim.Native.Nat.{ℕ}
+use lib.Dec.{ltb}
+use lib.ListN.{length}
+use Rattle.ink_number.specs.Answer.{Answer, gives, refuses, ask, andThen}
+use Rattle.ink_value.specs.Val.{Val, Kind}
+use Rattle.native_function_call.specs.Lists.{ListDefinitions, definitions}
+use Rattle.pack.specs.Bodies.{Pack}
+use Rattle.pack.specs.Judge.{judge}
+use Rattle.pack.specs.Read.{endsOf, definedOf, literalOf, sheetOf}
+use Rattle.pack.specs.declared.format.Format.{Format}
+use Rattle.sheet.specs.Machine.{Run, stopped, run, vet}
+
+-- the definitions of a decoded pack, by item number, and its format's item limit
+abbrev pub definitionsOf : Format → Pack → ListDefinitions
+definitionsOf F d = definitions (endsOf d) (definedOf d) (F .limit)
+
+-- questions 1 to 5; 6, "Does the sheet number exist?"; and 7, of which `memory` is the answer
+unfoldable pub opened : Format → List ℕ → ℕ → (Pack → Bool) → Answer Pack
+opened F p s memory = andThen (judge F p) (λ d. ask 6 (ltb s (length (d .sheets))) (ask 7 (memory d) (gives d)))
+
+-- "an instruction index (0 for 1 to 7)"
+abbrev pub started : {X : Type 0} → Answer Pack → (Pack → Run X) → Run X
+started (gives d) f = f d
+started (refuses r) f = record { stacks = []; end = stopped r 0 }
+
+-- "It is fed the pack, a sheet number and 16 slot values"
+abbrev pub sheetRun : Format → List ℕ → ℕ → (Pack → Bool) → List Val → Run Val
+sheetRun F p s memory slots = started (opened F p s memory) (λ d. run (definitionsOf F d) (sheetOf d s) (literalOf d) slots)
+
+-- vetting gets 16 kind codes for the slots
+abbrev pub sheetVet : Format → List ℕ → ℕ → (Pack → Bool) → List Kind → Run Kind
+sheetVet F p s memory kinds = started (opened F p s memory) (λ d. vet (sheetOf d s) kinds)
