@@ -1,0 +1,17 @@
+-- `pack::read::sheet_count` meets its contract. Assumes nothing.
+use mathlib.Core.Path.{sym, _∙_}
+use denote.Ref.{now}
+use Rattle.ink_list.proofs.Filled.{length-table}
+use Rattle.pack.specs.Contents.{sheetCount}
+use borrow.Author.Needs.{needs}
+use Rattle.pack.proofs.read.sheet_count.Statement.{statement}
+use Rattle.pack.proofs.read.sheet_count.Tie as tie
+
+byte-at-requires : tie.Need-byte-at-requires
+byte-at-requires c κs = search needs
+
+returns : tie.Need-returns
+returns c = c .byte-at .ensures .0 ∙ sym (length-table (sheetCount (now (c .before .before .args .p))) _)
+
+pub sheet-count-spec : {M : Type 1} → statement M
+sheet-count-spec = tie.close (tie.spec byte-at-requires returns)

@@ -1,0 +1,80 @@
+-- What the readers give of a pack that has passed, all in terms of the decoded pack.
+use Prim.Native.Nat.{ℕ, _+_, _-_, _≤_, _<_}
+use mathlib.Core.List.{List, [], _∷_, _++_}
+use mathlib.Core.Option.{some}
+use mathlib.Core.Path.{_≡_}
+use lib.IntN.{ℤ}
+use lib.ListN.{length, getD, drop}
+use Rattle.ink_list.specs.Entries.{Entry, items, values}
+use Rattle.ink_list.specs.Filled.{fill}
+use Rattle.pack.specs.Bodies.{Literal, Pack, decoded}
+use Rattle.pack.specs.Contents.{literalCount, sheetBody, offset, size}
+use Rattle.pack.specs.Format.{format1, instructionLimit}
+use Rattle.pack.specs.Instruction.{Instr, push, pushVoid, width, instruction, instructions}
+
+-- ---- the parts of a decoded pack
+
+-- one past the last item of each definition, where the first has the number `low`
+abbrev pub endsFrom : ℕ → List (List ℤ) → List ℕ
+endsFrom low [] = []
+endsFrom low (vs ∷ ds) = (low + length vs) ∷ endsFrom (low + length vs) ds
+
+abbrev pub joined : List (List ℤ) → List ℤ
+joined [] = []
+joined (vs ∷ ds) = vs ++ joined ds
+
+module _ (d : Pack) where
+  -- "Items are numbered on from 0 across definitions": one past each definition's last item, and each item's value
+  abbrev pub endsOf : List ℕ
+  endsOf = endsFrom 0 (d .definitions)
+
+  abbrev pub definedOf : List ℤ
+  definedOf = joined (d .definitions)
+
+  -- literal l and sheet s, empty where there is none
+  abbrev pub literalOf : ℕ → Literal
+  literalOf l = getD (d .literals) l (record { origins = 0; entries = [] })
+
+  abbrev pub sheetOf : ℕ → List Instr
+  sheetOf s = getD (d .sheets) s []
+
+-- ---- what is written
+
+-- entries stored from a place on of two slices, which are else as they were
+pub record Stored (es : List Entry) (from count : ℕ) (oi oi′ : List ℕ) (ov ov′ : List ℤ) : Type 0 where
+  pub counted : count ≡ length es
+  pub items-in : oi′ ≡ fill from (items es) oi
+  pub values-in : ov′ ≡ fill from (values es) ov
+
+-- ---- instructions by position
+
+module _ (p : List ℕ) where
+  abbrev pub program : ℕ → List Instr
+  program s = sheetOf (decoded format1 p) s
+
+  -- one past the last byte of sheet s
+  abbrev pub sheetEnd : ℕ → ℕ
+  sheetEnd s = offset p (sheetBody p s) + size p (sheetBody p s)
+
+  -- instruction k of sheet s stands at a position, or the sheet ends there after k instructions
+  pub record Standing (s k at : ℕ) : Type 0 where
+    pub from : instructions (literalCount p) p (instructionLimit - k) at (sheetEnd s) ≡ some (drop k (program s))
+    pub reach : at ≤ sheetEnd s
+
+  -- where sheet s starts and ends
+  pub record SheetSpan (s start end : ℕ) : Type 0 where
+    pub starts : Standing s 0 start
+    pub ends : end ≡ sheetEnd s
+    pub within : end ≤ length p
+
+  -- an instruction stands at a position, whole
+  pub record Whole (at : ℕ) : Type 0 where
+    pub first : Instr
+    pub stands : instruction (literalCount p) p at ≡ some first
+    pub within : at + width first ≤ length p
+
+  -- i is the instruction at a position: of each sheet that has its instruction k there, i is instruction k, and k + 1 is at the next position
+  pub record Reads (at : ℕ) (i : Instr) : Type 0 where
+    pub stands : instruction (literalCount p) p at ≡ some i
+    pub kth : (s k : ℕ) → Standing s k at → at < sheetEnd s → getD (program s) k (push pushVoid) ≡ i
+    pub next : (s k : ℕ) → Standing s k at → at < sheetEnd s → Standing s (k + 1) (at + width i)

@@ -1,0 +1,156 @@
+// Readers of a pack that has passed questions 1 to 5.
+use super::bytes::byte_at;
+use super::bytes::i32_at;
+use super::bytes::number_at;
+use super::bytes::u64_at;
+use super::contents::offset;
+use super::contents::size;
+use super::definitions::item_count;
+use super::format::FORMAT1;
+use super::format::Format;
+ghost use mathlib.Core.Path.{_≡_};
+ghost use Prim.Native.Nat.{suc, _+_, _*_, _<_, _≤_};
+ghost use lib.ListN.{length};
+ghost use Rattle.ink_list.specs.Every.{table};
+ghost use Rattle.ink_list.specs.Filled.{fill, over};
+ghost use Rattle.pack.specs.Bodies.{itemCount, itemsBelow, decoded};
+ghost use Rattle.pack.specs.Bytes.{i32, number};
+ghost use Rattle.pack.specs.Contents.{definitionCount, literalCount, sheetCount};
+ghost use Rattle.pack.specs.Format.{format1, Narrow};
+ghost use Rattle.pack.specs.Judge.{Sound};
+ghost use Rattle.pack.specs.Read.{endsOf, definedOf, literalOf, Stored, SheetSpan};
+
+// Copies n values that stand one after another from a position, into the places from an index on.
+fn copy_values(p: &[u8], at: usize, n: usize, out: &mut [i32], from: usize)
+    requires { ⌜ at + 4 * n ≤ length (now p) ⌝ }
+    requires { ⌜ from + n ≤ length (now out) ⌝ }
+    ensures { λ _. ⌜ now (out .exit) ≡ fill from (table n (λ k. i32 (now (p .entry)) (at + 4 * k))) (now (out .entry)) ⌝ }
+{
+    let mut k = 0;
+    while k < n {
+        let v = i32_at(p, at + 4 * k);
+        out[from + k] = v;
+        k += 1;
+    }
+}
+
+// Reads the definitions of a pack of a format.
+fn copy_definitions(p: &[u8], ends: &mut [u16], defined: &mut [i32], format: Format)
+    requires { ⌜ Narrow format ⌝ }
+    requires { ⌜ Sound format (now p) ⌝ }
+    requires { ⌜ definitionCount (now p) ≤ length (now ends) ⌝ }
+    requires { ⌜ itemCount format (now p) ≤ length (now defined) ⌝ }
+    ensures { λ _. ⌜ now (ends .exit) ≡ over (endsOf (decoded format (now (p .entry)))) (now (ends .entry)) ⌝ }
+    ensures { λ _. ⌜ now (defined .exit) ≡ over (definedOf (decoded format (now (p .entry)))) (now (defined .entry)) ⌝ }
+{
+    let n = byte_at(p, 1);
+    let mut items = 0;
+    let mut d = 0;
+    while d < n {
+        let at = offset(p, d) + format.wide;
+        let k = item_count(p, d, format);
+        copy_values(p, at, k, defined, items);
+        items += k;
+        ends[d] = items as u16;
+        d += 1;
+    }
+}
+
+// Reads the definitions: one past each definition's last item, and each item's value.
+pub fn read_definitions(p: &[u8], ends: &mut [u16], defined: &mut [i32])
+    requires { ⌜ Sound format1 (now p) ⌝ }
+    requires { ⌜ definitionCount (now p) ≤ length (now ends) ⌝ }
+    requires { ⌜ itemCount format1 (now p) ≤ length (now defined) ⌝ }
+    ensures { λ _. ⌜ now (ends .exit) ≡ over (endsOf (decoded format1 (now (p .entry)))) (now (ends .entry)) ⌝ }
+    ensures { λ _. ⌜ now (defined .exit) ≡ over (definedOf (decoded format1 (now (p .entry)))) (now (defined .entry)) ⌝ }
+{
+    copy_definitions(p, ends, defined, FORMAT1);
+}
+
+// The origin set of literal l.
+pub fn literal_origins(p: &[u8], l: usize) -> u64
+    requires { ⌜ Sound format1 (now p) ⌝ }
+    requires { ⌜ l < literalCount (now p) ⌝ }
+    ensures { λ r. ⌜ r ≡ literalOf (decoded format1 (now (p .entry))) l .origins ⌝ }
+{
+    let at = offset(p, byte_at(p, 1) + l);
+    u64_at(p, at)
+}
+
+// How many entries literal l has.
+pub fn literal_len(p: &[u8], l: usize) -> usize
+    requires { ⌜ Sound format1 (now p) ⌝ }
+    requires { ⌜ l < literalCount (now p) ⌝ }
+    ensures { λ r. ⌜ r ≡ length (literalOf (decoded format1 (now (p .entry))) l .entries) ⌝ }
+{
+    let n = size(p, byte_at(p, 1) + l);
+    (n - 8) / (FORMAT1.wide + 4)
+}
+
+// Copies n entries that stand one after another from a position, into the places from an index on.
+fn copy_entries(
+    p: &[u8],
+    at: usize,
+    n: usize,
+    items: &mut [u16],
+    values: &mut [i32],
+    from: usize,
+    wide: usize,
+)
+    requires { ⌜ (0 < wide) × (wide ≤ 2) ⌝ }
+    requires { ⌜ at + (wide + 4) * n ≤ length (now p) ⌝ }
+    requires { ⌜ from + n ≤ length (now items) ⌝ }
+    requires { ⌜ from + n ≤ length (now values) ⌝ }
+    ensures { λ _. ⌜ now (items .exit) ≡ fill from (table n (λ k. number wide (now (p .entry)) (at + (wide + 4) * k))) (now (items .entry)) ⌝ }
+    ensures { λ _. ⌜ now (values .exit) ≡ fill from (table n (λ k. i32 (now (p .entry)) (at + (wide + 4) * k + wide))) (now (values .entry)) ⌝ }
+{
+    let mut k = 0;
+    while k < n {
+        let e = at + (wide + 4) * k;
+        let i = number_at(p, e, wide) as u16;
+        let v = i32_at(p, e + wide);
+        items[from + k] = i;
+        values[from + k] = v;
+        k += 1;
+    }
+}
+
+// Copies the entries of literal l into the places from an index on, and says how many there are.
+pub fn read_literal(p: &[u8], l: usize, items: &mut [u16], values: &mut [i32], from: usize) -> usize
+    requires { ⌜ Sound format1 (now p) ⌝ }
+    requires { ⌜ l < literalCount (now p) ⌝ }
+    requires { ⌜ from + length (literalOf (decoded format1 (now p)) l .entries) ≤ length (now items) ⌝ }
+    requires { ⌜ from + length (literalOf (decoded format1 (now p)) l .entries) ≤ length (now values) ⌝ }
+    ensures { λ r. ⌜ Stored (literalOf (decoded format1 (now (p .entry))) l .entries) from r (now (items .entry)) (now (items .exit)) (now (values .entry)) (now (values .exit)) ⌝ }
+{
+    let n = literal_len(p, l);
+    let at = offset(p, byte_at(p, 1) + l) + 8;
+    copy_entries(p, at, n, items, values, from, FORMAT1.wide);
+    n
+}
+
+// How many sheets there are.
+pub fn sheet_count(p: &[u8]) -> usize
+    requires { ⌜ Sound format1 (now p) ⌝ }
+    ensures { λ r. ⌜ r ≡ length (decoded format1 (now (p .entry)) .sheets) ⌝ }
+{
+    byte_at(p, 3)
+}
+
+// Where a body starts and ends.
+pub struct Span {
+    pub start: usize,
+    pub end: usize,
+}
+
+// Where sheet s starts and ends.
+pub fn sheet_span(p: &[u8], s: usize) -> Span
+    requires { ⌜ Sound format1 (now p) ⌝ }
+    requires { ⌜ s < sheetCount (now p) ⌝ }
+    ensures { λ r. ⌜ SheetSpan (now (p .entry)) s (r .start) (r .end) ⌝ }
+{
+    let b = byte_at(p, 1) + byte_at(p, 2) + s;
+    let start = offset(p, b);
+    let end = start + size(p, b);
+    Span { start, end }
+}
