@@ -1,6 +1,7 @@
 -- What each Float operation is, for every operand, over whole numbers. Where a result is rounded or built it is said by a
 -- relation of the operands and the result r, elsewhere by a definition. proofs/Meets.antt has for each the theorem that the
--- operation of specs/Real.antt, which the contracts cite, is exactly this. Assumes nothing.
+-- operation of specs/Real.antt, which the contracts cite, is exactly this. Min, Max and truthy stand in specs/Real.antt.
+-- Assumes nothing.
 use mathlib.Core.Path.{_≡_}
 use mathlib.Core.Bool.{Bool, true, false, not, _&&_, _||_, cond}
 use Prim.Native.Nat.{ℕ, zero, suc, _+_, _-_, _*_, _/_, _%_, _^_, _<_}
