@@ -15,7 +15,7 @@ use Rattle.ink_number.specs.Operations.{sumSign}
 use Rattle.ink_number.proofs.Signed.{sub-lt, sub-ge}
 use Rattle.ink_number.proofs.Rounds.{rounded}
 
-abbrev pub SumAt : Bool → ℕ → Bool → ℕ → ℕ → Float → Type 0
+abbrev SumAt : Bool → ℕ → Bool → ℕ → ℕ → Float → Type 0
 SumAt s a t b c r = let z = withSign s a +ℤ withSign t b in Rounded (sumSign s t z) (natAbs z) c r
 
 -- `round` of the sum's sign p and magnitude k

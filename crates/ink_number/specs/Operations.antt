@@ -9,7 +9,7 @@ use lib.Dec.{leb, eqb}
 use lib.IntN.{ℤ, pos, negsuc, natAbs, _+ℤ_}
 use lib.Signed.{ltZ}
 use lib.Ieee.{Float, nan, inf, fin}
-use Rattle.ink_number.specs.Int.{withSign, negative, unlike, eqZ}
+use Rattle.ink_number.specs.Int.{lowest, greatest, withSign, negative, unlike, eqZ}
 use Rattle.ink_number.specs.Binary32.{numerator, denominator, Is}
 use Rattle.ink_number.specs.Nearest.{Rounded}
 
@@ -117,12 +117,6 @@ abbrev pub OfInt : ℤ → Float → Type 0
 OfInt n r = Rounded (negative n) (natAbs n) 1 r
 
 -- ---- "Float to Int truncates, saturates, and gives 0 for NaN."
-
-abbrev pub lowest : ℤ
-lowest = negsuc (2 ^ 31 - 1)
-
-abbrev pub greatest : ℤ
-greatest = pos (2 ^ 31 - 1)
 
 abbrev pub saturated : ℤ → ℤ
 saturated z = cond (ltZ z lowest) lowest (cond (ltZ greatest z) greatest z)
