@@ -3,11 +3,11 @@ use mathlib.Core.Path.{_≡_, refl, sym, ap, _∙_, subst}
 use mathlib.Core.Bool.{Bool, true, false, _&&_, cond}
 use mathlib.Core.Logic.{_⊎_, inl, inr}
 use Prim.Native.Nat.{ℕ, zero, suc, _+_, _-_, _≤_, _<_}
-use native.Mathlib.Nat.{le-of-lt, le-of-eq, eq-or-lt-of-le, zero-lt-suc}
+use native.Mathlib.Nat.{le-of-lt, le-of-eq, eq-or-lt-of-le}
 use native.Mathlib.Omega.{arith}
 use borrow.Author.Tests.{ltb-true, ltb-false}
 use lib.Dec.{ltb}
-use lib.IntN.{ℤ, pos, negℤ, natAbs, subℕ, _+ℤ_}
+use lib.IntN.{ℤ, pos, negℤ, natAbs, subℕ, _+ℤ_, negℤ-+ℤ}
 use lib.Ieee.{Float, binary32, round, sum}
 use Rattle.ink_number.specs.Int.{withSign}
 use Rattle.ink_number.specs.Nearest.{Rounded}
@@ -35,28 +35,18 @@ both-plus a b c C = at false false c (pos (a + b)) false (a + b) C (plus-sign (a
     plus-sign (suc k) = refl
 
 both-minus : (a b c : ℕ) → 0 < c → SumAt true a true b c (round binary32 true (a + b) c)
-both-minus a b c C = at true true c (negℤ (pos a) +ℤ negℤ (pos b)) true (a + b) C (sign a b) (size a b)
+both-minus a b c C =
+    let z = negℤ (pos a) +ℤ negℤ (pos b) in
+    let e : z ≡ negℤ (pos (a + b)) = sym (negℤ-+ℤ (pos a) (pos b)) in
+    at true true c z true (a + b) C (ap (sumSign true true) e ∙ minus-sign (a + b)) (ap natAbs e ∙ size (a + b))
   where
-    sign : (a b : ℕ) → sumSign true true (negℤ (pos a) +ℤ negℤ (pos b)) ≡ true
-    sign zero zero = refl
-    sign zero (suc b) = ap (sumSign true true) (sub-lt 0 (suc b) (zero-lt-suc b))
-    sign (suc a) zero = ap (sumSign true true) (sub-lt 0 (suc a) (zero-lt-suc a))
-    sign (suc a) (suc b) = refl
+    minus-sign : (k : ℕ) → sumSign true true (negℤ (pos k)) ≡ true
+    minus-sign zero = refl
+    minus-sign (suc k) = refl
 
-    size : (a b : ℕ) → natAbs (negℤ (pos a) +ℤ negℤ (pos b)) ≡ a + b
-    size zero zero = refl
-    size zero (suc b) = ap natAbs (sub-lt 0 (suc b) (zero-lt-suc b)) ∙ num b
-      where
-        num : (b : ℕ) → suc (suc b - 1) ≡ 0 + suc b
-        num b = omega arith
-    size (suc a) zero = ap natAbs (sub-lt 0 (suc a) (zero-lt-suc a)) ∙ num a
-      where
-        num : (b : ℕ) → suc (suc b - 1) ≡ suc b + 0
-        num b = omega arith
-    size (suc a) (suc b) = num a b
-      where
-        num : (a b : ℕ) → suc (suc (a + b)) ≡ suc a + suc b
-        num a b = omega arith
+    size : (k : ℕ) → natAbs (negℤ (pos k)) ≡ k
+    size zero = refl
+    size (suc k) = refl
 
 -- a + -b and -a + b are differences of natural numbers
 plus-minus : (a b : ℕ) → pos a +ℤ negℤ (pos b) ≡ subℕ a b
