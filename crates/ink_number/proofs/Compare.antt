@@ -1,8 +1,7 @@
--- What `compare` says of two numbers, and what it answers for numbers whose order is known. Assumes nothing.
-use mathlib.Core.Path.{_≡_, refl, subst}
+-- What `compare` says of two numbers. Assumes nothing.
+use mathlib.Core.Path.{_≡_, subst}
 use mathlib.Core.Bool.{not}
 use Prim.Native.Nat.{ℕ, _≤_, _<_, compare, Ordering, Ordering·lt, Ordering·eq, Ordering·gt}
-use native.Mathlib.Omega.{arith}
 use lib.Dec.{T, eqb, isLe, isEq, leb→le, nleb→lt, eqb→eq, eqb-refl}
 use lib.Arith.{lt-of-le-ne}
 
@@ -18,27 +17,3 @@ cmp a b = go (compare a b) (leb→le a b) (nleb→lt a b) (eqb→eq a b) (λ (e 
     go Ordering·lt h k e n = lt-of-le-ne (h tt) n
     go Ordering·eq h k e n = e tt
     go Ordering·gt h k e n = k tt
-
-pub compare-lt : (a b : ℕ) → a < b → compare a b ≡ Ordering·lt
-compare-lt a b h = go (compare a b) (cmp a b)
-  where
-    go : (o : Ordering) → Cmp o a b → o ≡ Ordering·lt
-    go Ordering·lt c = refl
-    go Ordering·eq c = absurd (omega arith)
-    go Ordering·gt c = absurd (omega arith)
-
-pub compare-eq : (a b : ℕ) → a ≡ b → compare a b ≡ Ordering·eq
-compare-eq a b h = go (compare a b) (cmp a b)
-  where
-    go : (o : Ordering) → Cmp o a b → o ≡ Ordering·eq
-    go Ordering·lt c = absurd (omega arith)
-    go Ordering·eq c = refl
-    go Ordering·gt c = absurd (omega arith)
-
-pub compare-gt : (a b : ℕ) → b < a → compare a b ≡ Ordering·gt
-compare-gt a b h = go (compare a b) (cmp a b)
-  where
-    go : (o : Ordering) → Cmp o a b → o ≡ Ordering·gt
-    go Ordering·lt c = absurd (omega arith)
-    go Ordering·eq c = absurd (omega arith)
-    go Ordering·gt c = refl

@@ -3,11 +3,11 @@ use mathlib.Core.Path.{_≡_, refl, sym, ap, _∙_, subst}
 use mathlib.Core.Bool.{Bool, true, false, _&&_, cond}
 use mathlib.Core.Logic.{_⊎_, inl, inr}
 use Prim.Native.Nat.{ℕ, zero, suc, _+_, _-_, _≤_, _<_}
-use native.Mathlib.Nat.{le-of-lt, le-of-eq, eq-or-lt-of-le, zero-lt-suc}
+use native.Mathlib.Nat.{le-of-lt, le-of-eq, eq-or-lt-of-le}
 use native.Mathlib.Omega.{arith}
 use borrow.Author.Tests.{ltb-true, ltb-false}
 use lib.Dec.{ltb}
-use lib.IntN.{ℤ, pos, negℤ, natAbs, subℕ, _+ℤ_}
+use lib.IntN.{ℤ, pos, negℤ, natAbs, subℕ, _+ℤ_, negℤ-+ℤ}
 use lib.Ieee.{Float, binary32, round, sum}
 use Rattle.ink_number.specs.Int.{withSign}
 use Rattle.ink_number.specs.Nearest.{Rounded}
@@ -15,11 +15,16 @@ use Rattle.ink_number.specs.Operations.{sumSign}
 use Rattle.ink_number.proofs.Signed.{sub-lt, sub-ge}
 use Rattle.ink_number.proofs.Rounds.{rounded}
 
-abbrev pub SumAt : Bool → ℕ → Bool → ℕ → ℕ → Float → Type 0
+abbrev SumAt : Bool → ℕ → Bool → ℕ → ℕ → Float → Type 0
 SumAt s a t b c r = let z = withSign s a +ℤ withSign t b in Rounded (sumSign s t z) (natAbs z) c r
 
-at : (s t : Bool) (c : ℕ) (z : ℤ) (p : Bool) (k : ℕ) → 0 < c → sumSign s t z ≡ p → natAbs z ≡ k → Rounded (sumSign s t z) (natAbs z) c (round binary32 p k c)
-at s t c z p k C e f = subst (λ (x : Float). Rounded (sumSign s t z) (natAbs z) c x) (ap (λ (q : Bool). round binary32 q (natAbs z) c) e ∙ ap (λ (x : ℕ). round binary32 p x c) f) (rounded (sumSign s t z) (natAbs z) c C)
+-- `round` of the sum's sign p and magnitude k
+at : (s t : Bool) (c : ℕ) (z : ℤ) (p : Bool) (k : ℕ) → 0 < c → sumSign s t z ≡ p → natAbs z ≡ k
+    → Rounded (sumSign s t z) (natAbs z) c (round binary32 p k c)
+at s t c z p k C e f =
+    subst (Rounded (sumSign s t z) (natAbs z) c)
+    (ap (λ (q : Bool). round binary32 q (natAbs z) c) e ∙ ap (λ (x : ℕ). round binary32 p x c) f)
+    (rounded (sumSign s t z) (natAbs z) c C)
 
 -- the sum of two of a sign
 both-plus : (a b c : ℕ) → 0 < c → SumAt false a false b c (round binary32 false (a + b) c)
@@ -30,28 +35,18 @@ both-plus a b c C = at false false c (pos (a + b)) false (a + b) C (plus-sign (a
     plus-sign (suc k) = refl
 
 both-minus : (a b c : ℕ) → 0 < c → SumAt true a true b c (round binary32 true (a + b) c)
-both-minus a b c C = at true true c (negℤ (pos a) +ℤ negℤ (pos b)) true (a + b) C (sign a b) (size a b)
+both-minus a b c C =
+    let z = negℤ (pos a) +ℤ negℤ (pos b) in
+    let e : z ≡ negℤ (pos (a + b)) = sym (negℤ-+ℤ (pos a) (pos b)) in
+    at true true c z true (a + b) C (ap (sumSign true true) e ∙ minus-sign (a + b)) (ap natAbs e ∙ size (a + b))
   where
-    sign : (a b : ℕ) → sumSign true true (negℤ (pos a) +ℤ negℤ (pos b)) ≡ true
-    sign zero zero = refl
-    sign zero (suc b) = ap (sumSign true true) (sub-lt 0 (suc b) (zero-lt-suc b))
-    sign (suc a) zero = ap (sumSign true true) (sub-lt 0 (suc a) (zero-lt-suc a))
-    sign (suc a) (suc b) = refl
+    minus-sign : (k : ℕ) → sumSign true true (negℤ (pos k)) ≡ true
+    minus-sign zero = refl
+    minus-sign (suc k) = refl
 
-    size : (a b : ℕ) → natAbs (negℤ (pos a) +ℤ negℤ (pos b)) ≡ a + b
-    size zero zero = refl
-    size zero (suc b) = ap natAbs (sub-lt 0 (suc b) (zero-lt-suc b)) ∙ num b
-      where
-        num : (b : ℕ) → suc (suc b - 1) ≡ 0 + suc b
-        num b = omega arith
-    size (suc a) zero = ap natAbs (sub-lt 0 (suc a) (zero-lt-suc a)) ∙ num a
-      where
-        num : (b : ℕ) → suc (suc b - 1) ≡ suc b + 0
-        num b = omega arith
-    size (suc a) (suc b) = num a b
-      where
-        num : (a b : ℕ) → suc (suc (a + b)) ≡ suc a + suc b
-        num a b = omega arith
+    size : (k : ℕ) → natAbs (negℤ (pos k)) ≡ k
+    size zero = refl
+    size (suc k) = refl
 
 -- a + -b and -a + b are differences of natural numbers
 plus-minus : (a b : ℕ) → pos a +ℤ negℤ (pos b) ≡ subℕ a b
@@ -75,9 +70,10 @@ minus-plus zero b = ap pos (more b) ∙ sym (sub-ge b 0 (from b))
 minus-plus (suc a) b = refl
 
 -- of unlike signs: the difference has the sign of the larger, and +0 where there is none. s is the sign of a
-unlike-meets : (s t : Bool) (a b c : ℕ) (z : ℤ) → 0 < c → s && t ≡ false → (b ≤ a → (sumSign s t z ≡ s && ltb b a) × (natAbs z ≡ a - b)) → (a < b → (sumSign s t z ≡ t) × (natAbs z ≡ b - a))
+unlike-meets : (s t : Bool) (a b c : ℕ) (z : ℤ) → 0 < c → (b ≤ a → (sumSign s t z ≡ s && ltb b a) × (natAbs z ≡ a - b))
+    → (a < b → (sumSign s t z ≡ t) × (natAbs z ≡ b - a))
     → Rounded (sumSign s t z) (natAbs z) c (cond (ltb a b) (round binary32 t (b - a) c) (round binary32 (s && ltb b a) (a - b) c))
-unlike-meets s t a b c z C u g l = go (ltb a b) refl
+unlike-meets s t a b c z C g l = go (ltb a b) refl
   where
     go : (x : Bool) → ltb a b ≡ x → Rounded (sumSign s t z) (natAbs z) c (cond x (round binary32 t (b - a) c) (round binary32 (s && ltb b a) (a - b) c))
     go true e = let h = l (ltb-true a b e) in at s t c z t (b - a) C (h .0) (h .1)
@@ -109,7 +105,7 @@ plus-meets : (a b c : ℕ) → 0 < c → SumAt false a true b c (cond (ltb a b) 
 plus-meets a b c C =
     let z = pos a +ℤ negℤ (pos b) in
     let e = plus-minus a b in
-    unlike-meets false true a b c z C refl
+    unlike-meets false true a b c z C
     (λ h. (ap (sumSign false true) (e ∙ sub-ge a b h) ∙ sign-pos false true (a - b) refl, ap natAbs e ∙ sub-abs-ge a b h))
     (λ h. (ap (sumSign false true) (e ∙ sub-lt a b h), ap natAbs e ∙ sub-abs-lt a b h))
 
@@ -117,7 +113,7 @@ minus-meets : (a b c : ℕ) → 0 < c → SumAt true a false b c (cond (ltb a b)
 minus-meets a b c C =
     let z = negℤ (pos a) +ℤ pos b in
     let e = minus-plus a b in
-    unlike-meets true false a b c z C refl
+    unlike-meets true false a b c z C
     (λ h. (ap (sumSign true false) e ∙ sign-neg a b h, ap natAbs e ∙ back a b h))
     (λ h. (ap (sumSign true false) (e ∙ sub-ge b a (le-of-lt h)) ∙ sign-pos true false (b - a) refl, ap natAbs e ∙ sub-abs-ge b a (le-of-lt h)))
   where

@@ -1,6 +1,7 @@
 -- What each Float operation is, for every operand, over whole numbers. Where a result is rounded or built it is said by a
 -- relation of the operands and the result r, elsewhere by a definition. proofs/Meets.antt has for each the theorem that the
--- operation of specs/Real.antt, which the contracts cite, is exactly this. Assumes nothing.
+-- operation of specs/Real.antt, which the contracts cite, is exactly this. Min, Max and truthy stand in specs/Real.antt.
+-- Assumes nothing.
 use mathlib.Core.Path.{_≡_}
 use mathlib.Core.Bool.{Bool, true, false, not, _&&_, _||_, cond}
 use Prim.Native.Nat.{ℕ, zero, suc, _+_, _-_, _*_, _/_, _%_, _^_, _<_}
@@ -8,7 +9,7 @@ use lib.Dec.{leb, eqb}
 use lib.IntN.{ℤ, pos, negsuc, natAbs, _+ℤ_}
 use lib.Signed.{ltZ}
 use lib.Ieee.{Float, nan, inf, fin}
-use Rattle.ink_number.specs.Int.{withSign, negative, unlike, eqZ}
+use Rattle.ink_number.specs.Int.{lowest, greatest, withSign, negative, unlike, eqZ}
 use Rattle.ink_number.specs.Binary32.{numerator, denominator, Is}
 use Rattle.ink_number.specs.Nearest.{Rounded}
 
@@ -116,12 +117,6 @@ abbrev pub OfInt : ℤ → Float → Type 0
 OfInt n r = Rounded (negative n) (natAbs n) 1 r
 
 -- ---- "Float to Int truncates, saturates, and gives 0 for NaN."
-
-abbrev pub lowest : ℤ
-lowest = negsuc (2 ^ 31 - 1)
-
-abbrev pub greatest : ℤ
-greatest = pos (2 ^ 31 - 1)
 
 abbrev pub saturated : ℤ → ℤ
 saturated z = cond (ltZ z lowest) lowest (cond (ltZ greatest z) greatest z)

@@ -1,35 +1,20 @@
 -- The remainder of two binary32 numbers is one, so that lib.Ieee's `rem` rounds nothing. Both are whole numbers of units of
 -- 2 ^ -149, and the remainder of m * 2 ^ a by n * 2 ^ b has no more digits than m or n. Assumes nothing.
-use mathlib.Core.Path.{_≡_, refl, sym, ap, _∙_, subst}
+use mathlib.Core.Path.{_≡_, refl, sym, ap, _∙_}
 use mathlib.Core.Bool.{Bool, true, false}
-use Prim.Native.Nat.{ℕ, zero, suc, _+_, _-_, _*_, _/_, _%_, _^_, _≤_, _<_}
-use native.Mathlib.Nat.{le-trans, le-of-lt, le-of-eq, le-of-suc-le-suc, lt-of-not-le, lt-of-lt-of-le, lt-of-le-of-lt, not-le-of-lt, mul-one, one-mul, mul-comm, mul-assoc, mul-right-comm, mul-pos, mul-lt-mul-of-pos-right, lt-of-mul-lt-mul-right, mod-le, mod-lt, div-add-mod', add-mul}
+use Prim.Native.Nat.{ℕ, _+_, _-_, _*_, _/_, _%_, _^_, _≤_, _<_}
+use native.Mathlib.Nat.{le-trans, le-of-lt, le-of-eq, lt-of-lt-of-le, lt-of-le-of-lt, mul-comm, mul-assoc, mul-right-comm, mul-pos, mul-lt-mul-of-pos-right, mod-le, mod-lt, div-add-mod', add-mul}
 use borrow.Author.Tests.{leb-true, leb-false}
-use lib.Dec.{leb, lit<, lit≤}
-use lib.IntN.{ℤ, pos, negsuc}
-use lib.Pow.{pow-add, pow-pos, pow-lt}
+use lib.Dec.{leb}
+use lib.IntN.{ℤ}
+use lib.Pow.{pow-pos}
 use lib.Arith.{digits-mod}
 use lib.Ieee.{fin, binary32, up, down, round}
 use lib.Ieee.Fits.{up-pos, down-pos}
 use lib.Ieee.Exact.{HasValue, round-exact}
 use Rattle.ink_number.specs.Binary32.{Binary32}
-use Rattle.ink_number.proofs.Binary32.{num-is, den-is}
 use Rattle.ink_number.proofs.Powers.{factor}
-
--- what a finite binary32 value keeps to
-abbrev Held : ℕ → ℤ → Type 0
-Held m e = (m < 2 ^ 24) × (down e ≤ 2 ^ 149) × (m * up e < 2 ^ 128 * down e)
-
-held : (s : Bool) (m : ℕ) (e : ℤ) → Binary32 (fin s m e) → Held m e
-unfolding Binary32
-held s zero e b = subst (Held 0) (sym b) (lit< tt, lit≤ tt, lit< tt)
-held s (suc m) e b = (b .1, rw den-is at (b .2), rw (num-is, den-is) at (b .3))
-
--- 2 ^ e is 2 ^ a units of 2 ^ -149
-scale : (e : ℤ) → down e ≤ 2 ^ 149 → (a : ℕ) × (up e * 2 ^ 149 ≡ 2 ^ a * down e)
-scale (pos k) h = (k + 149, sym (pow-add 2 k 149) ∙ sym (mul-one (2 ^ (k + 149))))
-scale (negsuc k) h =
-    (149 - suc k, one-mul (2 ^ 149) ∙ factor 149 (suc k) (le-of-suc-le-suc (lt-of-not-le (λ (g : 149 < suc k). not-le-of-lt (pow-lt g) h))))
+use Rattle.ink_number.proofs.Values.{held, scale, below-top}
 
 -- a remainder of multiples
 mod-scale : (a b c : ℕ) → 0 < b → 0 < c → a * c % (b * c) ≡ a % b * c
@@ -76,12 +61,6 @@ in-units m x y a u h =
     mul-right-comm (m * u) y (2 ^ 149)
     ∙ ap (λ (z : ℕ). z * y) (mul-assoc m u (2 ^ 149) ∙ ap (λ (z : ℕ). m * z) h ∙ sym (mul-assoc m (2 ^ a) x))
     ∙ mul-assoc (m * 2 ^ a) x y
-
-below-top : (m a x u : ℕ) → u * 2 ^ 149 ≡ 2 ^ a * x → 0 < x → m * u < 2 ^ 128 * x → m * 2 ^ a < 2 ^ 277
-below-top m a x u h X l =
-    lt-of-mul-lt-mul-right x
-    (lt-of-le-of-lt (le-of-eq (mul-assoc m (2 ^ a) x ∙ ap (λ (z : ℕ). m * z) (sym h) ∙ sym (mul-assoc m u (2 ^ 149))))
-    (lt-of-lt-of-le (mul-lt-mul-of-pos-right l (pow-pos 149)) (le-of-eq (mul-right-comm (2 ^ 128) x (2 ^ 149)))))
 
 module _ (s : Bool) (m : ℕ) (e : ℤ) (t : Bool) (n : ℕ) (d : ℤ) where
   abbrev A : ℕ
