@@ -4,9 +4,9 @@ use mathlib.Core.Bool.{Bool, true, false}
 use mathlib.Core.List.{List}
 use mathlib.Core.Path.{_≡_, refl, sym}
 use native.Mathlib.Omega.{arith}
-use Rattle.ink_number.specs.Answer.{Answer, gives, refuses}
+use Rattle.ink_number.specs.Answer.{Answer, gives, refuses, ask}
 use Rattle.pack.specs.Bodies.{Pack, decoded}
-use Rattle.pack.specs.Judge.{ask, judge, checked, question1, question2, question3, question4, question5, Sound}
+use Rattle.pack.specs.Judge.{judge, checked, question1, question2, question3, question4, question5, Sound}
 use Rattle.pack.specs.declared.Checked.{Checked}
 use Rattle.pack.specs.declared.Checked.the-variants.{Passed, Refused}
 use Rattle.pack.specs.declared.format.Format.{Format}

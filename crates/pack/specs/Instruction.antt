@@ -1,5 +1,5 @@
 -- Instructions: what each is, its bytes, and the instructions of a sheet.
-use Prim.Native.Nat.{ℕ, zero, suc, _+_}
+use Prim.Native.Nat.{ℕ, zero, suc, _+_, _<_}
 use mathlib.Core
 use mathlib.Core.Bool.{true, false, cond}
 use mathlib.Core.List.{[], _∷_}
@@ -89,3 +89,13 @@ instructions L p (suc n) at end =
 abbrev pub taken : ℕ → ℕ → Option Instr → ℕ
 taken at end none = 0
 taken at end (some i) = cond (leb (at + width i) end) (width i) 0
+
+-- what the operand of an instruction of a pack of L literals is limited to
+abbrev pub Allowed : ℕ → Instr → Type 0
+Allowed L (op n) = n < 32
+Allowed L (push (pushBool b)) = Unit {0}
+Allowed L (push (pushInt z)) = Unit {0}
+Allowed L (push (pushFloat n)) = Unit {0}
+Allowed L (push (pushList l)) = l < L
+Allowed L (push (pushSlot s)) = s < slotLimit
+Allowed L (push pushVoid) = Unit {0}
