@@ -14,7 +14,7 @@ use Rattle.pack.specs.Judge.{judge}
 use Rattle.pack.specs.Read.{literalOf, sheetOf}
 use Rattle.pack.specs.declared.format.Format.{Format}
 use Rattle.sheet.specs.Machine.{Run, End, ended, stopped, run, vet}
-use Rattle.sheet.specs.Whole.{definitionsOf, opened, started, sheetRun, sheetVet}
+use Rattle.sheet.specs.Whole.{definitionsOf, opened, started, sheetRun, sheetVet, countOf}
 use Rattle.sheet.specs.Foretold.{verdict, Begins, Foretold}
 use Rattle.sheet.proofs.Demand.{demand3}
 
@@ -29,11 +29,6 @@ opened-alike F p s memory memory' h h' = go (judge F p) refl
         ≡ andThen a (λ d. ask 6 (ltb s (length (d .sheets))) (ask 7 (memory' d) (gives d)))
     go (gives d) e = ap (λ (t : Bool). ask 6 (ltb s (length (d .sheets))) (ask 7 t (gives d))) (h d e ∙ sym (h' d e))
     go (refuses r) e = refl
-
--- how many instructions a sheet has, where the call gets to it
-abbrev pub countOf : Answer Pack → ℕ → ℕ
-countOf (gives d) s = length (sheetOf d s)
-countOf (refuses r) s = 0
 
 module _ (F : Format) (s : ℕ) (f : List ℕ) (slots : List Val) where
   foretold : (a : Answer Pack)

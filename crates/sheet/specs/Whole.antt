@@ -33,3 +33,8 @@ sheetRun F p s memory slots = started (opened F p s memory) (λ d. run (definiti
 -- vetting gets 16 kind codes for the slots
 abbrev pub sheetVet : Format → List ℕ → ℕ → (Pack → Bool) → List Kind → Run Kind
 sheetVet F p s memory kinds = started (opened F p s memory) (λ d. vet (sheetOf d s) kinds)
+
+-- how many instructions a sheet has, where the call gets to it
+abbrev pub countOf : Answer Pack → ℕ → ℕ
+countOf (gives d) s = length (sheetOf d s)
+countOf (refuses r) s = 0
