@@ -3,7 +3,7 @@ use mathlib.Core.Path.{_≡_}
 use mathlib.Core.Bool.{Bool, true, false}
 use mathlib.Core.List.{List, [], _∷_}
 use Prim.Native.Nat.{ℕ, _+_, _≤_}
-use lib.Dec.{ltb}
+use lib.Dec.{ltb, leb, eqb}
 use lib.IntN.{ℤ, pos}
 use lib.Ieee.{Float}
 use lib.ListN.{length, take, drop}
@@ -11,8 +11,9 @@ use Rattle.ink_number.specs.Answer.{Answer, gives, refuses}
 use Rattle.ink_number.specs.Int.{truthyZ}
 use Rattle.ink_number.specs.Real.{ofInt32, toInt32, truthyF}
 use Rattle.ink_list.specs.Ops.{extremeValue, valueOfList}
+use Rattle.ink_list.specs.Every.{_and_}
 use Rattle.ink_list.specs.Filled.{over}
-use Rattle.ink_list.specs.Entries.{Entry, entries, items, values, Lent, Rising}
+use Rattle.ink_list.specs.Entries.{Entry, entries, items, values, Lent, Rising, formed}
 use Rattle.ink_value.specs.Val.{Val, bool, int, float, list, void}
 use Rattle.ink_value.specs.Convert.{bitZ, entriesOf, greatestOf}
 use Rattle.ink_value.specs.declared.Value.{Value}
@@ -106,6 +107,20 @@ pub record Formed (limit : ℕ) (is : List ℕ) (vs : List ℤ) (v : Value) : Ty
   pub items-in : startOf v + lenOf v ≤ length is
   pub values-in : startOf v + lenOf v ≤ length vs
   pub lent : Lent limit (part (startOf v) (lenOf v) is) (part (startOf v) (lenOf v) vs)
+
+-- 7, of one slot or operand: a List's entries stand whole in the two slices, and are "formed as literals" of a pack of `total` items and d
+-- definitions
+abbrev pub formedIn : ℕ → ℕ → List ℕ → List ℤ → Value → Bool
+formedIn total d is vs v =
+    leb (startOf v + lenOf v) (length is) and leb (startOf v + lenOf v) (length vs) and formed total d (setIn v) (part (startOf v) (lenOf v) is)
+
+abbrev pub eachFormed : ℕ → ℕ → List ℕ → List ℤ → List Value → Bool
+eachFormed total d is vs [] = true
+eachFormed total d is vs (v ∷ l) = formedIn total d is vs v and eachFormed total d is vs l
+
+-- 7, of all of them: "slot and operand lists formed as literals with their two slices equally long"
+abbrev pub allFormed : ℕ → ℕ → List ℕ → List ℤ → List Value → Bool
+allFormed total d is vs l = eqb (length is) (length vs) and eachFormed total d is vs l
 
 -- ---- what a call comes to
 

@@ -73,7 +73,7 @@ counted-call o n ks h e =
     let t = takes o n h e in
     rw (t .is-known, t .arity-is, eq-eqb n n refl)
 
-code-at : (k : ℕ) → k < 5 → codeOf (kindAt k) ≡ k
+pub code-at : (k : ℕ) → k < 5 → codeOf (kindAt k) ≡ k
 code-at zero h = refl
 code-at (suc zero) h = refl
 code-at (suc (suc zero)) h = refl
@@ -82,6 +82,12 @@ code-at (suc (suc (suc (suc zero)))) h = refl
 code-at (suc (suc (suc (suc (suc k))))) h = absurd (omega arith)
 
 -- ---- one and two operands, by the table; three, by range
+
+pub below-three : (o n : ℕ) → 1 ≤ n → operandCount o ≡ n → (n ≡ 3 → ⊥) → (n ≡ 1) ⊎ (n ≡ 2)
+below-three o n h e ne =
+    let t = takes o n h e in
+    ⊎-elim (λ q. inl (sym (t .arity-is) ∙ q))
+    (λ w. ⊎-elim (λ q. inr (sym (t .arity-is) ∙ q)) (λ q. absurd (ne (sym (t .arity-is) ∙ q))) w) (arity-some o)
 
 module _ (o : ℕ) (a b c : Kind) where
   by-entry : (n : ℕ) → operandCount o ≡ n → (n ≡ 1) ⊎ (n ≡ 2) → kindCall o n (take n (a ∷ b ∷ c ∷ [])) ≡ kindEntry o a b
@@ -92,12 +98,6 @@ module _ (o : ℕ) (a b c : Kind) where
       let q : operandCount o ≡ 2 = e ∙ h in
       ap (λ (m : ℕ). kindCall o m (take m (a ∷ b ∷ c ∷ []))) h ∙ counted-call o 2 (a ∷ b ∷ []) (omega arith) q ∙ entry-two o a b q
 
-  below-three : (n : ℕ) → 1 ≤ n → operandCount o ≡ n → (n ≡ 3 → ⊥) → (n ≡ 1) ⊎ (n ≡ 2)
-  below-three n h e ne =
-      let t = takes o n h e in
-      ⊎-elim (λ q. inl (sym (t .arity-is) ∙ q))
-      (λ w. ⊎-elim (λ q. inr (sym (t .arity-is) ∙ q)) (λ q. absurd (ne (sym (t .arity-is) ∙ q))) w) (arity-some o)
-
   few : (n : ℕ) → (n ≡ 1) ⊎ (n ≡ 2) → (n ≡ 3 → ⊥) → (r : KindAnswer) → Counted n r
   few n h ne (Ans.Kind k) = (⊎-elim (λ q. omega arith) (λ q. omega arith) h, ⊎-elim (λ q. omega arith) (λ q. omega arith) h, λ q. absurd (ne q))
   few n h ne (Ans.Refused r) = tt
@@ -105,7 +105,7 @@ module _ (o : ℕ) (a b c : Kind) where
   pub entry-given : (n : ℕ) (r : KindAnswer) → operandCount o ≡ n → 1 ≤ n → (n ≡ 3 → ⊥) → kindAnswer r ≡ kindEntry o a b → Coded r
       → KindsGiven o n (take n (a ∷ b ∷ c ∷ [])) r
   entry-given n r e h ne q d =
-      let w = below-three n h e ne in
+      let w = below-three o n h e ne in
       record { answered = q ∙ sym (by-entry n e w); coded = d; counted = few n w ne r }
 
   range-counted : (r : KindAnswer) → kindAnswer r ≡ kindRange a b c → Coded r → Counted 3 r
