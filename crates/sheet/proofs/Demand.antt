@@ -1,12 +1,12 @@
 -- Demand 3: by induction over the instructions, the stack of kinds is the kinds of the stack. Assumes nothing.
 use mathlib.Core.Path.{_≡_, refl, sym, _∙_, ap, subst}
-use mathlib.Core.Logic.{_⊎_, inl, inr, ⊎-elim}
-use mathlib.Core.Bool.{Bool, true, false, cond}
+use mathlib.Core.Logic.{_⊎_, inl, inr}
+use mathlib.Core.Bool.{Bool, true, false}
 use mathlib.Core.List.{List, [], _∷_, map}
 use mathlib.Core.Option.{Option, none, some}
 use Prim.Native.Nat.{ℕ, zero, suc, _+_, _*_, _-_, _<_, _≤_}
 use native.Mathlib.Omega.{arith}
-use native.Mathlib.Nat.{le-of-suc-le-suc, not-suc-le-zero, mul-suc}
+use native.Mathlib.Nat.{le-of-suc-le-suc, not-suc-le-zero}
 use lib.Dec.{ltb}
 use lib.ListN.{length, getD, length-map, List·getD-map}
 use Rattle.ink_number.specs.Answer.{Answer, gives, refuses, ask}
@@ -18,7 +18,7 @@ use Rattle.native_function_call.proofs.Agree.{agree}
 use Rattle.pack.specs.Bodies.{Literal}
 use Rattle.pack.specs.Instruction.{Push, pushBool, pushInt, pushFloat, pushList, pushSlot, pushVoid, Instr, op, push}
 use Rattle.sheet.specs.Machine.{End, ended, stopped, Run, stackLimit, popped, topped, worked, finish, onward, step, runFrom, valuePushed, kindPushed, run, vet}
-use Rattle.sheet.specs.Foretold.{Verdict, passed, turned, verdict, topCode, forecast, Begins, StopsByValue, Foretold}
+use Rattle.sheet.specs.Foretold.{verdict, topCode, forecast, Begins, StopsByValue, Foretold}
 
 -- ---- one instruction
 
@@ -170,7 +170,7 @@ module _ {X : Type 0} (value : Push → X) (apply : ℕ → List X → Answer X)
   onward-length i n x (refuses r) f h e = never-ended r i x e
 
   -- an ended run has a stack for each instruction
-  whole-length : (i : ℕ) (x : X) (ps : List Instr) (st : List X) → runFrom value apply i ps st .end ≡ ended x
+  pub whole-length : (i : ℕ) (x : X) (ps : List Instr) (st : List X) → runFrom value apply i ps st .end ≡ ended x
       → length (runFrom value apply i ps st .stacks) ≡ length ps
   unfolding runFrom
   whole-length i x [] st e = refl

@@ -1,8 +1,8 @@
 -- Stacks that are held in an array, from below. Assumes nothing.
-use mathlib.Core.Path.{_≡_, refl, sym, _∙_, ap, ap₂}
+use mathlib.Core.Path.{_≡_, refl, _∙_, ap, ap₂}
 use mathlib.Core.Bool.{Bool, true, false, cond}
 use mathlib.Core.List.{List, [], _∷_}
-use mathlib.Core.Option.{Option, none, some}
+use mathlib.Core.Option.{none, some}
 use Prim.Native.Nat.{ℕ, zero, suc, _+_, _-_, _≤_, _<_}
 use native.Mathlib.Omega.{arith}
 use native.Mathlib.Numerals.{add-one}
@@ -13,10 +13,10 @@ use lib.Dec.{ltb, eqb}
 use borrow.Author.Tests.{lt-ltb, le-ltb}
 use Rattle.ink_number.specs.Answer.{Answer, gives, refuses, ask}
 use Rattle.native_function_call.specs.Kinds.{known, unary, arity, operandCount}
-use Rattle.native_function_call.proofs.Applying.{Takes, takes}
+use Rattle.native_function_call.proofs.Applying.{takes}
 use Rattle.pack.specs.Instruction.{Push, pushVoid, Instr, push}
 use Rattle.sheet.specs.Stack.{stackOf}
-use Rattle.sheet.specs.Machine.{stackLimit, topped, worked, popped, step, stepOp, stepPush, End, stopped, finish, onward, runFrom}
+use Rattle.sheet.specs.Machine.{stackLimit, topped, worked, popped, step, stepOp, stepPush, stopped, finish, onward, runFrom}
 
 module _ {X : Type 0} where
   pub stack-length : (f : ℕ → X) (n : ℕ) → length (stackOf f n) ≡ n

@@ -3,17 +3,17 @@ use mathlib.Core.Path.{_≡_, refl, sym, ap, _∙_, subst}
 use mathlib.Core.Logic.{inr}
 use mathlib.Core.Bool.{Bool, true, false}
 use mathlib.Core.List.{List, map}
-use Prim.Native.Nat.{ℕ}
-use native.Mathlib.Omega.{arith}
+use Prim.Native.Nat.{ℕ, _≤_, _<_}
 use lib.Dec.{ltb}
 use lib.ListN.{length}
+use borrow.Author.Tests.{le-ltb, lt-ltb}
 use Rattle.ink_number.specs.Answer.{Answer, gives, refuses, ask, andThen}
 use Rattle.ink_value.specs.Val.{Val, Kind, kindOf}
 use Rattle.pack.specs.Bodies.{Pack}
 use Rattle.pack.specs.Judge.{judge}
 use Rattle.pack.specs.Read.{literalOf, sheetOf}
 use Rattle.pack.specs.declared.format.Format.{Format}
-use Rattle.sheet.specs.Machine.{Run, End, ended, stopped, run, vet}
+use Rattle.sheet.specs.Machine.{ended, run, vet}
 use Rattle.sheet.specs.Whole.{definitionsOf, opened, started, sheetRun, sheetVet, countOf}
 use Rattle.sheet.specs.Foretold.{verdict, Begins, Foretold}
 use Rattle.sheet.proofs.Demand.{demand3}
@@ -49,3 +49,23 @@ demand3-whole F p s memory memory' f slots h h' w =
     (started a (λ d. run (definitionsOf F d) (sheetOf d s) (literalOf d) slots)))
     (opened-alike F p s memory memory' h h')
     (foretold F s f slots (opened F p s memory) w)
+
+-- ---- how a call opens the pack
+
+module _ (F : Format) (p : List ℕ) (s : ℕ) (memory : Pack → Bool) where
+  pub opened-refused : (n : ℕ) → judge F p ≡ refuses n → opened F p s memory ≡ refuses n
+  unfolding opened
+  opened-refused n e = rw e
+
+  module _ (d : Pack) (e : judge F p ≡ gives d) where
+    pub opened-six : length (d .sheets) ≤ s → opened F p s memory ≡ refuses 6
+    unfolding opened
+    opened-six h = rw (e, le-ltb s (length (d .sheets)) h)
+
+    pub opened-seven : s < length (d .sheets) → memory d ≡ false → opened F p s memory ≡ refuses 7
+    unfolding opened
+    opened-seven h m = rw (e, lt-ltb s (length (d .sheets)) h, m)
+
+    pub opened-all : s < length (d .sheets) → memory d ≡ true → opened F p s memory ≡ gives d
+    unfolding opened
+    opened-all h m = rw (e, lt-ltb s (length (d .sheets)) h, m)

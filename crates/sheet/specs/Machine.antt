@@ -1,5 +1,4 @@
 -- "A run, written out": one machine, worked on values by a run and on kinds by vetting. Assumes nothing.
-use mathlib.Core.Bool.{cond}
 use mathlib.Core.List.{List, [], _∷_}
 use mathlib.Core.Option.{Option, none, some}
 use Prim.Native.Nat.{ℕ, zero, suc, _+_}

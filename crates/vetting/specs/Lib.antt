@@ -1,0 +1,2 @@
+-- What vetting answers.
+pub mod Vet

@@ -1,0 +1,96 @@
+-- What vetting asks of lent memory, what it answers, and what it leaves in the forecast slice. Assumes nothing.
+use mathlib.Core.Path.{_≡_}
+use mathlib.Core.Bool.{Bool, true}
+use mathlib.Core.List.{List, [], _∷_, map}
+use Prim.Native.Nat.{ℕ, _<_, _≤_, _*_}
+use lib.Dec.{leb}
+use lib.ListN.{length, getD}
+use Rattle.ink_number.specs.Answer.{Answer, gives, refuses}
+use Rattle.ink_list.specs.Every.{_and_}
+use Rattle.ink_list.specs.Filled.{over}
+use Rattle.ink_value.specs.Val.{Val, Kind, kindOf, kindAt}
+use Rattle.pack.specs.Bodies.{Pack}
+use Rattle.pack.specs.Instruction.{Instr}
+use Rattle.pack.specs.Judge.{judge}
+use Rattle.pack.specs.Format.{instructionLimit}
+use Rattle.pack.specs.declared.format.Format.{Format}
+use Rattle.sheet.specs.Machine.{stackLimit, vet}
+use Rattle.sheet.specs.Stack.{stackOf}
+use Rattle.sheet.specs.Whole.{opened, countOf, sheetRun, sheetVet}
+use Rattle.sheet.specs.Foretold.{Verdict, passed, turned, verdict, Begins, forecast, Foretold}
+use Rattle.vetting.specs.declared.Vetted.{Vetted}
+use Rattle.vetting.specs.declared.Vetted.the-variants as Vet
+use Rattle.vetting.specs.declared.Step.{Step}
+use Rattle.vetting.specs.declared.Step.the-variants as Is
+
+-- ---- question 7
+
+-- "Are slot codes at most 4"
+abbrev pub allCodes : List ℕ → Bool
+allCodes [] = true
+allCodes (c ∷ cs) = leb c 4 and allCodes cs
+
+-- "forecast 2,048 bytes": two for each instruction
+abbrev pub forecastLimit : ℕ
+forecastLimit = 2 * instructionLimit
+
+unfoldable pub memory : List ℕ → List ℕ → Pack → Bool
+memory codes f d = allCodes codes and leb forecastLimit (length f)
+
+-- ---- the answer
+
+abbrev pub verdictOf : Vetted → Verdict
+verdictOf (Vet.Passed n) = passed
+verdictOf (Vet.Refused r k) = turned r k
+
+-- where it passed, the count of instructions
+abbrev pub CountIs : Vetted → ℕ → Type 0
+CountIs (Vet.Passed n) m = n ≡ m
+CountIs (Vet.Refused r k) m = Unit {0}
+
+-- "Passed vetting writes two bytes for each instruction, count and top kind, and changes no byte beyond"; "A refusal leaves .. forecast
+-- slices unchanged"
+abbrev pub left : Verdict → List (List Kind) → List ℕ → List ℕ
+left passed sts old = over (forecast sts) old
+left (turned r k) sts old = old
+
+-- vetting's answer v, and what it leaves in the forecast slice
+pub record Answers (F : Format) (p : List ℕ) (s : ℕ) (codes : List ℕ) (v : Vetted) (old new : List ℕ) : Type 0 where
+  pub right : verdictOf v ≡ verdict (sheetVet F p s (memory codes old) (map kindAt codes) .end)
+  pub counted : CountIs v (countOf (opened F p s (memory codes old)) s)
+  pub written : new ≡ left (verdictOf v) (sheetVet F p s (memory codes old) (map kindAt codes) .stacks) old
+  -- demand 3: with memory long enough for both calls, of every run on slot values of these kinds
+  pub foretold : (ready : Pack → Bool) (slots : List Val) → ((d : Pack) → judge F p ≡ gives d → memory codes old d ≡ true)
+      → ((d : Pack) → judge F p ≡ gives d → ready d ≡ true) → map kindOf slots ≡ map kindAt codes
+      → Foretold (countOf (opened F p s (memory codes old)) s) (verdictOf v) new (sheetRun F p s ready slots)
+
+-- ---- the parts
+
+-- each byte is a kind code
+abbrev pub Codes : List ℕ → Type 0
+Codes xs = (p : ℕ) → getD xs p 0 < 5
+
+-- the kind at place p
+abbrev pub kindOn : List ℕ → ℕ → Kind
+kindOn xs p = kindAt (getD xs p 0)
+
+-- the stack after a step, f giving the kinds below
+abbrev pub stepped : Step → (ℕ → Kind) → Answer (List Kind)
+stepped (Is.Put p k) f = gives (kindAt k ∷ stackOf f p)
+stepped (Is.No r) f = refuses r
+
+-- a step on a stack of n puts a kind code at a place of the array, no higher than n
+abbrev pub Within : Step → ℕ → Type 0
+Within (Is.Put p k) n = (p < stackLimit) × (p ≤ n) × (k < 5)
+Within (Is.No r) n = Unit {0}
+
+-- where it passed, the array begins with the forecast of the stacks
+abbrev pub Forecasts : Vetted → List ℕ → List (List Kind) → Type 0
+Forecasts (Vet.Passed n) f sts = (length sts ≡ n) × (n ≤ instructionLimit) × Begins f sts
+Forecasts (Vet.Refused r k) f sts = Unit {0}
+
+-- the answer of a program that question 7 let through, and what it leaves in the forecast slice
+pub record Vets (program : List Instr) (codes : List ℕ) (v : Vetted) (old new : List ℕ) : Type 0 where
+  pub right : verdictOf v ≡ verdict (vet program (map kindAt codes) .end)
+  pub counted : CountIs v (length program)
+  pub written : new ≡ left (verdictOf v) (vet program (map kindAt codes) .stacks) old

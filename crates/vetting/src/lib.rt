@@ -1,0 +1,215 @@
+// Vetting: a sheet's instructions worked on kinds alone.
+use native_function_call::KindAnswer;
+use pack::Checked;
+use pack::instruction::Instruction;
+use sheet::STACK_LIMIT;
+ghost use mathlib.Core.Path.{_≡_};
+ghost use mathlib.Core.List.{map};
+ghost use Prim.Native.Nat.{ℕ, _<_, _≤_, _-_, _*_};
+ghost use lib.ListN.{length, take};
+ghost use Rattle.ink_list.specs.Filled.{over};
+ghost use Rattle.ink_value.specs.Val.{Kind, kindAt};
+ghost use Rattle.native_function_call.specs.Kinds.{kindAnswer, Coded, kindApply, operandCount};
+ghost use Rattle.pack.specs.Contents.{sheetCount};
+ghost use Rattle.pack.specs.Format.{format1};
+ghost use Rattle.pack.specs.Instruction.{instrOf, Allowed};
+ghost use Rattle.pack.specs.Judge.{Sound};
+ghost use Rattle.pack.specs.Read.{program};
+ghost use Rattle.sheet.specs.Machine.{stepOp, stepPush, step, topped, kindPushed, vet};
+ghost use Rattle.sheet.specs.Stack.{stackOf};
+ghost use Rattle.sheet.specs.Foretold.{verdict};
+ghost use Rattle.vetting.specs.Vet.{Codes, kindOn, stepped, Within, verdictOf, Forecasts, allCodes, Vets, Answers};
+
+// Vetting's answer: passed, with the count of instructions; or the number of the first no, and its instruction's index.
+pub enum Vetted {
+    Passed { count: usize },
+    Refused { number: u8, index: usize },
+}
+
+// What one instruction does to the stack: a kind is put at a place, which is then the top; or a question says no.
+enum Step {
+    Put { place: usize, kind: u8 },
+    No(u8),
+}
+
+// The bytes that a forecast may take: two for each instruction.
+const FORECAST_LIMIT: usize = 2048;
+
+// The answer of an operator that takes `count` operands, on the top of a stack of n.
+fn answer(op: u8, count: usize, stack: &[u8; 64], n: usize) -> KindAnswer
+    requires { ⌜ (op < 32) × (count ≡ operandCount op) × (1 ≤ count) × (count ≤ n) × (n ≤ 64) × Codes (now stack) ⌝ }
+    ensures { λ r. ⌜ (topped (stackOf (kindOn (now (stack .entry))) (n - count)) (kindAnswer r) ≡ stepOp kindApply op (stackOf (kindOn (now (stack .entry))) n)) × Coded r ⌝ }
+{
+    let place = n - count;
+    let left = stack[place];
+    let right = stack[n - 1];
+    if count == 3 {
+        native_function_call::kind_range(left, stack[place + 1], right)
+    } else {
+        native_function_call::kind_entry(op, left, right)
+    }
+}
+
+// An operator on a stack of n.
+fn vet_op(op: u8, stack: &[u8; 64], n: usize) -> Step
+    requires { ⌜ (op < 32) × (n ≤ 64) × Codes (now stack) ⌝ }
+    ensures { λ r. ⌜ (stepped r (kindOn (now (stack .entry))) ≡ stepOp kindApply op (stackOf (kindOn (now (stack .entry))) n)) × Within r n ⌝ }
+{
+    let count = native_function_call::operands(op);
+    if count == 0 {
+        return Step::No(8);
+    }
+    if n < count {
+        return Step::No(10);
+    }
+    let a = answer(op, count, stack, n);
+    match a {
+        KindAnswer::Kind(kind) => Step::Put {
+            place: n - count,
+            kind,
+        },
+        KindAnswer::Refused(number) => Step::No(number),
+    }
+}
+
+// A push of a kind on a stack of n: question 9.
+fn vet_push(kind: u8, n: usize) -> Step
+    requires { ⌜ (kind < 5) × (n ≤ 64) ⌝ }
+    ensures { λ r. ⌜ ((f : ℕ → Kind) → stepped r f ≡ stepPush (kindAt kind) (stackOf f n)) × Within r n ⌝ }
+{
+    if n < STACK_LIMIT {
+        Step::Put { place: n, kind }
+    } else {
+        Step::No(9)
+    }
+}
+
+// An instruction on a stack of n.
+fn vet_step(i: Instruction, kinds: [u8; 16], stack: &[u8; 64], n: usize) -> Step
+    requires { ⌜ ((literals : ℕ) × Allowed literals (instrOf i)) ⌝ }
+    requires { ⌜ Codes kinds × (n ≤ 64) × Codes (now stack) ⌝ }
+    ensures { λ r. ⌜ (stepped r (kindOn (now (stack .entry))) ≡ step (kindPushed (map kindAt kinds)) kindApply (instrOf i) (stackOf (kindOn (now (stack .entry))) n)) × Within r n ⌝ }
+{
+    match i {
+        Instruction::Op(op) => vet_op(op, stack, n),
+        Instruction::Bool(_) => vet_push(0, n),
+        Instruction::Int(_) => vet_push(1, n),
+        Instruction::Float(_) => vet_push(2, n),
+        Instruction::List(_) => vet_push(3, n),
+        Instruction::Slot(s) => vet_push(kinds[s as usize], n),
+        Instruction::Void => vet_push(4, n),
+    }
+}
+
+// A sheet of a pack that has passed, its forecast written to an array.
+fn vet_into(pack: &[u8], sheet: usize, kinds: [u8; 16], out: &mut [u8; 2048]) -> Vetted
+    requires { ⌜ Sound format1 (now pack) × (sheet < sheetCount (now pack)) ⌝ }
+    requires { ⌜ (length (now out) ≡ 2048) × Codes kinds ⌝ }
+    ensures { λ r. ⌜ (verdictOf r ≡ verdict (vet (program (now (pack .entry)) sheet) (map kindAt kinds) .end)) × Forecasts r (now (out .exit)) (vet (program (now (pack .entry)) sheet) (map kindAt kinds) .stacks) × (length (now (out .exit)) ≡ 2048) ⌝ }
+{
+    let span = pack::read::sheet_span(pack, sheet);
+    let end = span.end;
+    let mut at = span.start;
+    let mut stack = [0u8; 64];
+    let mut n: usize = 0;
+    let mut i: usize = 0;
+    while at < end {
+        let instruction = pack::instruction::read_instruction(pack, at);
+        let width = pack::instruction::instruction_width(instruction);
+        let step = vet_step(instruction, kinds, &stack, n);
+        match step {
+            Step::Put { place, kind } => {
+                stack[place] = kind;
+                n = place + 1;
+                out[2 * i] = n as u8;
+                out[2 * i + 1] = kind;
+                at += width;
+                i += 1;
+            }
+            Step::No(number) => {
+                return Vetted::Refused { number, index: i };
+            }
+        }
+    }
+    if n == 1 {
+        Vetted::Passed { count: i }
+    } else {
+        Vetted::Refused {
+            number: 17,
+            index: i,
+        }
+    }
+}
+
+// The first n bytes of an array, written to the start of a slice.
+fn write_first(from: &[u8; 2048], to: &mut [u8], n: usize)
+    requires { ⌜ (length (now from) ≡ 2048) × (n ≤ 2048) × (2048 ≤ length (now to)) ⌝ }
+    ensures { λ _. ⌜ now (to .exit) ≡ over (take n (now (from .entry))) (now (to .entry)) ⌝ }
+{
+    let mut i: usize = 0;
+    while i < n {
+        to[i] = from[i];
+        i += 1;
+    }
+}
+
+// Are sixteen codes kind codes.
+fn are_codes(kinds: [u8; 16]) -> bool
+    ensures { λ r. ⌜ r ≡ allCodes kinds ⌝ }
+{
+    let mut i: usize = 0;
+    while i < 16 {
+        if 4 < kinds[i] {
+            return false;
+        }
+        i += 1;
+    }
+    true
+}
+
+// A sheet of a pack that has passed, where question 7 says yes.
+fn vet_sheet(pack: &[u8], sheet: usize, kinds: [u8; 16], forecast: &mut [u8]) -> Vetted
+    requires { ⌜ Sound format1 (now pack) × (sheet < sheetCount (now pack)) ⌝ }
+    requires { ⌜ Codes kinds × (2048 ≤ length (now forecast)) ⌝ }
+    ensures { λ r. ⌜ Vets (program (now (pack .entry)) sheet) kinds r (now (forecast .entry)) (now (forecast .exit)) ⌝ }
+{
+    let mut bytes = [0u8; 2048];
+    let answer = vet_into(pack, sheet, kinds, &mut bytes);
+    match answer {
+        Vetted::Passed { count } => {
+            write_first(&bytes, forecast, 2 * count);
+            Vetted::Passed { count }
+        }
+        Vetted::Refused { number, index } => Vetted::Refused { number, index },
+    }
+}
+
+// Vets a sheet of any bytes for slots of sixteen kinds: questions 1 to 14 and 17.
+pub fn vet(pack: &[u8], sheet: usize, kinds: [u8; 16], forecast: &mut [u8]) -> Vetted
+    ensures { λ r. ⌜ Answers format1 (now (pack .entry)) sheet kinds r (now (forecast .entry)) (now (forecast .exit)) ⌝ }
+{
+    match pack::check(pack) {
+        Checked::Refused(number) => Vetted::Refused { number, index: 0 },
+        Checked::Passed => {
+            if pack::read::sheet_count(pack) <= sheet {
+                return Vetted::Refused {
+                    number: 6,
+                    index: 0,
+                };
+            }
+            if !are_codes(kinds) {
+                return Vetted::Refused {
+                    number: 7,
+                    index: 0,
+                };
+            }
+            if forecast.len() < FORECAST_LIMIT {
+                return Vetted::Refused {
+                    number: 7,
+                    index: 0,
+                };
+            }
+            vet_sheet(pack, sheet, kinds, forecast)
+        }
+    }
+}
