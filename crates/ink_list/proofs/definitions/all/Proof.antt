@@ -1,3 +1,4 @@
+-- `ink_list::definitions::all` meets its contract: Invert of no item. Assumes nothing.
 use lib.ListN.{set}
 use borrow.Author.Needs.{needs}
 use Rattle.ink_list.proofs.DefLaws.{all-is}

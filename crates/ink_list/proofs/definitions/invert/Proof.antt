@@ -1,3 +1,5 @@
+-- `ink_list::definitions::invert` meets its contract: what is left of the answer are the items from k on that the list from cursor j on has not, in the definitions from d on, whose set is s.
+-- Assumes nothing.
 use mathlib.Core.Path.{_≡_, refl, sym, _∙_}
 use Prim.Native.Nat.{ℕ, _+_, _-_, _≤_, _<_}
 use native.Mathlib.Omega.{arith}
@@ -7,7 +9,6 @@ use borrow.Author.Tests.{not-true, not-false}
 use Rattle.ink_list.specs.Defs.{Ends, unheld, invert}
 use Rattle.ink_list.proofs.Output.{Writing, begin, has-room, pushed, kept, turn, done}
 use Rattle.ink_list.proofs.DefLaws.{onward, onward-end, ends-at, ends-here, ends-below, past-def, not-in, item-held, item-unheld, invert-length, invert-start}
-use native.Mathlib.Nat.{le-trans}
 use Rattle.ink_list.proofs.definitions.invert.Statement.{statement}
 use Rattle.ink_list.proofs.definitions.invert.Tie as tie
 
@@ -15,7 +16,7 @@ abbrev Inv-loop : tie.InvT-loop
 Inv-loop ai set ends defined oi₀ ov₀ k₀ d₀ s₀ j₀ n₀ oi ov k d s j n =
     (j ≤ length ai) × (k ≤ length defined) × (d ≤ length ends) × (length oi ≡ length oi₀) × (length ov ≡ length ov₀)
     × ((low : ℕ) × (low ≤ k) × Ends low (length defined) (drop d ends))
-    × Writing (invert ends defined set ai) n (onward k (length defined) (unheld (drop d ends) defined s (drop j ai))) oi₀ oi ov₀ ov
+    × Writing 0 (invert ends defined set ai) n (onward k (length defined) (unheld (drop d ends) defined s (drop j ai))) oi₀ oi ov₀ ov
 
 abbrev μ-loop : tie.MeasureT-loop
 μ-loop ai set ends defined oi₀ ov₀ k₀ d₀ s₀ j₀ n₀ oi ov k d s j n = (length defined - k) + (length ends - d)
@@ -31,7 +32,7 @@ loop-holds c =
       refl,
       refl,
       (0, search needs, p .0 .numbered),
-      turn _ _ _ _ _ _ _ (begin _ _ _ (le-trans h (p .1 .1 .0)) (le-trans h (p .1 .1 .1))) _ (invert-start (a .ends .now) (a .defined .now) (a .set) (a .ai .now)),
+      turn (begin (omega arith) (omega arith)) (invert-start (a .ends .now) (a .defined .now) (a .set) (a .ai .now)),
     )
 
 -- in a turn there is a definition at the cursor
@@ -67,7 +68,7 @@ loop-again c =
       l .inv .3,
       l .inv .4,
       (getD (a .ends .now) (l .d) 0, c .if1 .taken, ends-here (l .inv .5 .0) _ (l .d) (a .ends .now) h (l .inv .5 .2) .1),
-      turn _ _ _ _ _ _ _ (l .inv .6) _ (past-def (a .defined .now) (a .ends .now) (l .d) h (l .s) (drop (l .j) (a .ai .now)) (l .k) _ (c .if1 .taken)),
+      turn (l .inv .6) (past-def (a .defined .now) (a .ends .now) (l .d) h (l .s) (drop (l .j) (a .ai .now)) (l .k) _ (c .if1 .taken)),
     )
 
 loop-less-2 : tie.Need-loop-less-2 Inv-loop μ-loop
@@ -87,7 +88,7 @@ loop-again-2 c =
       l .inv .3,
       l .inv .4,
       (l .inv .5 .0, omega (arith, c .before .if1 .left), l .inv .5 .2),
-      turn _ _ _ _ _ _ _ (l .inv .6) _ (not-in (a .defined .now) (a .ends .now) (l .d) h (l .s) (drop (l .j) (a .ai .now)) (l .k) _ (c .before .if1 .left) e (c .if2 .taken)),
+      turn (l .inv .6) (not-in (a .defined .now) (a .ends .now) (l .d) h (l .s) (drop (l .j) (a .ai .now)) (l .k) _ (c .before .if1 .left) e (c .if2 .taken)),
     )
 
 cast-x : tie.Need-cast-x Inv-loop μ-loop
@@ -112,7 +113,7 @@ push-requires : tie.Need-push-requires Inv-loop μ-loop
 push-requires c κs =
     let a = c .before .before .before .before .before .before .before .before .before .before .before .before .before .before .args in
     let l = c .before .before .before .before .before .before .before .before .before .before .loop in
-    has-room _ _ _ _ _ _ _ (l .inv .6) _ _
+    has-room (l .inv .6)
     (item-unheld (a .defined .now) (a .ends .now) (l .d) (here (c .before .before .before .before .before .before .before .before .before)) (l .s) 65536 (a .ai .now) (c .before .before .before .before .before .before .before .before .before .before .before .before .before .before .pre .1 .0) (l .j) (c .before .before .before .before .skip-below .result) (l .k)
     (c .before .before .before .before .before .before .before .if1 .left) (omega (arith, c .before .before .before .before .before .before .if2 .left)) _ (c .before .before .before .before .before .before .before .before .before .loop-test .taken) (c .before .before .before .before .skip-below .ensures .1)
     (sym (c .before .before .before .stands .ensures) ∙ not-true _ (c .before .before .if3 .taken)))
@@ -124,12 +125,12 @@ loop-again-3 : tie.Need-loop-again-3 Inv-loop μ-loop
 loop-again-3 c =
     let a = c .before .before .before .before .before .before .before .before .before .before .before .before .before .before .before .before .before .before .args in
     let l = c .before .before .before .before .before .before .before .before .before .before .before .before .before .before .loop in
-    let w = pushed _ _ _ _ _ _ _ (l .inv .6) _ _
+    let w = pushed (l .inv .6)
     (item-unheld (a .defined .now) (a .ends .now) (l .d) (here (c .before .before .before .before .before .before .before .before .before .before .before .before .before)) (l .s) 65536 (a .ai .now) (c .before .before .before .before .before .before .before .before .before .before .before .before .before .before .before .before .before .before .pre .1 .0) (l .j) (c .before .before .before .before .before .before .before .before .skip-below .result) (l .k)
     (c .before .before .before .before .before .before .before .before .before .before .before .if1 .left) (omega (arith, c .before .before .before .before .before .before .before .before .before .before .if2 .left)) _ (c .before .before .before .before .before .before .before .before .before .before .before .before .before .loop-test .taken) (c .before .before .before .before .before .before .before .before .skip-below .ensures .1)
     (sym (c .before .before .before .before .before .before .before .stands .ensures) ∙ not-true _ (c .before .before .before .before .before .before .if3 .taken)))
     (c .before .before .before .before .before .before .before .before .before .v .given) (c .before .before .before .push .ensures) in
-    let e = kept _ _ _ _ _ _ _ w in
+    let e = kept w in
     let b : l .inv .5 .0 ≤ l .k = l .inv .5 .1 in
     (c .before .before .before .before .before .before .before .before .skip-below .ensures .0, omega (arith, c .before .before .before .before .before .before .before .before .before .before .before .before .before .loop-test .taken), l .inv .2, e .0, e .1, (l .inv .5 .0, omega arith, l .inv .5 .2), w)
 
@@ -140,7 +141,7 @@ loop-again-4 : tie.Need-loop-again-4 Inv-loop μ-loop
 loop-again-4 c =
     let a = c .before .before .before .before .before .before .before .before .before .before .before .before .args in
     let l = c .before .before .before .before .before .before .before .before .loop in
-    let w = turn _ _ _ _ _ _ _ (l .inv .6) _
+    let w = turn (l .inv .6)
     (item-held (a .defined .now) (a .ends .now) (l .d) (here (c .before .before .before .before .before .before .before)) (l .s) 65536 (a .ai .now) (c .before .before .before .before .before .before .before .before .before .before .before .before .pre .1 .0) (l .j) (c .before .before .skip-below .result) (l .k)
     (c .before .before .before .before .before .if1 .left) (omega (arith, c .before .before .before .before .if2 .left)) _ (c .before .before .before .before .before .before .before .loop-test .taken) (c .before .before .skip-below .ensures .1)
     (sym (c .before .stands .ensures) ∙ not-false _ (c .if3 .left))) in
@@ -156,7 +157,7 @@ same-length-2 c = search needs
 returns : tie.Need-returns Inv-loop μ-loop
 returns c =
     let l = c .before .loop in
-    done _ _ _ _ _ _ _ (l .inv .6) (onward-end (l .k) _ _ (c .loop-test .left))
+    done (l .inv .6) (onward-end (l .k) _ _ (c .loop-test .left))
 
 pub invert-spec : {M : Type 1} → statement M
 invert-spec =

@@ -1,3 +1,5 @@
+-- `ink_list::definitions::origins_of` meets its contract: the bits of the definitions before d are set, and those from d on are the origins of the items from cursor j on.
+-- Assumes nothing.
 use mathlib.Core.Path.{_≡_, sym, ap, _∙_, subst}
 use Prim.Native.Nat.{ℕ, _+_, _-_, _≤_, _<_, _^_, _*_}
 use native.Mathlib.Omega.{arith}

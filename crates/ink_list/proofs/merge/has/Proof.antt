@@ -1,3 +1,4 @@
+-- `ink_list::merge::has` meets its contract: b's items from cursor j on are to lie among a's from cursor i on. Assumes nothing.
 use mathlib.Core.Path.{_≡_, sym, _∙_}
 use Prim.Native.Nat.{_-_, _≤_}
 use lib.ListN.{length, drop}
