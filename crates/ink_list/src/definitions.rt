@@ -3,7 +3,7 @@
 ghost use mathlib.Core.Path.{_≡_};
 ghost use Prim.Native.Nat.{_≤_};
 ghost use lib.ListN.{length, set};
-ghost use Rattle.ink_list.specs.Entries.{Ascends, Lent};
+ghost use Rattle.ink_list.specs.Entries.{Ascends, Lent, itemNumbers, room};
 ghost use Rattle.ink_list.specs.Defs.{Tables, invert, all, originsOf, increment, decrement};
 ghost use Rattle.ink_list.specs.Slices.{list, Answers};
 use crate::cursor::skip_below;
@@ -21,8 +21,8 @@ pub fn invert(
     ov: &mut [i32],
 ) -> usize
     requires { ⌜ Tables (now ends) (now defined) ⌝ }
-    requires { ⌜ Ascends 0 65536 (now ai) ⌝ }
-    requires { ⌜ (length (now defined) ≤ length (now oi)) × (length (now defined) ≤ length (now ov)) ⌝ }
+    requires { ⌜ Ascends 0 itemNumbers (now ai) ⌝ }
+    requires { ⌜ length (now defined) ≤ room (now oi) (now ov) ⌝ }
     ensures { λ r. ⌜ Answers (invert (now (ends .entry)) (now (defined .entry)) set (now (ai .entry))) r oi ov ⌝ }
 {
     let mut k = 0;
@@ -53,7 +53,7 @@ pub fn invert(
 // All: all items of the set's definitions.
 pub fn all(set: u64, ends: &[u16], defined: &[i32], oi: &mut [u16], ov: &mut [i32]) -> usize
     requires { ⌜ Tables (now ends) (now defined) ⌝ }
-    requires { ⌜ (length (now defined) ≤ length (now oi)) × (length (now defined) ≤ length (now ov)) ⌝ }
+    requires { ⌜ length (now defined) ≤ room (now oi) (now ov) ⌝ }
     ensures { λ r. ⌜ Answers (all (now (ends .entry)) (now (defined .entry)) set) r oi ov ⌝ }
 {
     invert(&ends[..0], set, ends, defined, oi, ov)
@@ -61,7 +61,7 @@ pub fn all(set: u64, ends: &[u16], defined: &[i32], oi: &mut [u16], ov: &mut [i3
 
 // The set of the origins of some items.
 pub fn origins_of(ai: &[u16], ends: &[u16]) -> u64
-    requires { ⌜ Ascends 0 65536 (now ai) ⌝ }
+    requires { ⌜ Ascends 0 itemNumbers (now ai) ⌝ }
     requires { ⌜ length (now ends) ≤ 64 ⌝ }
     ensures { λ r. ⌜ r ≡ originsOf (now (ends .entry)) (now (ai .entry)) ⌝ }
 {
@@ -93,8 +93,8 @@ pub fn increment(
     ov: &mut [i32],
 ) -> usize
     requires { ⌜ Tables (now ends) (now defined) ⌝ }
-    requires { ⌜ Lent 65536 (now ai) (now av) ⌝ }
-    requires { ⌜ (length (now defined) ≤ length (now oi)) × (length (now defined) ≤ length (now ov)) ⌝ }
+    requires { ⌜ Lent itemNumbers (now ai) (now av) ⌝ }
+    requires { ⌜ length (now defined) ≤ room (now oi) (now ov) ⌝ }
     ensures { λ r. ⌜ Answers (increment (now (ends .entry)) (now (defined .entry)) set by (list ai av)) r oi ov ⌝ }
 {
     let mut d = 0;
@@ -130,8 +130,8 @@ pub fn decrement(
     ov: &mut [i32],
 ) -> usize
     requires { ⌜ Tables (now ends) (now defined) ⌝ }
-    requires { ⌜ Lent 65536 (now ai) (now av) ⌝ }
-    requires { ⌜ (length (now defined) ≤ length (now oi)) × (length (now defined) ≤ length (now ov)) ⌝ }
+    requires { ⌜ Lent itemNumbers (now ai) (now av) ⌝ }
+    requires { ⌜ length (now defined) ≤ room (now oi) (now ov) ⌝ }
     ensures { λ r. ⌜ Answers (decrement (now (ends .entry)) (now (defined .entry)) set by (list ai av)) r oi ov ⌝ }
 {
     increment(

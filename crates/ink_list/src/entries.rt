@@ -4,7 +4,7 @@ ghost use mathlib.Core.Path.{_≡_};
 ghost use mathlib.Core.List.{[], _∷_};
 ghost use Prim.Native.Nat.{_+_, _-_, _^_, _<_, _≤_};
 ghost use lib.ListN.{length, drop};
-ghost use Rattle.ink_list.specs.Entries.{entries, ascends, bitsBelow, formedLent};
+ghost use Rattle.ink_list.specs.Entries.{entries, ascends, bitsBelow, formedLent, room};
 ghost use Rattle.ink_list.specs.Ops.{count, truthy};
 ghost use Rattle.ink_list.specs.Slices.{list, Answers, Appends};
 
@@ -68,7 +68,7 @@ pub fn truthy(items: &[u16]) -> bool
 
 // Store an entry at place n of two output slices; the next place.
 pub fn push(oi: &mut [u16], ov: &mut [i32], n: usize, item: u16, value: i32) -> usize
-    requires { ⌜ (n < length (now oi)) × (n < length (now ov)) ⌝ }
+    requires { ⌜ n < room (now oi) (now ov) ⌝ }
     ensures { λ r. ⌜ Appends n ((item, value) ∷ []) r oi ov ⌝ }
 {
     oi[n] = item;
@@ -86,7 +86,7 @@ pub fn copy_rest(
     n: usize,
 ) -> usize
     requires { ⌜ length (now ai) ≡ length (now av) ⌝ }
-    requires { ⌜ (i ≤ length (now ai)) × (n + (length (now ai) - i) ≤ length (now oi)) × (n + (length (now ai) - i) ≤ length (now ov)) ⌝ }
+    requires { ⌜ (i ≤ length (now ai)) × (n + (length (now ai) - i) ≤ room (now oi) (now ov)) ⌝ }
     ensures { λ r. ⌜ Appends n (entries (drop i (now (ai .entry))) (drop i (now (av .entry)))) r oi ov ⌝ }
 {
     let mut k = i;
@@ -101,7 +101,7 @@ pub fn copy_rest(
 // A list's entries, stored from the start of two output slices; their count.
 pub fn copy(ai: &[u16], av: &[i32], oi: &mut [u16], ov: &mut [i32]) -> usize
     requires { ⌜ length (now ai) ≡ length (now av) ⌝ }
-    requires { ⌜ (length (now ai) ≤ length (now oi)) × (length (now ai) ≤ length (now ov)) ⌝ }
+    requires { ⌜ length (now ai) ≤ room (now oi) (now ov) ⌝ }
     ensures { λ r. ⌜ Answers (list ai av) r oi ov ⌝ }
 {
     copy_rest(ai, av, 0, oi, ov, 0)

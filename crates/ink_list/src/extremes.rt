@@ -38,7 +38,7 @@ fn extreme_at(least: bool, vs: &[i32]) -> usize
 // The first entry with the least (or else the greatest) value, as a list of one; of an empty list, none.
 fn list_extreme(least: bool, ai: &[u16], av: &[i32], oi: &mut [u16], ov: &mut [i32]) -> usize
     requires { ⌜ length (now ai) ≡ length (now av) ⌝ }
-    requires { ⌜ (1 ≤ length (now oi)) × (1 ≤ length (now ov)) ⌝ }
+    requires { ⌜ 1 ≤ room (now oi) (now ov) ⌝ }
     ensures { λ r. ⌜ Answers (listExtreme least (list ai av)) r oi ov ⌝ }
 {
     if ai.len() == 0 {
@@ -59,18 +59,19 @@ fn extreme_value(least: bool, vs: &[i32]) -> i32
     vs[best]
 }
 
-// ListMin, ListMax: a list of one, or empty.
+// ListMin: a list of one, or empty.
 pub fn list_min(ai: &[u16], av: &[i32], oi: &mut [u16], ov: &mut [i32]) -> usize
     requires { ⌜ length (now ai) ≡ length (now av) ⌝ }
-    requires { ⌜ (1 ≤ length (now oi)) × (1 ≤ length (now ov)) ⌝ }
+    requires { ⌜ 1 ≤ room (now oi) (now ov) ⌝ }
     ensures { λ r. ⌜ Answers (listMin (list ai av)) r oi ov ⌝ }
 {
     list_extreme(true, ai, av, oi, ov)
 }
 
+// ListMax: a list of one, or empty.
 pub fn list_max(ai: &[u16], av: &[i32], oi: &mut [u16], ov: &mut [i32]) -> usize
     requires { ⌜ length (now ai) ≡ length (now av) ⌝ }
-    requires { ⌜ (1 ≤ length (now oi)) × (1 ≤ length (now ov)) ⌝ }
+    requires { ⌜ 1 ≤ room (now oi) (now ov) ⌝ }
     ensures { λ r. ⌜ Answers (listMax (list ai av)) r oi ov ⌝ }
 {
     list_extreme(false, ai, av, oi, ov)
@@ -118,12 +119,14 @@ pub fn greater_or_equals(av: &[i32], bv: &[i32]) -> bool
     false
 }
 
+// Less: a's greatest below b's least.
 pub fn less(av: &[i32], bv: &[i32]) -> bool
     ensures { λ r. ⌜ r ≡ less (now (av .entry)) (now (bv .entry)) ⌝ }
 {
     greater(bv, av)
 }
 
+// LessThanOrEquals: the mirror of GreaterThanOrEquals.
 pub fn less_or_equals(av: &[i32], bv: &[i32]) -> bool
     ensures { λ r. ⌜ r ≡ lessOrEquals (now (av .entry)) (now (bv .entry)) ⌝ }
 {

@@ -6,6 +6,7 @@ ghost use mathlib.Core.Bool.{true};
 ghost use mathlib.Core.List.{[]};
 ghost use Prim.Native.Nat.{_+_, _≤_};
 ghost use lib.ListN.{length};
+ghost use Rattle.ink_list.specs.Entries.{itemNumbers, room};
 ghost use Rattle.ink_list.specs.Steps.{among, raised, rises, Rose, chosen};
 ghost use Rattle.ink_list.specs.Slices.{Appends};
 use crate::entries::push;
@@ -56,7 +57,7 @@ fn search_rising(
     at: usize,
 ) -> usize
     requires { ⌜ (rises (now ds) ≡ true) × (rises (raised by (now vs)) ≡ true) ⌝ }
-    requires { ⌜ (first + length (now ds) ≤ 65536) × (at + length (now ds) ≤ length (now oi)) × (at + length (now ds) ≤ length (now ov)) ⌝ }
+    requires { ⌜ (first + length (now ds) ≤ itemNumbers) × (at + length (now ds) ≤ room (now oi) (now ov)) ⌝ }
     ensures { λ r. ⌜ Appends at (chosen first [] (now (ds .entry)) (raised by (now (vs .entry)))) r oi ov ⌝ }
 {
     let mut k = 0;
@@ -88,7 +89,7 @@ fn search_each(
     ov: &mut [i32],
     at: usize,
 ) -> usize
-    requires { ⌜ (first + length (now ds) ≤ 65536) × (at + length (now ds) ≤ length (now oi)) × (at + length (now ds) ≤ length (now ov)) ⌝ }
+    requires { ⌜ (first + length (now ds) ≤ itemNumbers) × (at + length (now ds) ≤ room (now oi) (now ov)) ⌝ }
     ensures { λ r. ⌜ Appends at (chosen first [] (now (ds .entry)) (raised by (now (vs .entry)))) r oi ov ⌝ }
 {
     let mut k = 0;
@@ -116,7 +117,7 @@ pub fn retarget(
     ov: &mut [i32],
     at: usize,
 ) -> usize
-    requires { ⌜ (first + length (now ds) ≤ 65536) × (at + length (now ds) ≤ length (now oi)) × (at + length (now ds) ≤ length (now ov)) ⌝ }
+    requires { ⌜ (first + length (now ds) ≤ itemNumbers) × (at + length (now ds) ≤ room (now oi) (now ov)) ⌝ }
     ensures { λ r. ⌜ Appends at (chosen first [] (now (ds .entry)) (raised by (now (vs .entry)))) r oi ov ⌝ }
 {
     if vs.len() == 0 {

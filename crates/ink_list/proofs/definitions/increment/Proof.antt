@@ -11,7 +11,7 @@ use lib.Seq.{length-take-le}
 use mir.Syntax.{w32}
 use mir.Val.{toZ}
 use Rattle.ink_number.proofs.Signed.{back, back32}
-use Rattle.ink_list.specs.Entries.{Entry, entries, RisingFrom, Wrote}
+use Rattle.ink_list.specs.Entries.{itemNumbers, Entry, entries, RisingFrom, Wrote}
 use Rattle.ink_list.specs.Defs.{Ends, retarget, increment}
 use Rattle.ink_list.specs.Steps.{raised}
 use Rattle.ink_list.proofs.Rests.{rest, of-lent}
@@ -26,7 +26,7 @@ use Rattle.ink_list.proofs.definitions.increment.Tie as tie
 abbrev Inv-loop : tie.InvT-loop
 Inv-loop ai av by set ends defined oi₀ ov₀ d₀ s₀ low₀ j₀ n₀ oi ov d s low j n =
     (j ≤ length ai) × (d ≤ length ends) × (n ≤ low) × (length oi ≡ length oi₀) × (length ov ≡ length ov₀)
-    × Ends low (length defined) (drop d ends) × RisingFrom low 65536 (rest j ai (raised (toZ w32 by) av))
+    × Ends low (length defined) (drop d ends) × RisingFrom low itemNumbers (rest j ai (raised (toZ w32 by) av))
     × Writing 0 (retarget ends defined set (entries ai (raised (toZ w32 by) av))) n
     (onward low (length defined) (targetFrom low (drop d ends) defined s (rest j ai (raised (toZ w32 by) av)))) oi₀ oi ov₀ ov
 
@@ -45,8 +45,8 @@ loop-holds c =
       refl,
       refl,
       p .0 .numbered,
-      of-lent 65536 (a .ai .now) R (record { long = p .1 .0 .long ∙ sym (length-raised (back w32 (a .by)) (a .av .now)); rising = p .1 .0 .rising }),
-      turn (begin (omega arith) (omega arith)) (retarget-start (a .ends .now) (a .defined .now) (a .set) (entries (a .ai .now) R)),
+      of-lent itemNumbers (a .ai .now) R (record { long = p .1 .0 .long ∙ sym (length-raised (back w32 (a .by)) (a .av .now)); rising = p .1 .0 .rising }),
+      turn (begin (omega arith)) (retarget-start (a .ends .now) (a .defined .now) (a .set) (entries (a .ai .now) R)),
     )
 
 mul-end : tie.Need-mul-end Inv-loop μ-loop
@@ -117,7 +117,7 @@ retarget-requires c κs =
     let n = low-on (c .before .before .before .before .before .before .before .before .before .before .before .before .pre .1 .0) (back w32 (a .by)) (a .ends .now) (a .defined .now) (l .d) (l .low) (l .s) (l .j) (c .before .before .before .before .before .skip-below .result) (c .before .before .before .before .before .before .before .loop-test .taken) (l .inv .5) (l .inv .6) (l .inv .0) (c .before .before .before .before .before .skip-below .ensures .0) (c .before .before .before .before .before .skip-below .ensures .1) in
     let b = c .before .before .before .before .before .before .before .before .before .before .before .before .pre .0 .few in
     let e = length-take-le (getD (a .ends .now) (l .d) 0 - l .low) (drop (l .low) (a .defined .now)) (omega (arith, length-drop (l .low) (a .defined .now))) in
-    (omega arith, omega arith, omega arith)
+    (omega arith, omega arith)
 
 loop-less : tie.Need-loop-less Inv-loop μ-loop
 loop-less c = search needs

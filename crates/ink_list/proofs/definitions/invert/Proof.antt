@@ -6,6 +6,7 @@ use native.Mathlib.Omega.{arith}
 use lib.ListN.{length, drop, getD, set}
 use borrow.Author.Needs.{needs}
 use borrow.Author.Tests.{not-true, not-false}
+use Rattle.ink_list.specs.Entries.{itemNumbers}
 use Rattle.ink_list.specs.Defs.{Ends, unheld, invert}
 use Rattle.ink_list.proofs.Output.{Writing, begin, has-room, pushed, kept, turn, done}
 use Rattle.ink_list.proofs.DefLaws.{onward, onward-end, ends-at, ends-here, ends-below, past-def, not-in, item-held, item-unheld, invert-length, invert-start}
@@ -32,7 +33,7 @@ loop-holds c =
       refl,
       refl,
       (0, search needs, p .0 .numbered),
-      turn (begin (omega arith) (omega arith)) (invert-start (a .ends .now) (a .defined .now) (a .set) (a .ai .now)),
+      turn (begin (omega arith)) (invert-start (a .ends .now) (a .defined .now) (a .set) (a .ai .now)),
     )
 
 -- in a turn there is a definition at the cursor
@@ -114,7 +115,7 @@ push-requires c κs =
     let a = c .before .before .before .before .before .before .before .before .before .before .before .before .before .before .args in
     let l = c .before .before .before .before .before .before .before .before .before .before .loop in
     has-room (l .inv .6)
-    (item-unheld (a .defined .now) (a .ends .now) (l .d) (here (c .before .before .before .before .before .before .before .before .before)) (l .s) 65536 (a .ai .now) (c .before .before .before .before .before .before .before .before .before .before .before .before .before .before .pre .1 .0) (l .j) (c .before .before .before .before .skip-below .result) (l .k)
+    (item-unheld (a .defined .now) (a .ends .now) (l .d) (here (c .before .before .before .before .before .before .before .before .before)) (l .s) itemNumbers (a .ai .now) (c .before .before .before .before .before .before .before .before .before .before .before .before .before .before .pre .1 .0) (l .j) (c .before .before .before .before .skip-below .result) (l .k)
     (c .before .before .before .before .before .before .before .if1 .left) (omega (arith, c .before .before .before .before .before .before .if2 .left)) _ (c .before .before .before .before .before .before .before .before .before .loop-test .taken) (c .before .before .before .before .skip-below .ensures .1)
     (sym (c .before .before .before .stands .ensures) ∙ not-true _ (c .before .before .if3 .taken)))
 
@@ -126,7 +127,7 @@ loop-again-3 c =
     let a = c .before .before .before .before .before .before .before .before .before .before .before .before .before .before .before .before .before .before .args in
     let l = c .before .before .before .before .before .before .before .before .before .before .before .before .before .before .loop in
     let w = pushed (l .inv .6)
-    (item-unheld (a .defined .now) (a .ends .now) (l .d) (here (c .before .before .before .before .before .before .before .before .before .before .before .before .before)) (l .s) 65536 (a .ai .now) (c .before .before .before .before .before .before .before .before .before .before .before .before .before .before .before .before .before .before .pre .1 .0) (l .j) (c .before .before .before .before .before .before .before .before .skip-below .result) (l .k)
+    (item-unheld (a .defined .now) (a .ends .now) (l .d) (here (c .before .before .before .before .before .before .before .before .before .before .before .before .before)) (l .s) itemNumbers (a .ai .now) (c .before .before .before .before .before .before .before .before .before .before .before .before .before .before .before .before .before .before .pre .1 .0) (l .j) (c .before .before .before .before .before .before .before .before .skip-below .result) (l .k)
     (c .before .before .before .before .before .before .before .before .before .before .before .if1 .left) (omega (arith, c .before .before .before .before .before .before .before .before .before .before .if2 .left)) _ (c .before .before .before .before .before .before .before .before .before .before .before .before .before .loop-test .taken) (c .before .before .before .before .before .before .before .before .skip-below .ensures .1)
     (sym (c .before .before .before .before .before .before .before .stands .ensures) ∙ not-true _ (c .before .before .before .before .before .before .if3 .taken)))
     (c .before .before .before .before .before .before .before .before .before .v .given) (c .before .before .before .push .ensures) in
@@ -142,7 +143,7 @@ loop-again-4 c =
     let a = c .before .before .before .before .before .before .before .before .before .before .before .before .args in
     let l = c .before .before .before .before .before .before .before .before .loop in
     let w = turn (l .inv .6)
-    (item-held (a .defined .now) (a .ends .now) (l .d) (here (c .before .before .before .before .before .before .before)) (l .s) 65536 (a .ai .now) (c .before .before .before .before .before .before .before .before .before .before .before .before .pre .1 .0) (l .j) (c .before .before .skip-below .result) (l .k)
+    (item-held (a .defined .now) (a .ends .now) (l .d) (here (c .before .before .before .before .before .before .before)) (l .s) itemNumbers (a .ai .now) (c .before .before .before .before .before .before .before .before .before .before .before .before .pre .1 .0) (l .j) (c .before .before .skip-below .result) (l .k)
     (c .before .before .before .before .before .if1 .left) (omega (arith, c .before .before .before .before .if2 .left)) _ (c .before .before .before .before .before .before .before .loop-test .taken) (c .before .before .skip-below .ensures .1)
     (sym (c .before .stands .ensures) ∙ not-false _ (c .if3 .left))) in
     let b : l .inv .5 .0 ≤ l .k = l .inv .5 .1 in

@@ -5,6 +5,7 @@ use Prim.Native.Nat.{ℕ, _+_, _-_, _≤_, _<_, _^_, _*_}
 use native.Mathlib.Omega.{arith}
 use lib.ListN.{length, drop, set}
 use borrow.Author.Needs.{needs}
+use Rattle.ink_list.specs.Entries.{itemNumbers}
 use Rattle.ink_list.specs.Defs.{originsOf}
 use Rattle.ink_list.proofs.OriginLaws.{origin-yes, origin-no, origins-start, origins-end, one-bit, bits-grow, bits-fit}
 use Rattle.ink_list.proofs.definitions.origins_of.Statement.{statement}
@@ -57,7 +58,7 @@ loop-again c =
       e .0,
       search needs,
       subst (λ (n : ℕ). l .set + n < 2 ^ (l .d + 1)) (sym (one-bit (l .d) h)) (bits-grow (l .set) (l .d) (l .inv .2) .1),
-      l .inv .3 ∙ origin-yes 65536 (a .ai .now) (a .ends .now) (c .before .before .before .before .before .before .before .pre .0) (l .d) (l .j) (c .before .skip-below .result) (c .before .before .before .loop-test .taken) (l .inv .0) (e .0) (e .1) (l .set) (c .if1 .taken)
+      l .inv .3 ∙ origin-yes itemNumbers (a .ai .now) (a .ends .now) (c .before .before .before .before .before .before .before .pre .0) (l .d) (l .j) (c .before .skip-below .result) (c .before .before .before .loop-test .taken) (l .inv .0) (e .0) (e .1) (l .set) (c .if1 .taken)
           ∙ ap (λ (n : ℕ). (l .set + n) + 2 ^ (l .d + 1) * originsOf (drop (l .d + 1) (a .ends .now)) (drop (c .before .skip-below .result) (a .ai .now))) (sym (one-bit (l .d) h)),
     )
 
@@ -72,7 +73,7 @@ loop-again-2 c =
       e .0,
       search needs,
       bits-grow (l .set) (l .d) (l .inv .2) .0,
-      l .inv .3 ∙ origin-no 65536 (a .ai .now) (a .ends .now) (c .before .before .before .before .before .before .before .pre .0) (l .d) (l .j) (c .before .skip-below .result) (c .before .before .before .loop-test .taken) (l .inv .0) (e .0) (e .1) (l .set) (c .if1 .left),
+      l .inv .3 ∙ origin-no itemNumbers (a .ai .now) (a .ends .now) (c .before .before .before .before .before .before .before .pre .0) (l .d) (l .j) (c .before .skip-below .result) (c .before .before .before .loop-test .taken) (l .inv .0) (e .0) (e .1) (l .set) (c .if1 .left),
     )
 
 returns : tie.Need-returns Inv-loop μ-loop

@@ -5,14 +5,14 @@ use Prim.Native.Nat.{_-_, _≤_}
 use native.Mathlib.Omega.{arith}
 use lib.ListN.{length, drop}
 use borrow.Author.Needs.{needs}
-use Rattle.ink_list.specs.Entries.{ascends}
+use Rattle.ink_list.specs.Entries.{itemNumbers, ascends}
 use Rattle.ink_list.proofs.Formed.{too-low, too-high, goes-on, ascends-end}
 use Rattle.ink_list.proofs.entries.ascends.Statement.{statement}
 use Rattle.ink_list.proofs.entries.ascends.Tie as tie
 
 abbrev Inv-loop : tie.InvT-loop
 Inv-loop items limit low₀ i₀ low i =
-    (i ≤ length items) × (low ≤ 65536) × (ascends 0 limit items ≡ ascends low limit (drop i items))
+    (i ≤ length items) × (low ≤ itemNumbers) × (ascends 0 limit items ≡ ascends low limit (drop i items))
 
 abbrev μ-loop : tie.MeasureT-loop
 μ-loop items limit low₀ i₀ low i = length items - i

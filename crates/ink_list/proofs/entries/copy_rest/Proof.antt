@@ -20,7 +20,7 @@ loop-holds : tie.Need-loop-holds Inv-loop μ-loop
 loop-holds c =
     let a = c .before .before .args in
     let r = rest-length (a .i) (a .ai .now) (a .av .now) (c .before .before .pre .0) in
-    (search needs, refl, refl, begin (omega arith) (omega arith))
+    (search needs, refl, refl, begin (omega arith))
 
 mul-push : tie.Need-mul-push Inv-loop μ-loop
 mul-push c = search needs

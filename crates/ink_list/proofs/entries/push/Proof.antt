@@ -1,5 +1,6 @@
 -- `ink_list::entries::push` meets its contract: a store of one element is a fill with one. Assumes nothing.
 use mathlib.Core.Path.{refl, ap, _∙_}
+use native.Mathlib.Omega.{arith}
 use lib.IntN.{ℤ}
 use lib.ListN.{set}
 use mir.Syntax.{w32}
@@ -35,10 +36,10 @@ returns c =
     let a = c .args in
     record {
       next-is = refl;
-      items-in = fill-one (a .n) (a .oi .now) (a .item) (c .pre .0);
+      items-in = fill-one (a .n) (a .oi .now) (a .item) (omega arith);
       values-in =
           ap (λ (z : ℤ). set (a .ov .now) (a .n) z) (toZ-ofZ w32 (a .value) (c .fits .value))
-          ∙ fill-one (a .n) (a .ov .now) (a .value) (c .pre .1);
+          ∙ fill-one (a .n) (a .ov .now) (a .value) (omega arith);
     }
 
 pub push-spec : {M : Type 1} → statement M

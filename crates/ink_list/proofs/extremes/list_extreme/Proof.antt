@@ -36,21 +36,21 @@ same-length c =
     let a = c .before .before .before .before .before .before .before .before .before .before .before .before .args in
     let e = c .before .before .before .before .before .before .before .before .extreme-at .ensures .entry (a .ai .now) (c .before .before .before .before .before .before .before .before .before .before .before .before .pre .0) in
     let n = ap length e in
-    kept (pushed (begin (omega arith) (omega arith)) e (c .before .before .before .before .push-arg3 .given) (c .before .before .before .push .ensures)) .0
+    kept (pushed (begin (omega arith)) e (c .before .before .before .before .push-arg3 .given) (c .before .before .before .push .ensures)) .0
 
 same-length-2 : tie.Need-same-length-2
 same-length-2 c =
     let a = c .before .before .before .before .before .before .before .before .before .before .before .before .args in
     let e = c .before .before .before .before .before .before .before .before .extreme-at .ensures .entry (a .ai .now) (c .before .before .before .before .before .before .before .before .before .before .before .before .pre .0) in
     let n = ap length e in
-    kept (pushed (begin (omega arith) (omega arith)) e (c .before .before .before .before .push-arg3 .given) (c .before .before .before .push .ensures)) .1
+    kept (pushed (begin (omega arith)) e (c .before .before .before .before .push-arg3 .given) (c .before .before .before .push .ensures)) .1
 
 returns-2 : tie.Need-returns-2
 returns-2 c =
     let a = c .before .before .before .before .before .before .before .before .before .before .before .before .args in
     let e = c .before .before .before .before .before .before .before .before .extreme-at .ensures .entry (a .ai .now) (c .before .before .before .before .before .before .before .before .before .before .before .before .pre .0) in
     let n = ap length e in
-    done (pushed (begin (omega arith) (omega arith)) e (c .before .before .before .before .push-arg3 .given) (c .before .before .before .push .ensures)) refl
+    done (pushed (begin (omega arith)) e (c .before .before .before .before .push-arg3 .given) (c .before .before .before .push .ensures)) refl
 
 pub list-extreme-spec : {M : Type 1} → statement M
 list-extreme-spec =

@@ -31,7 +31,7 @@ loop-holds c =
     let a = c .before .before .args in
     let p = c .before .before .pre in
     let h = sift-length (room (a .oi .now) (a .ov .now)) (λ e. within (toZ w32 (ofZ w32 (a .lower))) (toZ w32 (ofZ w32 (a .upper))) (e .1)) (entries (a .ai .now) (a .av .now)) in
-    (search needs, refl, refl, begin (omega arith) (omega arith))
+    (search needs, refl, refl, begin (omega arith))
 
 mul-x : tie.Need-mul-x Inv-loop μ-loop
 mul-x c = search needs

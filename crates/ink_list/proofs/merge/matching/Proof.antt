@@ -32,7 +32,7 @@ loop-holds c =
       refl,
       refl,
       let h = sift-length (room (a .oi .now) (a .ov .now)) (λ e. Bool·beq (member (a .bi .now) (e .0)) (a .want)) (entries (a .ai .now) (a .av .now)) in
-          begin (omega arith) (omega arith),
+          begin (omega arith),
     )
 
 mul-x : tie.Need-mul-x Inv-loop μ-loop

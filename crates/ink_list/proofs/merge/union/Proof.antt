@@ -32,7 +32,7 @@ loop-holds c =
       refl,
       refl,
       let h = union-length (room (a .oi .now) (a .ov .now)) (entries (a .ai .now) (a .av .now)) (entries (a .bi .now) (a .bv .now)) in
-          begin (omega arith) (omega arith),
+          begin (omega arith),
     )
 
 mul-x : tie.Need-mul-x Inv-loop μ-loop
@@ -158,7 +158,7 @@ copy-rest-requires c κs =
     let f = fits (turn (l .inv .4) u) in
     let e = length-append (rest (l .i) (a .ai .now) (a .av .now)) (rest (l .j) (a .bi .now) (a .bv .now)) in
     let r = rest-length (l .i) (a .ai .now) (a .av .now) (p .0 .long) in
-    (p .0 .long, (search needs, omega arith, omega arith))
+    (p .0 .long, (search needs, omega arith))
 
 copy-rest-requires-2 : tie.Need-copy-rest-requires-2 Inv-loop μ-loop
 copy-rest-requires-2 c κs =
@@ -168,7 +168,7 @@ copy-rest-requires-2 c κs =
     let u = union-rest (p .0) (p .1) (l .i) (l .j) (⊎-elim (λ w. inr (ltb-false _ _ (w .1 .left))) (λ w. inl (w .left)) (c .before .before .before .before .before .before .before .before .loop-test .came)) in
     let f = fits (appended (l .inv .4) {more′ = rest (l .j) (a .bi .now) (a .bv .now)} u (c .before .before .before .before .before .copy-rest .ensures)) in
     let r = rest-length (l .j) (a .bi .now) (a .bv .now) (p .1 .long) in
-    (p .1 .long, (search needs, omega arith, omega arith))
+    (p .1 .long, (search needs, omega arith))
 
 same-length : tie.Need-same-length Inv-loop μ-loop
 same-length c =

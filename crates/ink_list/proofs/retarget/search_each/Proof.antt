@@ -32,7 +32,7 @@ loop-holds c =
     let a = c .before .args in
     let W = raised (back w32 (a .by)) (a .vs .now) in
     let h = chosen-length (a .first) [] (a .ds .now) W in
-    (search needs, refl, refl, refl, turn (begin (omega arith) (omega arith)) (chosen-start (a .first) (a .ds .now) W))
+    (search needs, refl, refl, refl, turn (begin (omega arith)) (chosen-start (a .first) (a .ds .now) W))
 
 mul-d : tie.Need-mul-d Inv-loop μ-loop
 mul-d c = search needs

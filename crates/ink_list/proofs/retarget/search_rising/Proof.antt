@@ -43,7 +43,7 @@ loop-holds c =
       refl,
       p .0 .0,
       read (λ (b : ℤ). rises (raised b (a .vs .now))) (a .by) (c .before .fits .by) ∙ p .0 .1,
-      turn (begin (omega arith) (omega arith)) (rising-matched (a .first) (a .ds .now) W (p .0 .0) ∙ ap (λ (k : ℕ). matched k (a .ds .now) W) z),
+      turn (begin (omega arith)) (rising-matched (a .first) (a .ds .now) W (p .0 .0) ∙ ap (λ (k : ℕ). matched k (a .ds .now) W) z),
     )
 
 mul-d : tie.Need-mul-d Inv-loop μ-loop
