@@ -147,7 +147,7 @@ pub fn upper_bound(vs: &[i32]) -> i32
     if vs.len() == 0 {
         return GREATEST_INT;
     }
-    extreme_value(false, vs)
+    value_of_list(vs)
 }
 
 // Does v lie within the bounds.

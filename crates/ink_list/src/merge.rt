@@ -35,7 +35,7 @@ pub fn union(
             n = push(oi, ov, n, x, av[i]);
             i += 1;
         } else if x == y {
-            n = push(oi, ov, n, y, bv[j]);
+            n = push(oi, ov, n, x, bv[j]);
             i += 1;
             j += 1;
         } else {

@@ -9,11 +9,11 @@ use Rattle.ink_list.proofs.extremes.upper_bound.Tie as tie
 returns : tie.Need-returns
 returns c = sym (upper-none (c .before .args .vs .now) (c .if1 .taken))
 
-extreme-value-requires : tie.Need-extreme-value-requires
-extreme-value-requires c κs = search needs
+value-of-list-requires : tie.Need-value-of-list-requires
+value-of-list-requires c κs = search needs
 
 returns-2 : tie.Need-returns-2
-returns-2 c = returned (c .extreme-value .ok) ∙ c .extreme-value .ensures ∙ sym (upper-some (c .before .before .args .vs .now) (c .before .if1 .left))
+returns-2 c = returned (c .value-of-list .ok) ∙ c .value-of-list .ensures ∙ sym (upper-some (c .before .before .args .vs .now) (c .before .if1 .left))
 
 pub upper-bound-spec : {M : Type 1} → statement M
-upper-bound-spec = tie.close (tie.spec returns extreme-value-requires returns-2)
+upper-bound-spec = tie.close (tie.spec returns value-of-list-requires returns-2)
