@@ -4,7 +4,7 @@ use Prim.Native.Nat.{ℕ}
 use denote.Ref.{RefT, now}
 use denote.Triple.Both.{Both}
 use lib.IntN.{ℤ}
-use Rattle.ink_list.specs.Entries.{Entry, entries, Wrote}
+use Rattle.ink_list.specs.Entries.{Entry, entries, Stored, Wrote}
 
 abbrev pub Slice : Type 0 → Type 0
 Slice A = Both (RefT (List A)) (RefT (List A))
@@ -16,3 +16,7 @@ list is vs = entries (now (is .entry)) (now (vs .entry))
 -- the answer's count is returned, and its entries are written from the start of two slices, which are else as they were
 abbrev pub Answers : List Entry → ℕ → Slice ℕ → Slice ℤ → Type 0
 Answers answer count oi ov = Wrote answer count (now (oi .entry)) (now (oi .exit)) (now (ov .entry)) (now (ov .exit))
+
+-- entries are written from place `at` on, and the next place is returned
+abbrev pub Appends : ℕ → List Entry → ℕ → Slice ℕ → Slice ℤ → Type 0
+Appends at es next oi ov = Stored at es next (now (oi .entry)) (now (oi .exit)) (now (ov .entry)) (now (ov .exit))

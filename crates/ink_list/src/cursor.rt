@@ -3,7 +3,7 @@
 ghost use mathlib.Core.Path.{_≡_};
 ghost use Prim.Native.Nat.{_≤_};
 ghost use lib.ListN.{length, drop};
-ghost use Rattle.ink_list.specs.Cursor.{dropBelow, headIs};
+ghost use Rattle.ink_list.specs.Steps.{dropBelow, headIs};
 
 // From cursor j on, the first place of a number that is not below x.
 pub fn skip_below(is: &[u16], j: usize, x: u16) -> usize

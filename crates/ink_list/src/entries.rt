@@ -1,15 +1,75 @@
-// Entries stored into two lent slices, and the test of a lent list.
+// A lent list by itself: is it well formed, how long is it, and its entries stored into two lent slices.
 
 ghost use mathlib.Core.Path.{_≡_};
-ghost use Prim.Native.Nat.{_+_, _-_, _<_, _≤_};
+ghost use mathlib.Core.List.{[], _∷_};
+ghost use Prim.Native.Nat.{_+_, _-_, _^_, _<_, _≤_};
 ghost use lib.ListN.{length, drop};
-ghost use Rattle.ink_list.specs.Entries.{items, Pushed, Copied, lent};
-ghost use Rattle.ink_list.specs.Slices.{list, Answers};
+ghost use Rattle.ink_list.specs.Entries.{entries, ascends, bitsBelow, formedLent, room};
+ghost use Rattle.ink_list.specs.Ops.{count, truthy};
+ghost use Rattle.ink_list.specs.Slices.{list, Answers, Appends};
+
+// Has an origin set bits below d alone.
+pub fn bits_below(set: u64, d: usize) -> bool
+    ensures { λ r. ⌜ r ≡ bitsBelow d set ⌝ }
+{
+    if d >= 64 {
+        return true;
+    }
+    set >> d == 0
+}
+
+// Are item numbers strictly rising and below the limit.
+fn ascends(items: &[u16], limit: usize) -> bool
+    ensures { λ r. ⌜ r ≡ ascends 0 limit (now (items .entry)) ⌝ }
+{
+    let mut low = 0;
+    let mut i = 0;
+    while i < items.len() {
+        let k = items[i] as usize;
+        if k < low {
+            return false;
+        }
+        if limit <= k {
+            return false;
+        }
+        low = k + 1;
+        i += 1;
+    }
+    true
+}
+
+// Is a lent list formed as a literal of a pack with this many items and definitions, and are its slices equally long.
+pub fn is_formed(items: &[u16], values: &[i32], set: u64, total: usize, definitions: usize) -> bool
+    ensures { λ r. ⌜ r ≡ formedLent total definitions set (now (items .entry)) (now (values .entry)) ⌝ }
+{
+    if items.len() != values.len() {
+        return false;
+    }
+    if !bits_below(set, definitions) {
+        return false;
+    }
+    ascends(items, total)
+}
+
+// Count: the number of entries.
+pub fn count(items: &[u16]) -> i32
+    requires { ⌜ length (now items) < 2 ^ 31 ⌝ }
+    ensures { λ r. ⌜ r ≡ count (now (items .entry)) ⌝ }
+{
+    items.len() as i32
+}
+
+// Is the list non-empty.
+pub fn truthy(items: &[u16]) -> bool
+    ensures { λ r. ⌜ r ≡ truthy (now (items .entry)) ⌝ }
+{
+    0 < items.len()
+}
 
 // Store an entry at place n of two output slices; the next place.
 pub fn push(oi: &mut [u16], ov: &mut [i32], n: usize, item: u16, value: i32) -> usize
-    requires { ⌜ (n < length (now oi)) × (n < length (now ov)) ⌝ }
-    ensures { λ r. ⌜ Pushed n item value r (now (oi .entry)) (now (oi .exit)) (now (ov .entry)) (now (ov .exit)) ⌝ }
+    requires { ⌜ n < room (now oi) (now ov) ⌝ }
+    ensures { λ r. ⌜ Appends n ((item, value) ∷ []) r oi ov ⌝ }
 {
     oi[n] = item;
     ov[n] = value;
@@ -26,8 +86,8 @@ pub fn copy_rest(
     n: usize,
 ) -> usize
     requires { ⌜ length (now ai) ≡ length (now av) ⌝ }
-    requires { ⌜ (i ≤ length (now ai)) × (n + (length (now ai) - i) ≤ length (now oi)) × (n + (length (now ai) - i) ≤ length (now ov)) ⌝ }
-    ensures { λ r. ⌜ Copied (drop i (now (ai .entry))) (drop i (now (av .entry))) n r (now (oi .entry)) (now (oi .exit)) (now (ov .entry)) (now (ov .exit)) ⌝ }
+    requires { ⌜ (i ≤ length (now ai)) × (n + (length (now ai) - i) ≤ room (now oi) (now ov)) ⌝ }
+    ensures { λ r. ⌜ Appends n (entries (drop i (now (ai .entry))) (drop i (now (av .entry)))) r oi ov ⌝ }
 {
     let mut k = i;
     let mut m = n;
@@ -41,31 +101,8 @@ pub fn copy_rest(
 // A list's entries, stored from the start of two output slices; their count.
 pub fn copy(ai: &[u16], av: &[i32], oi: &mut [u16], ov: &mut [i32]) -> usize
     requires { ⌜ length (now ai) ≡ length (now av) ⌝ }
-    requires { ⌜ (length (now ai) ≤ length (now oi)) × (length (now ai) ≤ length (now ov)) ⌝ }
+    requires { ⌜ length (now ai) ≤ room (now oi) (now ov) ⌝ }
     ensures { λ r. ⌜ Answers (list ai av) r oi ov ⌝ }
 {
     copy_rest(ai, av, 0, oi, ov, 0)
-}
-
-// Is a lent list formed as a literal: as many values as items, the items strictly rising and below the limit.
-pub fn is_list(items: &[u16], values: &[i32], limit: usize) -> bool
-    ensures { λ r. ⌜ r ≡ lent limit (now (items .entry)) (now (values .entry)) ⌝ }
-{
-    if items.len() != values.len() {
-        return false;
-    }
-    let mut low = 0;
-    let mut i = 0;
-    while i < items.len() {
-        let k = items[i] as usize;
-        if k < low {
-            return false;
-        }
-        if limit <= k {
-            return false;
-        }
-        low = k + 1;
-        i += 1;
-    }
-    true
 }

@@ -1,12 +1,15 @@
 // The operators that go by least and greatest values.
 
 ghost use mathlib.Core.Path.{_≡_};
-ghost use Prim.Native.Nat.{ℕ, _≤_};
+ghost use Prim.Native.Nat.{ℕ, _<_, _≤_};
 ghost use lib.ListN.{length};
 ghost use Rattle.ink_list.specs.Entries.{Rising, Lent, room};
-ghost use Rattle.ink_list.specs.Ops.{within, range, beats, listExtreme, listMin, listMax, extremeValue, valueOfList, greater, greaterOrEquals, less, lessOrEquals};
+ghost use Rattle.ink_list.specs.Ops.{within, range, beats, listExtreme, listMin, listMax, extremeValue, valueOfList, greater, greaterOrEquals, less, lessOrEquals, lowerBound, upperBound};
+ghost use Rattle.ink_list.specs.Steps.{ExtremeAt};
 ghost use Rattle.ink_list.specs.Slices.{list, Answers};
 use crate::entries::push;
+
+const GREATEST_INT: i32 = 2147483647;
 
 // Does x come before y as the least (or else the greatest).
 fn beats(least: bool, x: i32, y: i32) -> bool
@@ -15,34 +18,11 @@ fn beats(least: bool, x: i32, y: i32) -> bool
     if least { x < y } else { y < x }
 }
 
-// The first entry with the least (or else the greatest) value, as a list of one; of an empty list, none.
-fn list_extreme(least: bool, ai: &[u16], av: &[i32], oi: &mut [u16], ov: &mut [i32]) -> usize
-    requires { ⌜ length (now ai) ≡ length (now av) ⌝ }
-    requires { ⌜ (1 ≤ length (now oi)) × (1 ≤ length (now ov)) ⌝ }
-    ensures { λ r. ⌜ Answers (listExtreme least (list ai av)) r oi ov ⌝ }
+// The place of the first of the least (or else the greatest) values.
+fn extreme_at(least: bool, vs: &[i32]) -> usize
+    requires { ⌜ 0 < length (now vs) ⌝ }
+    ensures { λ r. ⌜ ExtremeAt least (now (vs .entry)) r ⌝ }
 {
-    if ai.len() == 0 {
-        return 0;
-    }
-    let mut best = 0;
-    let mut i = 1;
-    while i < av.len() {
-        let k = i;
-        i += 1;
-        if beats(least, av[k], av[best]) {
-            best = k;
-        }
-    }
-    push(oi, ov, 0, ai[best], av[best])
-}
-
-// The least (or else the greatest) of some values, or 0.
-pub fn extreme_value(least: bool, vs: &[i32]) -> i32
-    ensures { λ r. ⌜ r ≡ extremeValue least (now (vs .entry)) ⌝ }
-{
-    if vs.len() == 0 {
-        return 0;
-    }
     let mut best = 0;
     let mut i = 1;
     while i < vs.len() {
@@ -52,21 +32,46 @@ pub fn extreme_value(least: bool, vs: &[i32]) -> i32
             best = k;
         }
     }
+    best
+}
+
+// The first entry with the least (or else the greatest) value, as a list of one; of an empty list, none.
+fn list_extreme(least: bool, ai: &[u16], av: &[i32], oi: &mut [u16], ov: &mut [i32]) -> usize
+    requires { ⌜ length (now ai) ≡ length (now av) ⌝ }
+    requires { ⌜ 1 ≤ room (now oi) (now ov) ⌝ }
+    ensures { λ r. ⌜ Answers (listExtreme least (list ai av)) r oi ov ⌝ }
+{
+    if ai.len() == 0 {
+        return 0;
+    }
+    let best = extreme_at(least, av);
+    push(oi, ov, 0, ai[best], av[best])
+}
+
+// The least (or else the greatest) of some values, or 0.
+fn extreme_value(least: bool, vs: &[i32]) -> i32
+    ensures { λ r. ⌜ r ≡ extremeValue least (now (vs .entry)) ⌝ }
+{
+    if vs.len() == 0 {
+        return 0;
+    }
+    let best = extreme_at(least, vs);
     vs[best]
 }
 
-// ListMin, ListMax: a list of one, or empty.
+// ListMin: a list of one, or empty.
 pub fn list_min(ai: &[u16], av: &[i32], oi: &mut [u16], ov: &mut [i32]) -> usize
     requires { ⌜ length (now ai) ≡ length (now av) ⌝ }
-    requires { ⌜ (1 ≤ length (now oi)) × (1 ≤ length (now ov)) ⌝ }
+    requires { ⌜ 1 ≤ room (now oi) (now ov) ⌝ }
     ensures { λ r. ⌜ Answers (listMin (list ai av)) r oi ov ⌝ }
 {
     list_extreme(true, ai, av, oi, ov)
 }
 
+// ListMax: a list of one, or empty.
 pub fn list_max(ai: &[u16], av: &[i32], oi: &mut [u16], ov: &mut [i32]) -> usize
     requires { ⌜ length (now ai) ≡ length (now av) ⌝ }
-    requires { ⌜ (1 ≤ length (now oi)) × (1 ≤ length (now ov)) ⌝ }
+    requires { ⌜ 1 ≤ room (now oi) (now ov) ⌝ }
     ensures { λ r. ⌜ Answers (listMax (list ai av)) r oi ov ⌝ }
 {
     list_extreme(false, ai, av, oi, ov)
@@ -114,16 +119,35 @@ pub fn greater_or_equals(av: &[i32], bv: &[i32]) -> bool
     false
 }
 
+// Less: a's greatest below b's least.
 pub fn less(av: &[i32], bv: &[i32]) -> bool
     ensures { λ r. ⌜ r ≡ less (now (av .entry)) (now (bv .entry)) ⌝ }
 {
     greater(bv, av)
 }
 
+// LessThanOrEquals: the mirror of GreaterThanOrEquals.
 pub fn less_or_equals(av: &[i32], bv: &[i32]) -> bool
     ensures { λ r. ⌜ r ≡ lessOrEquals (now (av .entry)) (now (bv .entry)) ⌝ }
 {
     greater_or_equals(bv, av)
+}
+
+// A List as range's lower bound: its least value, or 0.
+pub fn lower_bound(vs: &[i32]) -> i32
+    ensures { λ r. ⌜ r ≡ lowerBound (now (vs .entry)) ⌝ }
+{
+    extreme_value(true, vs)
+}
+
+// A List as range's upper bound: its greatest value, or the greatest Int.
+pub fn upper_bound(vs: &[i32]) -> i32
+    ensures { λ r. ⌜ r ≡ upperBound (now (vs .entry)) ⌝ }
+{
+    if vs.len() == 0 {
+        return GREATEST_INT;
+    }
+    value_of_list(vs)
 }
 
 // Does v lie within the bounds.

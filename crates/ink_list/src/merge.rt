@@ -3,7 +3,7 @@
 ghost use mathlib.Core.Path.{_≡_};
 ghost use Prim.Native.Nat.{ℕ};
 ghost use mathlib.Core.Bool.{Bool·beq};
-ghost use Rattle.ink_list.specs.Entries.{member, Ascends, Rising, Lent, room};
+ghost use Rattle.ink_list.specs.Entries.{member, Ascends, Rising, Lent, room, itemNumbers};
 ghost use Rattle.ink_list.specs.Ops.{union, sift, without, intersect, has, hasnt};
 ghost use Rattle.ink_list.specs.Slices.{list, Answers};
 use crate::cursor::skip_below;
@@ -35,7 +35,7 @@ pub fn union(
             n = push(oi, ov, n, x, av[i]);
             i += 1;
         } else if x == y {
-            n = push(oi, ov, n, y, bv[j]);
+            n = push(oi, ov, n, x, bv[j]);
             i += 1;
             j += 1;
         } else {
@@ -91,7 +91,7 @@ pub fn intersect(ai: &[u16], av: &[i32], bi: &[u16], oi: &mut [u16], ov: &mut [i
 
 // Has: both are non-empty, and b's items all lie in a.
 pub fn has(ai: &[u16], bi: &[u16]) -> bool
-    requires { ⌜ Ascends 0 65536 (now ai) × Ascends 0 65536 (now bi) ⌝ }
+    requires { ⌜ Ascends 0 itemNumbers (now ai) × Ascends 0 itemNumbers (now bi) ⌝ }
     ensures { λ r. ⌜ r ≡ has (now (ai .entry)) (now (bi .entry)) ⌝ }
 {
     if ai.len() == 0 {
@@ -115,7 +115,7 @@ pub fn has(ai: &[u16], bi: &[u16]) -> bool
 
 // Hasnt: the opposite.
 pub fn hasnt(ai: &[u16], bi: &[u16]) -> bool
-    requires { ⌜ Ascends 0 65536 (now ai) × Ascends 0 65536 (now bi) ⌝ }
+    requires { ⌜ Ascends 0 itemNumbers (now ai) × Ascends 0 itemNumbers (now bi) ⌝ }
     ensures { λ r. ⌜ r ≡ hasnt (now (ai .entry)) (now (bi .entry)) ⌝ }
 {
     !has(ai, bi)

@@ -1,8 +1,9 @@
+-- `ink_list::cursor::skip_below` meets its contract: all numbers from j to k are below x. Assumes nothing.
 use mathlib.Core.Path.{_≡_, sym, _∙_}
 use Prim.Native.Nat.{_-_, _≤_}
 use lib.ListN.{length, drop}
 use borrow.Author.Needs.{needs}
-use Rattle.ink_list.specs.Cursor.{dropBelow}
+use Rattle.ink_list.specs.Steps.{dropBelow}
 use Rattle.ink_list.proofs.SiftLaws.{below-go, below-stop, below-end}
 use Rattle.ink_list.proofs.cursor.skip_below.Statement.{statement}
 use Rattle.ink_list.proofs.cursor.skip_below.Tie as tie

@@ -1,3 +1,4 @@
+-- `ink_list::cursor::stands` meets its contract. Assumes nothing.
 use mathlib.Core.Path.{sym}
 use borrow.Author.Needs.{needs}
 use Rattle.ink_list.proofs.SiftLaws.{head-here, head-end}

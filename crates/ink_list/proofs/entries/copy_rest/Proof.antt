@@ -1,25 +1,26 @@
-use mathlib.Core.Path.{_≡_}
-use Prim.Native.Nat.{_+_, _-_, _≤_}
+-- `ink_list::entries::copy_rest` meets its contract: after cursor k what is left to be stored are the entries from k on. Assumes nothing.
+use mathlib.Core.Path.{_≡_, refl}
+use Prim.Native.Nat.{_-_, _≤_}
 use native.Mathlib.Omega.{arith}
 use borrow.Author.Needs.{needs}
-use lib.IntN.{pos}
-use lib.ListN.{length, drop, getD, length-drop}
-use lib.Seq.{sets}
-use Rattle.ink_list.proofs.Bits32.{stored}
-use Rattle.ink_list.proofs.Copies.{sets-turn, sets-done}
+use lib.ListN.{length}
+use Rattle.ink_list.proofs.Rests.{rest, rest-cons, rest-done, rest-length}
+use Rattle.ink_list.proofs.Output.{Writing, begin, has-room, pushed, kept, stored}
 use Rattle.ink_list.proofs.entries.copy_rest.Statement.{statement}
 use Rattle.ink_list.proofs.entries.copy_rest.Tie as tie
 
 abbrev Inv-loop : tie.InvT-loop
 Inv-loop ai av i oi₀ ov₀ n k₀ m₀ oi ov k m =
-    (k ≤ length ai) × (m + (length ai - k) ≡ n + (length ai - i)) × (length oi ≡ length oi₀) × (length ov ≡ length ov₀)
-    × (sets oi m (drop k ai) ≡ sets oi₀ n (drop i ai)) × (sets ov m (drop k av) ≡ sets ov₀ n (drop i av))
+    (k ≤ length ai) × (length oi ≡ length oi₀) × (length ov ≡ length ov₀) × Writing n (rest i ai av) m (rest k ai av) oi₀ oi ov₀ ov
 
 abbrev μ-loop : tie.MeasureT-loop
 μ-loop ai av i oi₀ ov₀ n k₀ m₀ oi ov k m = length ai - k
 
 loop-holds : tie.Need-loop-holds Inv-loop μ-loop
-loop-holds c = search needs
+loop-holds c =
+    let a = c .before .before .args in
+    let r = rest-length (a .i) (a .ai .now) (a .av .now) (c .before .before .pre .0) in
+    (search needs, refl, refl, begin (omega arith))
 
 mul-push : tie.Need-mul-push Inv-loop μ-loop
 mul-push c = search needs
@@ -34,7 +35,10 @@ shared-slice-copy-out-push : tie.Need-shared-slice-copy-out-push Inv-loop μ-loo
 shared-slice-copy-out-push c = search needs
 
 push-requires : tie.Need-push-requires Inv-loop μ-loop
-push-requires c κs = search needs
+push-requires c κs =
+    let a = c .before .before .before .before .before .before .before .before .args in
+    let l = c .before .before .before .before .before .loop in
+    has-room (l .inv .3) (rest-cons (l .k) (a .ai .now) (a .av .now) (c .before .before .before .before .before .before .before .before .pre .0) (c .before .before .before .before .loop-test .taken))
 
 add-k : tie.Need-add-k Inv-loop μ-loop
 add-k c = search needs
@@ -44,18 +48,11 @@ loop-less c = search needs
 
 loop-again : tie.Need-loop-again Inv-loop μ-loop
 loop-again c =
-    let e = c .before .before .before .push .ensures in
-    let l = c .before .before .before .before .before .before .before .before .before .loop in
     let a = c .before .before .before .before .before .before .before .before .before .before .before .before .args in
-    let h = c .before .before .before .before .before .before .before .before .loop-test .taken in
-    let g = c .before .before .before .before .push-arg3 .given in (
-      search needs,
-      search needs,
-      search needs,
-      search needs,
-      sets-turn 0 (a .ai .now) (l .k) (l .m) (l .oi) h (e .next-is) (e .item-in) (l .inv .4),
-      sets-turn (pos 0) (a .av .now) (l .k) (l .m) (l .ov) (omega arith) (e .next-is) (stored (l .ov) (l .m) (getD (a .av .now) (l .k) (pos 0)) g (e .value-in)) (l .inv .5),
-    )
+    let l = c .before .before .before .before .before .before .before .before .before .loop in
+    let w = pushed (l .inv .3) (rest-cons (l .k) (a .ai .now) (a .av .now) (c .before .before .before .before .before .before .before .before .before .before .before .before .pre .0) (c .before .before .before .before .before .before .before .before .loop-test .taken)) (c .before .before .before .before .push-arg3 .given) (c .before .before .before .push .ensures) in
+    let k = kept w in
+    (search needs, k .0, k .1, w)
 
 same-length : tie.Need-same-length Inv-loop μ-loop
 same-length c = search needs
@@ -67,12 +64,7 @@ returns : tie.Need-returns Inv-loop μ-loop
 returns c =
     let a = c .before .before .before .before .args in
     let l = c .before .loop in
-    let h = c .loop-test .left in
-    record {
-      next-is = simp length-drop (omega arith);
-      items-in = sets-done (a .ai .now) (l .k) (l .m) h (l .inv .4);
-      values-in = sets-done (a .av .now) (l .k) (l .m) (omega arith) (l .inv .5);
-    }
+    stored (l .inv .3) (rest-done (l .k) (a .ai .now) (a .av .now) (c .loop-test .left))
 
 pub copy-rest-spec : {M : Type 1} → statement M
 copy-rest-spec =

@@ -1,19 +1,21 @@
+-- `ink_list::extremes::beats` meets its contract. Assumes nothing.
 use mathlib.Core.Path.{sym, ap, _∙_}
 use mathlib.Core.Bool.{Bool}
 use Rattle.ink_list.specs.Ops.{beats}
-use Rattle.ink_list.proofs.Bits32.{lt-back}
+use lib.Signed.{ltZ}
+use Rattle.ink_number.proofs.Signed.{read2}
 use Rattle.ink_list.proofs.extremes.beats.Statement.{statement}
 use Rattle.ink_list.proofs.extremes.beats.Tie as tie
 
 returns : tie.Need-returns
 returns c =
     let a = c .before .args in
-    lt-back (a .x) (a .y) (c .before .fits .x) (c .before .fits .y) ∙ ap (λ (b : Bool). beats b (a .x) (a .y)) (sym (c .if1 .taken))
+    read2 ltZ (a .x) (a .y) (c .before .fits .x) (c .before .fits .y) ∙ ap (λ (b : Bool). beats b (a .x) (a .y)) (sym (c .if1 .taken))
 
 returns-2 : tie.Need-returns-2
 returns-2 c =
     let a = c .before .args in
-    lt-back (a .y) (a .x) (c .before .fits .y) (c .before .fits .x) ∙ ap (λ (b : Bool). beats b (a .x) (a .y)) (sym (c .if1 .left))
+    read2 ltZ (a .y) (a .x) (c .before .fits .y) (c .before .fits .x) ∙ ap (λ (b : Bool). beats b (a .x) (a .y)) (sym (c .if1 .left))
 
 pub beats-spec : {M : Type 1} → statement M
 beats-spec = tie.close (tie.spec returns returns-2)

@@ -1,10 +1,11 @@
+-- `ink_list::extremes::greater` meets its contract: least and greatest as `extreme_value` gives them. Assumes nothing.
 use mathlib.Core.Path.{sym, ap, _∙_}
 use mathlib.Core.Bool.{false}
 use lib.IntN.{ℤ}
 use borrow.Author.Needs.{needs}
-use lib.Signed.{ltZ}
 use Rattle.ink_list.specs.Ops.{extremeValue}
-use Rattle.ink_list.proofs.Bits32.{lt-back}
+use lib.Signed.{ltZ}
+use Rattle.ink_number.proofs.Signed.{read2}
 use Rattle.ink_list.proofs.TestLaws.{greater-left-empty, greater-right-empty, greater-some}
 use Rattle.ink_list.proofs.extremes.greater.Statement.{statement}
 use Rattle.ink_list.proofs.extremes.greater.Tie as tie
@@ -30,7 +31,7 @@ returns-3 c =
     let a = c .before .before .before .before .args in
     let h = c .before .extreme-value in
     let l = c .extreme-value2 in
-    lt-back (h .result) (l .result) (record { sfits = h .ok }) (record { sfits = l .ok })
+    read2 ltZ (h .result) (l .result) (record { sfits = h .ok }) (record { sfits = l .ok })
     ∙ ap (λ (z : ℤ). ltZ z (l .result)) (h .ensures)
     ∙ ap (λ (z : ℤ). ltZ (extremeValue false (a .bv .now)) z) (l .ensures)
     ∙ sym (greater-some (a .av .now) (a .bv .now) (c .before .before .before .if1 .left) (c .before .before .if2 .left))

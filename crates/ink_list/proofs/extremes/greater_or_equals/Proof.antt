@@ -1,12 +1,12 @@
+-- `ink_list::extremes::greater_or_equals` meets its contract: least and greatest as `extreme_value` gives them. Assumes nothing.
 use mathlib.Core.Path.{_≡_, sym, ap, _∙_, ap₂}
 use mathlib.Core.Bool.{Bool, true, false, cond}
 use borrow.Author.Needs.{needs}
 use mir.Syntax.{w32}
 use mir.Val.{toZ, ofZ}
 use lib.Signed.{leZ}
-use Rattle.ink_list.specs.Entries.{}
 use Rattle.ink_list.specs.Ops.{extremeValue}
-use Rattle.ink_list.proofs.Bits32.{le-back}
+use Rattle.ink_number.proofs.Signed.{read2}
 use Rattle.ink_list.proofs.TestLaws.{greater-left-empty, greater-right-empty, greaterOrEquals-some}
 use Rattle.ink_list.proofs.extremes.greater_or_equals.Statement.{statement}
 use Rattle.ink_list.proofs.extremes.greater_or_equals.Tie as tie
@@ -42,8 +42,8 @@ tests c =
     let al = c .before .before .extreme-value2 in
     let bh = c .before .extreme-value3 in
     let ah = c .extreme-value4 in (
-      le-back (bl .result) (al .result) (record { sfits = bl .ok }) (record { sfits = al .ok }) ∙ ap₂ leZ (bl .ensures) (al .ensures),
-      le-back (bh .result) (ah .result) (record { sfits = bh .ok }) (record { sfits = ah .ok }) ∙ ap₂ leZ (bh .ensures) (ah .ensures),
+      read2 leZ (bl .result) (al .result) (record { sfits = bl .ok }) (record { sfits = al .ok }) ∙ ap₂ leZ (bl .ensures) (al .ensures),
+      read2 leZ (bh .result) (ah .result) (record { sfits = bh .ok }) (record { sfits = ah .ok }) ∙ ap₂ leZ (bh .ensures) (ah .ensures),
     )
 
 returns-3 : tie.Need-returns-3

@@ -1,3 +1,4 @@
+-- `ink_list::extremes::range` meets its contract: what is left of the answer is the range of the entries from cursor i on. Assumes nothing.
 use mathlib.Core.Path.{_≡_, refl, ap, _∙_, subst}
 use Prim.Native.Nat.{_-_, _≤_}
 use native.Mathlib.Omega.{arith}
@@ -19,7 +20,7 @@ use Rattle.ink_list.proofs.extremes.range.Tie as tie
 abbrev Inv-loop : tie.InvT-loop
 Inv-loop ai av lower upper oi₀ ov₀ i₀ n₀ oi ov i n =
     (i ≤ length ai) × (length oi ≡ length oi₀) × (length ov ≡ length ov₀)
-    × Writing (sift (room oi₀ ov₀) (λ e. within (toZ w32 lower) (toZ w32 upper) (e .1)) (entries ai av)) n
+    × Writing 0 (sift (room oi₀ ov₀) (λ e. within (toZ w32 lower) (toZ w32 upper) (e .1)) (entries ai av)) n
     (sift (room oi₀ ov₀) (λ e. within (toZ w32 lower) (toZ w32 upper) (e .1)) (rest i ai av)) oi₀ oi ov₀ ov
 
 abbrev μ-loop : tie.MeasureT-loop
@@ -30,7 +31,7 @@ loop-holds c =
     let a = c .before .before .args in
     let p = c .before .before .pre in
     let h = sift-length (room (a .oi .now) (a .ov .now)) (λ e. within (toZ w32 (ofZ w32 (a .lower))) (toZ w32 (ofZ w32 (a .upper))) (e .1)) (entries (a .ai .now) (a .av .now)) in
-    (search needs, refl, refl, begin _ _ _ (omega arith) (omega arith))
+    (search needs, refl, refl, begin (omega arith))
 
 mul-x : tie.Need-mul-x Inv-loop μ-loop
 mul-x c = search needs
@@ -55,7 +56,7 @@ push-requires c κs =
     let a = c .before .before .before .before .before .before .before .before .before .before .args in
     let p = c .before .before .before .before .before .before .before .before .before .before .pre in
     let l = c .before .before .before .before .before .before .before .loop in
-    has-room _ _ _ _ _ _ _ (l .inv .3) _ _
+    has-room (l .inv .3)
     (keep-yes (room (a .oi .now) (a .ov .now)) (λ e. within (toZ w32 (ofZ w32 (a .lower))) (toZ w32 (ofZ w32 (a .upper))) (e .1)) (a .ai .now) (a .av .now) p (l .i) (c .before .before .before .before .before .before .loop-test .taken)
     (within-back (a .lower) (a .upper) (getD (a .av .now) (l .i) (pos 0)) (c .before .before .before .before .v .given) (c .before .before .before .within .ensures) ∙ c .before .before .if1 .taken))
 
@@ -67,11 +68,11 @@ loop-again c =
     let a = c .before .before .before .before .before .before .before .before .before .before .before .before .before .before .args in
     let p = c .before .before .before .before .before .before .before .before .before .before .before .before .before .before .pre in
     let l = c .before .before .before .before .before .before .before .before .before .before .before .loop in
-    let w = pushed _ _ _ _ _ _ _ (l .inv .3) _ _
+    let w = pushed (l .inv .3)
     (keep-yes (room (a .oi .now) (a .ov .now)) (λ e. within (toZ w32 (ofZ w32 (a .lower))) (toZ w32 (ofZ w32 (a .upper))) (e .1)) (a .ai .now) (a .av .now) p (l .i) (c .before .before .before .before .before .before .before .before .before .before .loop-test .taken)
     (within-back (a .lower) (a .upper) (getD (a .av .now) (l .i) (pos 0)) (c .before .before .before .before .before .before .before .before .v .given) (c .before .before .before .before .before .before .before .within .ensures) ∙ c .before .before .before .before .before .before .if1 .taken))
     (c .before .before .before .before .before .before .before .before .v .given) (c .before .before .before .push .ensures) in
-    let k = kept _ _ _ _ _ _ _ w in
+    let k = kept w in
     (search needs, k .0, k .1, w)
 
 loop-less-2 : tie.Need-loop-less-2 Inv-loop μ-loop
@@ -82,10 +83,10 @@ loop-again-2 c =
     let a = c .before .before .before .before .before .before .before .before .args in
     let p = c .before .before .before .before .before .before .before .before .pre in
     let l = c .before .before .before .before .before .loop in
-    let w = turn _ _ _ _ _ _ _ (l .inv .3) _
+    let w = turn (l .inv .3)
     (keep-no (room (a .oi .now) (a .ov .now)) (λ e. within (toZ w32 (ofZ w32 (a .lower))) (toZ w32 (ofZ w32 (a .upper))) (e .1)) (a .ai .now) (a .av .now) p (l .i) (c .before .before .before .before .loop-test .taken)
     (within-back (a .lower) (a .upper) (getD (a .av .now) (l .i) (pos 0)) (c .before .before .v .given) (c .before .within .ensures) ∙ c .if1 .left)) in
-    let k = kept _ _ _ _ _ _ _ w in
+    let k = kept w in
     (search needs, k .0, k .1, w)
 
 same-length : tie.Need-same-length Inv-loop μ-loop
@@ -104,7 +105,7 @@ returns c =
     subst (λ (z : ℤ). Wrote (range limit z (a .upper) (entries (a .ai .now) (a .av .now))) (l .n) (a .oi .now) (l .oi) (a .ov .now) (l .ov)) (toZ-ofZ w32 (a .lower) (f .lower))
     (subst (λ (z : ℤ). Wrote (range limit (toZ w32 (ofZ w32 (a .lower))) z (entries (a .ai .now) (a .av .now))) (l .n) (a .oi .now) (l .oi) (a .ov .now) (l .ov)) (toZ-ofZ w32 (a .upper) (f .upper))
     (rw (← sift-limit (room (a .oi .now) (a .ov .now)) limit (λ e. within (toZ w32 (ofZ w32 (a .lower))) (toZ w32 (ofZ w32 (a .upper))) (e .1)) (entries (a .ai .now) (a .av .now)) (of-lent _ (a .ai .now) (a .av .now) p) ra)
-    (done _ _ _ _ _ _ _ (l .inv .3) (ap (sift _ _) (rest-done (l .i) (a .ai .now) (a .av .now) (c .loop-test .left)) ∙ sift-nil _ _))))
+    (done (l .inv .3) (ap (sift _ _) (rest-done (l .i) (a .ai .now) (a .av .now) (c .loop-test .left)) ∙ sift-nil _ _))))
 
 pub range-spec : {M : Type 1} → statement M
 range-spec =

@@ -1,8 +1,8 @@
+-- `ink_list::extremes::within` meets its contract. Assumes nothing.
 use mathlib.Core.Path.{sym, ap, _∙_}
 use mathlib.Core.Bool.{Bool, false, cond}
 use lib.Signed.{leZ}
-use Rattle.ink_list.specs.Entries.{}
-use Rattle.ink_list.proofs.Bits32.{le-back}
+use Rattle.ink_number.proofs.Signed.{read2}
 use Rattle.ink_list.proofs.extremes.within.Statement.{statement}
 use Rattle.ink_list.proofs.extremes.within.Tie as tie
 
@@ -10,14 +10,14 @@ returns : tie.Need-returns
 returns c =
     let a = c .before .args in
     let f = c .before .fits in
-    le-back (a .v) (a .upper) (f .v) (f .upper)
-    ∙ ap (λ (b : Bool). cond b (leZ (a .v) (a .upper)) false) (sym (sym (le-back (a .lower) (a .v) (f .lower) (f .v)) ∙ c .if1 .taken))
+    read2 leZ (a .v) (a .upper) (f .v) (f .upper)
+    ∙ ap (λ (b : Bool). cond b (leZ (a .v) (a .upper)) false) (sym (sym (read2 leZ (a .lower) (a .v) (f .lower) (f .v)) ∙ c .if1 .taken))
 
 returns-2 : tie.Need-returns-2
 returns-2 c =
     let a = c .before .args in
     let f = c .before .fits in
-    ap (λ (b : Bool). cond b (leZ (a .v) (a .upper)) false) (sym (sym (le-back (a .lower) (a .v) (f .lower) (f .v)) ∙ c .if1 .left))
+    ap (λ (b : Bool). cond b (leZ (a .v) (a .upper)) false) (sym (sym (read2 leZ (a .lower) (a .v) (f .lower) (f .v)) ∙ c .if1 .left))
 
 pub within-spec : {M : Type 1} → statement M
 within-spec = tie.close (tie.spec returns returns-2)

@@ -1,7 +1,9 @@
+-- `ink_list::merge::has` meets its contract: b's items from cursor j on are to lie among a's from cursor i on. Assumes nothing.
 use mathlib.Core.Path.{_≡_, sym, _∙_}
 use Prim.Native.Nat.{_-_, _≤_}
 use lib.ListN.{length, drop}
 use borrow.Author.Needs.{needs}
+use Rattle.ink_list.specs.Entries.{itemNumbers}
 use Rattle.ink_list.specs.Ops.{has, subset}
 use Rattle.ink_list.proofs.TestLaws.{has-no, has-yes, has-some, has-left-empty, has-right-empty, subset-end}
 use borrow.Author.Tests.{not-true, not-false}
@@ -47,7 +49,7 @@ returns-3 c =
     let a = c .before .before .before .before .before .before .before .before .before .before .args in
     let p = c .before .before .before .before .before .before .before .before .before .before .pre in
     let l = c .before .before .before .before .before .loop in
-    sym (l .inv .2 ∙ has-no 65536 (a .ai .now) (a .bi .now) (p .0) (p .1) (l .i) (c .before .before .skip-below .result) (l .j) (c .before .before .before .before .loop-test .taken) (c .before .before .skip-below .ensures .1)
+    sym (l .inv .2 ∙ has-no itemNumbers (a .ai .now) (a .bi .now) (p .0) (p .1) (l .i) (c .before .before .skip-below .result) (l .j) (c .before .before .before .before .loop-test .taken) (c .before .before .skip-below .ensures .1)
     (sym (c .before .stands .ensures) ∙ not-true _ (c .if3 .taken)))
 
 add-j : tie.Need-add-j Inv-loop μ-loop
@@ -63,7 +65,7 @@ loop-again c =
     let l = c .before .before .before .before .before .loop in (
       search needs,
       search needs,
-      l .inv .2 ∙ has-yes 65536 (a .ai .now) (a .bi .now) (p .0) (p .1) (l .i) (c .before .before .skip-below .result) (l .j) (c .before .before .before .before .loop-test .taken) (c .before .before .skip-below .ensures .1)
+      l .inv .2 ∙ has-yes itemNumbers (a .ai .now) (a .bi .now) (p .0) (p .1) (l .i) (c .before .before .skip-below .result) (l .j) (c .before .before .before .before .loop-test .taken) (c .before .before .skip-below .ensures .1)
           (sym (c .before .stands .ensures) ∙ not-false _ (c .if3 .left)),
     )
 

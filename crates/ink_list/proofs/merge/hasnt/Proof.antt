@@ -1,3 +1,4 @@
+-- `ink_list::merge::hasnt` meets its contract. Assumes nothing.
 use mathlib.Core.Path.{ap}
 use mathlib.Core.Bool.{not}
 use borrow.Author.Needs.{needs}

@@ -1,3 +1,4 @@
+-- `ink_list::merge::intersect` meets its contract: the items that match are b's. Assumes nothing.
 use mathlib.Core.Bool.{true, Bool·beq}
 use borrow.Author.Needs.{needs}
 use Rattle.ink_list.specs.Entries.{entries, member}

@@ -1,3 +1,5 @@
+-- `ink_list::merge::matching` meets its contract: what is left of the answer are the entries from cursor i on whose items are among b's from cursor j on, or are not.
+-- Assumes nothing.
 use mathlib.Core.Path.{_≡_, refl, sym, ap, _∙_}
 use mathlib.Core.Bool.{Bool, Bool·beq}
 use Prim.Native.Nat.{_-_, _≤_}
@@ -15,7 +17,7 @@ use Rattle.ink_list.proofs.merge.matching.Tie as tie
 abbrev Inv-loop : tie.InvT-loop
 Inv-loop want ai av bi oi₀ ov₀ i₀ j₀ n₀ oi ov i j n =
     (i ≤ length ai) × (j ≤ length bi) × (length oi ≡ length oi₀) × (length ov ≡ length ov₀)
-    × Writing (sift (room oi₀ ov₀) (λ e. Bool·beq (member bi (e .0)) want) (entries ai av)) n
+    × Writing 0 (sift (room oi₀ ov₀) (λ e. Bool·beq (member bi (e .0)) want) (entries ai av)) n
     (sift (room oi₀ ov₀) (λ e. Bool·beq (member (drop j bi) (e .0)) want) (rest i ai av)) oi₀ oi ov₀ ov
 
 abbrev μ-loop : tie.MeasureT-loop
@@ -30,7 +32,7 @@ loop-holds c =
       refl,
       refl,
       let h = sift-length (room (a .oi .now) (a .ov .now)) (λ e. Bool·beq (member (a .bi .now) (e .0)) (a .want)) (entries (a .ai .now) (a .av .now)) in
-          begin _ _ _ (omega arith) (omega arith),
+          begin (omega arith),
     )
 
 mul-x : tie.Need-mul-x Inv-loop μ-loop
@@ -59,7 +61,7 @@ push-requires c κs =
     let a = c .before .before .before .before .before .before .before .before .before .before .before .before .args in
     let p = c .before .before .before .before .before .before .before .before .before .before .before .before .pre in
     let l = c .before .before .before .before .before .before .before .before .loop in
-    has-room _ _ _ _ _ _ _ (l .inv .4) _ _
+    has-room (l .inv .4)
     (match-yes (room (a .oi .now) (a .ov .now)) (a .want) (a .ai .now) (a .av .now) (a .bi .now) (p .0) (p .1) (l .i) (l .j) (c .before .before .before .before .skip-below .result)
     (c .before .before .before .before .before .before .before .loop-test .taken) (c .before .before .before .before .skip-below .ensures .1) (ap (λ (b : Bool). Bool·beq b (a .want)) (sym (c .before .before .before .stands .ensures)) ∙ c .before .before .if1 .taken))
 
@@ -71,11 +73,11 @@ loop-again c =
     let a = c .before .before .before .before .before .before .before .before .before .before .before .before .before .before .before .before .args in
     let p = c .before .before .before .before .before .before .before .before .before .before .before .before .before .before .before .before .pre in
     let l = c .before .before .before .before .before .before .before .before .before .before .before .before .loop in
-    let w = pushed _ _ _ _ _ _ _ (l .inv .4) _ _
+    let w = pushed (l .inv .4)
     (match-yes (room (a .oi .now) (a .ov .now)) (a .want) (a .ai .now) (a .av .now) (a .bi .now) (p .0) (p .1) (l .i) (l .j) (c .before .before .before .before .before .before .before .before .skip-below .result)
     (c .before .before .before .before .before .before .before .before .before .before .before .loop-test .taken) (c .before .before .before .before .before .before .before .before .skip-below .ensures .1) (ap (λ (b : Bool). Bool·beq b (a .want)) (sym (c .before .before .before .before .before .before .before .stands .ensures)) ∙ c .before .before .before .before .before .before .if1 .taken))
     (c .before .before .before .before .before .before .before .before .before .v .given) (c .before .before .before .push .ensures) in
-    let k = kept _ _ _ _ _ _ _ w in
+    let k = kept w in
     (search needs, search needs, k .0, k .1, w)
 
 loop-less-2 : tie.Need-loop-less-2 Inv-loop μ-loop
@@ -86,10 +88,10 @@ loop-again-2 c =
     let a = c .before .before .before .before .before .before .before .before .before .before .args in
     let p = c .before .before .before .before .before .before .before .before .before .before .pre in
     let l = c .before .before .before .before .before .before .loop in
-    let w = turn _ _ _ _ _ _ _ (l .inv .4) _
+    let w = turn (l .inv .4)
     (match-no (room (a .oi .now) (a .ov .now)) (a .want) (a .ai .now) (a .av .now) (a .bi .now) (p .0) (p .1) (l .i) (l .j) (c .before .before .skip-below .result)
     (c .before .before .before .before .before .loop-test .taken) (c .before .before .skip-below .ensures .1) (ap (λ (b : Bool). Bool·beq b (a .want)) (sym (c .before .stands .ensures)) ∙ c .if1 .left)) in
-    let k = kept _ _ _ _ _ _ _ w in
+    let k = kept w in
     (search needs, search needs, k .0, k .1, w)
 
 same-length : tie.Need-same-length Inv-loop μ-loop
@@ -105,7 +107,7 @@ returns c =
     let l = c .before .loop in
     λ limit ra.
     rw (← sift-limit (room (a .oi .now) (a .ov .now)) limit (λ e. Bool·beq (member (a .bi .now) (e .0)) (a .want)) (entries (a .ai .now) (a .av .now)) (of-lent _ (a .ai .now) (a .av .now) (p .0)) ra)
-    (done _ _ _ _ _ _ _ (l .inv .4) (ap (sift _ _) (rest-done (l .i) (a .ai .now) (a .av .now) (c .loop-test .left)) ∙ sift-nil _ _))
+    (done (l .inv .4) (ap (sift _ _) (rest-done (l .i) (a .ai .now) (a .av .now) (c .loop-test .left)) ∙ sift-nil _ _))
 
 pub matching-spec : {M : Type 1} → statement M
 matching-spec =

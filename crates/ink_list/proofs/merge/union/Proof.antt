@@ -1,24 +1,24 @@
+-- `ink_list::merge::union` meets its contract: what is left of the answer is the union of what is left of the two. Assumes nothing.
 use mathlib.Core.Path.{_≡_, refl, sym}
 use Prim.Native.Nat.{_+_, _-_, _≤_}
 use native.Mathlib.Omega.{arith}
 use borrow.Author.Needs.{needs}
-use lib.ListN.{length, drop, length-append}
+use lib.ListN.{length, length-append}
 use Rattle.ink_list.specs.Entries.{entries, room}
 use Rattle.ink_list.specs.Ops.{union}
-use Rattle.ink_list.proofs.Rests.{rest, rest-done, rest-long, rest-length, rest-rising, of-lent}
-use Rattle.ink_list.proofs.Output.{Writing, begin, has-room, pushed, kept, done, fits, turn}
-use Rattle.ink_list.proofs.UnionLaws.{union-length, union-limit, union-ends, turn-less, turn-same, turn-more}
+use Rattle.ink_list.proofs.Rests.{rest, rest-length, of-lent}
+use Rattle.ink_list.proofs.Output.{Writing, begin, has-room, pushed, appended, fits, turn, kept, done}
+use Rattle.ink_list.proofs.UnionLaws.{union-length, union-limit, union-rest, turn-less, turn-same, turn-more}
 use borrow.Author.Tests.{ltb-true, ltb-false}
 use mathlib.Core.Logic.{⊎-elim, inl, inr}
-use mathlib.Core.List.{[], _++_, append-nil}
-use Rattle.ink_list.proofs.Copies.{copied}
+use mathlib.Core.List.{[], append-nil}
 use Rattle.ink_list.proofs.merge.union.Statement.{statement}
 use Rattle.ink_list.proofs.merge.union.Tie as tie
 
 abbrev Inv-loop : tie.InvT-loop
 Inv-loop ai av bi bv oi₀ ov₀ i₀ j₀ n₀ oi ov i j n =
     (i ≤ length ai) × (j ≤ length bi) × (length oi ≡ length oi₀) × (length ov ≡ length ov₀)
-    × Writing (union (room oi₀ ov₀) (entries ai av) (entries bi bv)) n (union (room oi₀ ov₀) (rest i ai av) (rest j bi bv)) oi₀ oi ov₀ ov
+    × Writing 0 (union (room oi₀ ov₀) (entries ai av) (entries bi bv)) n (union (room oi₀ ov₀) (rest i ai av) (rest j bi bv)) oi₀ oi ov₀ ov
 
 abbrev μ-loop : tie.MeasureT-loop
 μ-loop ai av bi bv oi₀ ov₀ i₀ j₀ n₀ oi ov i j n = (length ai - i) + (length bi - j)
@@ -32,7 +32,7 @@ loop-holds c =
       refl,
       refl,
       let h = union-length (room (a .oi .now) (a .ov .now)) (entries (a .ai .now) (a .av .now)) (entries (a .bi .now) (a .bv .now)) in
-          begin _ _ _ (omega arith) (omega arith),
+          begin (omega arith),
     )
 
 mul-x : tie.Need-mul-x Inv-loop μ-loop
@@ -58,8 +58,8 @@ push-requires c κs =
     let a = c .before .before .before .before .before .before .before .before .before .before .before .before .args in
     let p = c .before .before .before .before .before .before .before .before .before .before .before .before .pre in
     let l = c .before .before .before .before .before .before .before .before .loop in
-    has-room _ _ _ _ _ _ _ (l .inv .4) _ _
-    (turn-less (room (a .oi .now) (a .ov .now)) (a .ai .now) (a .av .now) (a .bi .now) (a .bv .now) (p .0) (p .1) (l .i) (l .j)
+    has-room (l .inv .4)
+    (turn-less (p .0) (p .1) (l .i) (l .j)
     (c .before .before .before .before .before .before .before .loop-test .taken) (ltb-true _ _ (c .before .before .before .before .before .before .if1 .taken)) (c .before .before .before .if2 .taken))
 
 add-i : tie.Need-add-i Inv-loop μ-loop
@@ -73,11 +73,11 @@ loop-again c =
     let a = c .before .before .before .before .before .before .before .before .before .before .before .before .before .before .before .before .args in
     let p = c .before .before .before .before .before .before .before .before .before .before .before .before .before .before .before .before .pre in
     let l = c .before .before .before .before .before .before .before .before .before .before .before .before .loop in
-    let w = pushed _ _ _ _ _ _ _ (l .inv .4) _ _
-    (turn-less (room (a .oi .now) (a .ov .now)) (a .ai .now) (a .av .now) (a .bi .now) (a .bv .now) (p .0) (p .1) (l .i) (l .j)
+    let w = pushed (l .inv .4)
+    (turn-less (p .0) (p .1) (l .i) (l .j)
     (c .before .before .before .before .before .before .before .before .before .before .before .loop-test .taken) (ltb-true _ _ (c .before .before .before .before .before .before .before .before .before .before .if1 .taken)) (c .before .before .before .before .before .before .before .if2 .taken))
     (c .before .before .before .before .push-arg3 .given) (c .before .before .before .push .ensures) in
-    let k = kept _ _ _ _ _ _ _ w in
+    let k = kept w in
     (search needs, search needs, k .0, k .1, w)
 
 mul-push-2 : tie.Need-mul-push-2 Inv-loop μ-loop
@@ -91,8 +91,8 @@ push-requires-2 c κs =
     let a = c .before .before .before .before .before .before .before .before .before .before .before .before .before .args in
     let p = c .before .before .before .before .before .before .before .before .before .before .before .before .before .pre in
     let l = c .before .before .before .before .before .before .before .before .before .loop in
-    has-room _ _ _ _ _ _ _ (l .inv .4) _ _
-    (turn-same (room (a .oi .now) (a .ov .now)) (a .ai .now) (a .av .now) (a .bi .now) (a .bv .now) (p .0) (p .1) (l .i) (l .j)
+    has-room (l .inv .4)
+    (turn-same (p .0) (p .1) (l .i) (l .j)
     (c .before .before .before .before .before .before .before .before .loop-test .taken) (ltb-true _ _ (c .before .before .before .before .before .before .before .if1 .taken)) (c .before .before .before .if3 .taken))
 
 add-i-2 : tie.Need-add-i-2 Inv-loop μ-loop
@@ -109,11 +109,11 @@ loop-again-2 c =
     let a = c .before .before .before .before .before .before .before .before .before .before .before .before .before .before .before .before .before .args in
     let p = c .before .before .before .before .before .before .before .before .before .before .before .before .before .before .before .before .before .pre in
     let l = c .before .before .before .before .before .before .before .before .before .before .before .before .before .loop in
-    let w = pushed _ _ _ _ _ _ _ (l .inv .4) _ _
-    (turn-same (room (a .oi .now) (a .ov .now)) (a .ai .now) (a .av .now) (a .bi .now) (a .bv .now) (p .0) (p .1) (l .i) (l .j)
+    let w = pushed (l .inv .4)
+    (turn-same (p .0) (p .1) (l .i) (l .j)
     (c .before .before .before .before .before .before .before .before .before .before .before .before .loop-test .taken) (ltb-true _ _ (c .before .before .before .before .before .before .before .before .before .before .before .if1 .taken)) (c .before .before .before .before .before .before .before .if3 .taken))
     (c .before .before .before .before .push-arg6 .given) (c .before .before .before .push2 .ensures) in
-    let k = kept _ _ _ _ _ _ _ w in
+    let k = kept w in
     (search needs, omega (arith, ltb-true), k .0, k .1, w)
 
 mul-push-3 : tie.Need-mul-push-3 Inv-loop μ-loop
@@ -127,8 +127,8 @@ push-requires-3 c κs =
     let a = c .before .before .before .before .before .before .before .before .before .before .before .before .before .args in
     let p = c .before .before .before .before .before .before .before .before .before .before .before .before .before .pre in
     let l = c .before .before .before .before .before .before .before .before .before .loop in
-    has-room _ _ _ _ _ _ _ (l .inv .4) _ _
-    (turn-more (room (a .oi .now) (a .ov .now)) (a .ai .now) (a .av .now) (a .bi .now) (a .bv .now) (p .0) (p .1) (l .i) (l .j)
+    has-room (l .inv .4)
+    (turn-more (p .0) (p .1) (l .i) (l .j)
     (c .before .before .before .before .before .before .before .before .loop-test .taken) (ltb-true _ _ (c .before .before .before .before .before .before .before .if1 .taken)) (omega (arith, c .before .before .before .before .if2 .left, c .before .before .before .if3 .left)))
 
 add-j-2 : tie.Need-add-j-2 Inv-loop μ-loop
@@ -142,86 +142,62 @@ loop-again-3 c =
     let a = c .before .before .before .before .before .before .before .before .before .before .before .before .before .before .before .before .before .args in
     let p = c .before .before .before .before .before .before .before .before .before .before .before .before .before .before .before .before .before .pre in
     let l = c .before .before .before .before .before .before .before .before .before .before .before .before .before .loop in
-    let w = pushed _ _ _ _ _ _ _ (l .inv .4) _ _
-    (turn-more (room (a .oi .now) (a .ov .now)) (a .ai .now) (a .av .now) (a .bi .now) (a .bv .now) (p .0) (p .1) (l .i) (l .j)
+    let w = pushed (l .inv .4)
+    (turn-more (p .0) (p .1) (l .i) (l .j)
     (c .before .before .before .before .before .before .before .before .before .before .before .before .loop-test .taken) (ltb-true _ _ (c .before .before .before .before .before .before .before .before .before .before .before .if1 .taken)) (omega (arith, c .before .before .before .before .before .before .before .before .if2 .left, c .before .before .before .before .before .before .before .if3 .left)))
     (c .before .before .before .before .push-arg9 .given) (c .before .before .before .push3 .ensures) in
-    let k = kept _ _ _ _ _ _ _ w in
+    let k = kept w in
     (search needs, omega (arith, ltb-true), k .0, k .1, w)
-
--- after the loop one of the two lists is used up
-ended : (c : tie.Left-loop Inv-loop μ-loop) → Writing
-    (union (room (c .before .before .before .before .before .args .oi .now) (c .before .before .before .before .before .args .ov .now)) (entries (c .before .before .before .before .before .args .ai .now) (c .before .before .before .before .before .args .av .now)) (entries (c .before .before .before .before .before .args .bi .now) (c .before .before .before .before .before .args .bv .now)))
-    (c .before .loop .n)
-    (rest (c .before .loop .i) (c .before .before .before .before .before .args .ai .now) (c .before .before .before .before .before .args .av .now) ++ rest (c .before .loop .j) (c .before .before .before .before .before .args .bi .now) (c .before .before .before .before .before .args .bv .now))
-    (c .before .before .before .before .before .args .oi .now) (c .before .loop .oi) (c .before .before .before .before .before .args .ov .now) (c .before .loop .ov)
-ended c =
-    let a = c .before .before .before .before .before .args in
-    let p = c .before .before .before .before .before .pre in
-    let l = c .before .loop in
-    turn _ _ _ _ _ _ _ (l .inv .4) _
-    (union-ends (room (a .oi .now) (a .ov .now)) (rest (l .i) (a .ai .now) (a .av .now)) (rest (l .j) (a .bi .now) (a .bv .now))
-    (rest-rising (l .i) _ (a .ai .now) (a .av .now) (of-lent _ (a .ai .now) (a .av .now) (p .0))) (rest-rising (l .j) _ (a .bi .now) (a .bv .now) (of-lent _ (a .bi .now) (a .bv .now) (p .1)))
-    (⊎-elim (λ w. inr (rest-done (l .j) (a .bi .now) (a .bv .now) (ltb-false _ _ (w .1 .left)))) (λ w. inl (rest-done (l .i) (a .ai .now) (a .av .now) (w .left))) (c .loop-test .came)))
 
 copy-rest-requires : tie.Need-copy-rest-requires Inv-loop μ-loop
 copy-rest-requires c κs =
-    let w = ended (c .before .before) in
     let a = c .before .before .before .before .before .before .before .args in
     let p = c .before .before .before .before .before .before .before .pre in
     let l = c .before .before .before .loop in
-    let f = fits _ _ _ _ _ _ _ w in
+    let u = union-rest (p .0) (p .1) (l .i) (l .j) (⊎-elim (λ w. inr (ltb-false _ _ (w .1 .left))) (λ w. inl (w .left)) (c .before .before .loop-test .came)) in
+    let f = fits (turn (l .inv .4) u) in
     let e = length-append (rest (l .i) (a .ai .now) (a .av .now)) (rest (l .j) (a .bi .now) (a .bv .now)) in
-    let ra = rest-length (l .i) (a .ai .now) (a .av .now) (p .0 .long) in
-    (p .0 .long, (search needs, omega arith, omega arith))
-
--- then the rest of the second is left
-second : (c : tie.After-copy-rest Inv-loop μ-loop) → Writing
-    (union (room (c .before .before .before .before .before .before .before .before .args .oi .now) (c .before .before .before .before .before .before .before .before .args .ov .now)) (entries (c .before .before .before .before .before .before .before .before .args .ai .now) (c .before .before .before .before .before .before .before .before .args .av .now)) (entries (c .before .before .before .before .before .before .before .before .args .bi .now) (c .before .before .before .before .before .before .before .before .args .bv .now)))
-    (c .copy-rest .result)
-    (rest (c .before .before .before .before .loop .j) (c .before .before .before .before .before .before .before .before .args .bi .now) (c .before .before .before .before .before .before .before .before .args .bv .now))
-    (c .before .before .before .before .before .before .before .before .args .oi .now) (c .copy-rest .last .1 .1 .1 .0) (c .before .before .before .before .before .before .before .before .args .ov .now) (c .copy-rest .last .1 .1 .1 .1 .0)
-second c =
-    let a = c .before .before .before .before .before .before .before .before .args in
-    let p = c .before .before .before .before .before .before .before .before .pre in
-    let l = c .before .before .before .before .loop in
-    copied _ (drop (l .i) (a .ai .now)) (drop (l .i) (a .av .now)) _ _ _ _ _ _
-    (rest-long (l .i) (a .ai .now) (a .av .now) (p .0 .long)) (ended (c .before .before .before)) (c .copy-rest .ensures)
+    let r = rest-length (l .i) (a .ai .now) (a .av .now) (p .0 .long) in
+    (p .0 .long, (search needs, omega arith))
 
 copy-rest-requires-2 : tie.Need-copy-rest-requires-2 Inv-loop μ-loop
 copy-rest-requires-2 c κs =
-    let w = second (c .before .before .before .before .before) in
     let a = c .before .before .before .before .before .before .before .before .before .before .before .before .before .args in
     let p = c .before .before .before .before .before .before .before .before .before .before .before .before .before .pre in
     let l = c .before .before .before .before .before .before .before .before .before .loop in
-    let f = fits _ _ _ _ _ _ _ w in
-    let rb = rest-length (l .j) (a .bi .now) (a .bv .now) (p .1 .long) in
-    (p .1 .long, (search needs, omega arith, omega arith))
-
--- and nothing at the end
-third : (c : tie.After-copy-rest2 Inv-loop μ-loop) → Writing
-    (union (room (c .before .before .before .before .before .before .before .before .before .before .before .before .before .before .args .oi .now) (c .before .before .before .before .before .before .before .before .before .before .before .before .before .before .args .ov .now)) (entries (c .before .before .before .before .before .before .before .before .before .before .before .before .before .before .args .ai .now) (c .before .before .before .before .before .before .before .before .before .before .before .before .before .before .args .av .now)) (entries (c .before .before .before .before .before .before .before .before .before .before .before .before .before .before .args .bi .now) (c .before .before .before .before .before .before .before .before .before .before .before .before .before .before .args .bv .now)))
-    (c .copy-rest2 .result) [] (c .before .before .before .before .before .before .before .before .before .before .before .before .before .before .args .oi .now) (c .copy-rest2 .last .1 .1 .1 .0) (c .before .before .before .before .before .before .before .before .before .before .before .before .before .before .args .ov .now) (c .copy-rest2 .last .1 .1 .1 .1 .0)
-third c =
-    let a = c .before .before .before .before .before .before .before .before .before .before .before .before .before .before .args in
-    let p = c .before .before .before .before .before .before .before .before .before .before .before .before .before .before .pre in
-    let l = c .before .before .before .before .before .before .before .before .before .before .loop in
-    copied _ (drop (l .j) (a .bi .now)) (drop (l .j) (a .bv .now)) _ _ _ _ _ _
-    (rest-long (l .j) (a .bi .now) (a .bv .now) (p .1 .long)) (turn _ _ _ _ _ _ _ (second (c .before .before .before .before .before .before)) _ (sym (append-nil _))) (c .copy-rest2 .ensures)
+    let u = union-rest (p .0) (p .1) (l .i) (l .j) (⊎-elim (λ w. inr (ltb-false _ _ (w .1 .left))) (λ w. inl (w .left)) (c .before .before .before .before .before .before .before .before .loop-test .came)) in
+    let f = fits (appended (l .inv .4) {more′ = rest (l .j) (a .bi .now) (a .bv .now)} u (c .before .before .before .before .before .copy-rest .ensures)) in
+    let r = rest-length (l .j) (a .bi .now) (a .bv .now) (p .1 .long) in
+    (p .1 .long, (search needs, omega arith))
 
 same-length : tie.Need-same-length Inv-loop μ-loop
-same-length c = kept _ _ _ _ _ _ _ (third (c .before .before .before)) .0
+same-length c =
+    let a = c .before .before .before .before .before .before .before .before .before .before .before .before .before .before .before .before .before .args in
+    let p = c .before .before .before .before .before .before .before .before .before .before .before .before .before .before .before .before .before .pre in
+    let l = c .before .before .before .before .before .before .before .before .before .before .before .before .before .loop in
+    let u = union-rest (p .0) (p .1) (l .i) (l .j) (⊎-elim (λ w. inr (ltb-false _ _ (w .1 .left))) (λ w. inl (w .left)) (c .before .before .before .before .before .before .before .before .before .before .before .before .loop-test .came)) in
+    let last = appended (appended (l .inv .4) {more′ = rest (l .j) (a .bi .now) (a .bv .now)} u (c .before .before .before .before .before .before .before .before .before .copy-rest .ensures)) {more′ = []} (sym (append-nil _)) (c .before .before .before .copy-rest2 .ensures) in
+    kept last .0
 
 same-length-2 : tie.Need-same-length-2 Inv-loop μ-loop
-same-length-2 c = kept _ _ _ _ _ _ _ (third (c .before .before .before)) .1
+same-length-2 c =
+    let a = c .before .before .before .before .before .before .before .before .before .before .before .before .before .before .before .before .before .args in
+    let p = c .before .before .before .before .before .before .before .before .before .before .before .before .before .before .before .before .before .pre in
+    let l = c .before .before .before .before .before .before .before .before .before .before .before .before .before .loop in
+    let u = union-rest (p .0) (p .1) (l .i) (l .j) (⊎-elim (λ w. inr (ltb-false _ _ (w .1 .left))) (λ w. inl (w .left)) (c .before .before .before .before .before .before .before .before .before .before .before .before .loop-test .came)) in
+    let last = appended (appended (l .inv .4) {more′ = rest (l .j) (a .bi .now) (a .bv .now)} u (c .before .before .before .before .before .before .before .before .before .copy-rest .ensures)) {more′ = []} (sym (append-nil _)) (c .before .before .before .copy-rest2 .ensures) in
+    kept last .1
 
 returns : tie.Need-returns Inv-loop μ-loop
 returns c =
     let a = c .before .before .before .before .before .before .before .before .before .before .before .before .before .before .before .before .before .args in
     let p = c .before .before .before .before .before .before .before .before .before .before .before .before .before .before .before .before .before .pre in
+    let l = c .before .before .before .before .before .before .before .before .before .before .before .before .before .loop in
+    let u = union-rest (p .0) (p .1) (l .i) (l .j) (⊎-elim (λ w. inr (ltb-false _ _ (w .1 .left))) (λ w. inl (w .left)) (c .before .before .before .before .before .before .before .before .before .before .before .before .loop-test .came)) in
+    let last = appended (appended (l .inv .4) {more′ = rest (l .j) (a .bi .now) (a .bv .now)} u (c .before .before .before .before .before .before .before .before .before .copy-rest .ensures)) {more′ = []} (sym (append-nil _)) (c .before .before .before .copy-rest2 .ensures) in
     λ limit ra rb.
     rw (← union-limit (room (a .oi .now) (a .ov .now)) limit (entries (a .ai .now) (a .av .now)) (entries (a .bi .now) (a .bv .now)) (of-lent _ (a .ai .now) (a .av .now) (p .0)) (of-lent _ (a .bi .now) (a .bv .now) (p .1)) ra rb)
-    (done _ _ _ _ _ _ _ (third (c .before .before .before)) refl)
+    (done last refl)
 
 pub union-spec : {M : Type 1} → statement M
 union-spec =

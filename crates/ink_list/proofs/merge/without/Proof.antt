@@ -1,3 +1,4 @@
+-- `ink_list::merge::without` meets its contract: the items that match are not b's. Assumes nothing.
 use mathlib.Core.Bool.{false, Bool·beq}
 use borrow.Author.Needs.{needs}
 use Rattle.ink_list.specs.Entries.{entries, member}

@@ -1,0 +1,9 @@
+-- The laws that the functions' proofs, and those of crates above, cite.
+pub mod DefLaws
+pub mod OriginLaws
+pub mod Order
+pub mod Raised
+pub mod Chosen
+pub mod TargetLaws
+pub mod Results
+mod Known

@@ -1,0 +1,3 @@
+-- What the list operators that go by the pack's definitions answer.
+pub mod Defs
+pub mod Search
