@@ -6,7 +6,7 @@ use mathlib.Core.Path.{_≡_}
 use lib.IntN.{ℤ}
 use lib.ListN.{length, getD, drop}
 use Rattle.ink_list.specs.Entries.{Entry, items, values}
-use Rattle.ink_list.specs.Filled.{fill}
+use Rattle.ink_list.specs.Filled.{fill, over}
 use Rattle.pack.specs.Bodies.{Literal, Pack, decoded}
 use Rattle.pack.specs.Contents.{literalCount, sheetBody, offset, size}
 use Rattle.pack.specs.Format.{format1, instructionLimit}
@@ -39,6 +39,13 @@ module _ (d : Pack) where
   sheetOf s = getD (d .sheets) s []
 
 -- ---- what is written
+
+-- the two tables of a pack, written from the start of two slices, which are else as they were, and how many places each takes
+pub record Tabled (d : Pack) (definitions items : ℕ) (oe oe′ : List ℕ) (od od′ : List ℤ) : Type 0 where
+  pub ends-long : definitions ≡ length (endsOf d)
+  pub defined-long : items ≡ length (definedOf d)
+  pub ends-in : oe′ ≡ over (endsOf d) oe
+  pub defined-in : od′ ≡ over (definedOf d) od
 
 -- entries stored from a place on of two slices, which are else as they were
 pub record Stored (es : List Entry) (from count : ℕ) (oi oi′ : List ℕ) (ov ov′ : List ℤ) : Type 0 where

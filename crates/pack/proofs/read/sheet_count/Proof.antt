@@ -1,5 +1,6 @@
 -- `pack::read::sheet_count` meets its contract. Assumes nothing.
 use mathlib.Core.Path.{sym, _∙_}
+use native.Mathlib.Omega.{arith}
 use denote.Ref.{now}
 use Rattle.ink_list.proofs.Filled.{length-table}
 use Rattle.pack.specs.Contents.{sheetCount}
