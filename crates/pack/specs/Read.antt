@@ -80,8 +80,16 @@ module _ (p : List ℕ) where
     pub stands : instruction (literalCount p) p at ≡ some first
     pub within : at + width first ≤ length p
 
-  -- i is the instruction at a position: of each sheet that has its instruction k there, i is instruction k, and k + 1 is at the next position
+  -- i is instruction k of sheet s and stands at a position, whole; instruction k + 1, or the end, is after it
+  pub record Kth (s k at : ℕ) (i : Instr) : Type 0 where
+    pub few : k < instructionLimit
+    pub below : k < length (program s)
+    pub kth : getD (program s) k (push pushVoid) ≡ i
+    pub some : 0 < width i
+    pub within : at + width i ≤ sheetEnd s
+    pub next : Standing s (k + 1) (at + width i)
+
+  -- i is the instruction at a position, whichever sheet has it and as whichever
   pub record Reads (at : ℕ) (i : Instr) : Type 0 where
     pub stands : instruction (literalCount p) p at ≡ some i
-    pub kth : (s k : ℕ) → Standing s k at → at < sheetEnd s → getD (program s) k (push pushVoid) ≡ i
-    pub next : (s k : ℕ) → Standing s k at → at < sheetEnd s → Standing s (k + 1) (at + width i)
+    pub each : (s k : ℕ) → Standing s k at → at < sheetEnd s → Kth s k at i

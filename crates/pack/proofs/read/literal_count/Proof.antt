@@ -1,9 +1,7 @@
 -- `pack::read::literal_count` meets its contract. Assumes nothing.
 use mathlib.Core.Path.{sym, _∙_}
-use native.Mathlib.Omega.{arith}
 use denote.Ref.{now}
-use Rattle.ink_list.proofs.Filled.{length-table}
-use Rattle.pack.specs.Contents.{literalCount}
+use Rattle.pack.proofs.Listed.{literals-long}
 use borrow.Author.Needs.{needs}
 use Rattle.pack.proofs.read.literal_count.Statement.{statement}
 use Rattle.pack.proofs.read.literal_count.Tie as tie
@@ -12,7 +10,7 @@ byte-at-requires : tie.Need-byte-at-requires
 byte-at-requires c κs = search needs
 
 returns : tie.Need-returns
-returns c = c .byte-at .ensures .0 ∙ sym (length-table (literalCount (now (c .before .before .args .p))) _)
+returns c = c .byte-at .ensures .0 ∙ sym (literals-long (now (c .before .before .args .p)))
 
 pub literal-count-spec : {M : Type 1} → statement M
 literal-count-spec = tie.close (tie.spec byte-at-requires returns)
