@@ -11,13 +11,14 @@ use lib.ListN.{length, getD, drop, length-drop}
 use lib.Seq.{drop-cons}
 use borrow.Author.Tests.{leb-true}
 use Rattle.ink_list.proofs.Every.{every-at}
-use Rattle.pack.specs.Bodies.{sheet}
+use Rattle.ink_list.proofs.Filled.{length-table}
+use Rattle.pack.specs.Bodies.{sheet, decoded}
 use Rattle.pack.specs.Contents.{literalCount, sheetCount, sheetBody, offset}
-use Rattle.pack.specs.Format.{instructionLimit}
+use Rattle.pack.specs.Format.{format1, instructionLimit}
 use Rattle.pack.specs.Instruction.{Instr, push, pushVoid, width, instruction, instructions, onward, before, isSome, orNone}
 use Rattle.pack.specs.Judge.{question5}
-use Rattle.pack.specs.Read.{program, sheetEnd, Standing, Whole, Reads}
-use Rattle.pack.proofs.Steps.{at-end, none-left, one-more}
+use Rattle.pack.specs.Read.{program, sheetEnd, Standing, Whole, Kth, Reads}
+use Rattle.pack.proofs.Steps.{at-end, none-left, one-more, wide-some}
 use Rattle.pack.proofs.Tables.{getD-table}
 
 is-some : (o : Option (List Instr)) → isSome o ≡ true → o ≡ some (orNone o)
@@ -73,25 +74,19 @@ dropped l r i k e =
     (below, (cc), rw (add-one k) (cc))
 
 module _ (p : List ℕ) where
+  pub sheets-long : length (decoded format1 p .sheets) ≡ sheetCount p
+  sheets-long = length-table (sheetCount p) (λ s. orNone (sheet p (sheetBody p s)))
+
   pub program-is : (s : ℕ) → s < sheetCount p → program p s ≡ orNone (sheet p (sheetBody p s))
   program-is s h = getD-table (sheetCount p) (λ k. orNone (sheet p (sheetBody p k))) s [] h
 
 -- ---- for callers: a loop over the instructions of a sheet
 
--- instruction k, at a position before the end of sheet s
-pub record Next (p : List ℕ) (s k at : ℕ) (i : Instr) : Type 0 where
-  pub few : k < instructionLimit
-  pub below : k < length (program p s)
-  pub kth : getD (program p s) k (push pushVoid) ≡ i
-  pub stands : instruction (literalCount p) p at ≡ some i
-  pub within : at + width i ≤ sheetEnd p s
-  pub next : Standing p s (k + 1) (at + width i)
-
 module _ (p : List ℕ) (s : ℕ) where
   pub first : question5 p ≡ true → s < sheetCount p → Standing p s 0 (offset p (sheetBody p s))
   first e h = record { from = rw (program-is p s h) (known p e s h); reach = omega arith }
 
-  pub next-of : (k at : ℕ) → Standing p s k at → at < sheetEnd p s → (i : Instr) × Next p s k at i
+  next-of : (k at : ℕ) → Standing p s k at → at < sheetEnd p s → (i : Instr) × (instruction (literalCount p) p at ≡ some i) × Kth p s k at i
   next-of k at h more =
       let t = turn (literalCount p) p (instructionLimit - k) at (sheetEnd p s) (drop k (program p s)) more (h .from) in
       let d = dropped (program p s) (t .rest) (t .first) k (t .both) in
@@ -99,11 +94,12 @@ module _ (p : List ℕ) (s : ℕ) where
       let on : instructions (literalCount p) p (instructionLimit - (k + 1)) (at + width (t .first)) (sheetEnd p s) ≡ some (drop (k + 1) (program p s)) =
       rw (← left, d .2) (t .goes-on) in (
         t .first,
+        t .stands,
         record {
           few = omega (arith, t .left);
           below = d .0;
           kth = d .1;
-          stands = t .stands;
+          some = wide-some (t .first);
           within = t .within;
           next = record { from = on; reach = t .within };
         },
@@ -113,7 +109,7 @@ module _ (p : List ℕ) (s : ℕ) where
   pub whole : (k at : ℕ) → Standing p s k at → at < sheetEnd p s → sheetEnd p s ≤ length p → Whole p at
   whole k at h more end =
       let n = next-of k at h more in
-      record { first = n .0; stands = n .1 .stands; within = omega (arith, n .1 .within) }
+      record { first = n .0; stands = n .1; within = omega (arith, n .2 .within) }
 
   -- at the end no instruction is left
   pub last-of : (k at : ℕ) → Standing p s k at → sheetEnd p s ≤ at → drop k (program p s) ≡ []
@@ -121,19 +117,14 @@ module _ (p : List ℕ) (s : ℕ) where
       let e : at ≡ sheetEnd p s = omega (arith, h .reach) in
       finished (literalCount p) p (instructionLimit - k) at (drop k (program p s)) (subst (λ (x : ℕ). instructions (literalCount p) p (instructionLimit - k) at x ≡ some (drop k (program p s))) (sym e) (h .from))
 
-  -- the instruction at the position is instruction k
-  same-next : (k at : ℕ) (i : Instr) → instruction (literalCount p) p at ≡ some i → Standing p s k at → at < sheetEnd p s → Next p s k at i
-  same-next k at i e h more =
-      let n = next-of k at h more in
-      let stood = n .1 .stands in
-      let same : n .0 ≡ i = cc in
-      subst (λ (j : Instr). Next p s k at j) same (n .1)
-
 -- what `read_instruction` ensures
 pub reads : (p : List ℕ) (at : ℕ) (i : Instr) → instruction (literalCount p) p at ≡ some i → Reads p at i
 reads p at i e =
     record {
       stands = e;
-      kth = λ s k h more. same-next p s k at i e h more .kth;
-      next = λ s k h more. same-next p s k at i e h more .next;
+      each = λ s k h more.
+          let n = next-of p s k at h more in
+          let stood = n .1 in
+          let same : n .0 ≡ i = cc in
+          subst (λ (j : Instr). Kth p s k at j) same (n .2);
     }

@@ -6,7 +6,7 @@ use mathlib.Core.Path.{_≡_}
 use lib.IntN.{ℤ}
 use lib.ListN.{length, getD, drop}
 use Rattle.ink_list.specs.Entries.{Entry, items, values}
-use Rattle.ink_list.specs.Filled.{fill}
+use Rattle.ink_list.specs.Filled.{fill, over}
 use Rattle.pack.specs.Bodies.{Literal, Pack, decoded}
 use Rattle.pack.specs.Contents.{literalCount, sheetBody, offset, size}
 use Rattle.pack.specs.Format.{format1, instructionLimit}
@@ -39,6 +39,13 @@ module _ (d : Pack) where
   sheetOf s = getD (d .sheets) s []
 
 -- ---- what is written
+
+-- the two tables of a pack, written from the start of two slices, which are else as they were, and how many places each takes
+pub record Tabled (d : Pack) (definitions items : ℕ) (oe oe′ : List ℕ) (od od′ : List ℤ) : Type 0 where
+  pub ends-long : definitions ≡ length (endsOf d)
+  pub defined-long : items ≡ length (definedOf d)
+  pub ends-in : oe′ ≡ over (endsOf d) oe
+  pub defined-in : od′ ≡ over (definedOf d) od
 
 -- entries stored from a place on of two slices, which are else as they were
 pub record Stored (es : List Entry) (from count : ℕ) (oi oi′ : List ℕ) (ov ov′ : List ℤ) : Type 0 where
@@ -73,8 +80,16 @@ module _ (p : List ℕ) where
     pub stands : instruction (literalCount p) p at ≡ some first
     pub within : at + width first ≤ length p
 
-  -- i is the instruction at a position: of each sheet that has its instruction k there, i is instruction k, and k + 1 is at the next position
+  -- i is instruction k of sheet s and stands at a position, whole; instruction k + 1, or the end, is after it
+  pub record Kth (s k at : ℕ) (i : Instr) : Type 0 where
+    pub few : k < instructionLimit
+    pub below : k < length (program s)
+    pub kth : getD (program s) k (push pushVoid) ≡ i
+    pub some : 0 < width i
+    pub within : at + width i ≤ sheetEnd s
+    pub next : Standing s (k + 1) (at + width i)
+
+  -- i is the instruction at a position, whichever sheet has it and as whichever
   pub record Reads (at : ℕ) (i : Instr) : Type 0 where
     pub stands : instruction (literalCount p) p at ≡ some i
-    pub kth : (s k : ℕ) → Standing s k at → at < sheetEnd s → getD (program s) k (push pushVoid) ≡ i
-    pub next : (s k : ℕ) → Standing s k at → at < sheetEnd s → Standing s (k + 1) (at + width i)
+    pub each : (s k : ℕ) → Standing s k at → at < sheetEnd s → Kth s k at i

@@ -9,16 +9,16 @@ use super::definitions::item_count;
 use super::format::FORMAT1;
 use super::format::Format;
 ghost use mathlib.Core.Path.{_≡_};
-ghost use Prim.Native.Nat.{suc, _+_, _*_, _<_, _≤_};
+ghost use Prim.Native.Nat.{_+_, _*_, _<_, _≤_};
 ghost use lib.ListN.{length};
 ghost use Rattle.ink_list.specs.Every.{table};
-ghost use Rattle.ink_list.specs.Filled.{fill, over};
-ghost use Rattle.pack.specs.Bodies.{itemCount, itemsBelow, decoded};
+ghost use Rattle.ink_list.specs.Filled.{fill};
+ghost use Rattle.pack.specs.Bodies.{itemCount, decoded};
 ghost use Rattle.pack.specs.Bytes.{i32, number};
 ghost use Rattle.pack.specs.Contents.{definitionCount, literalCount, sheetCount};
 ghost use Rattle.pack.specs.Format.{format1, Narrow};
 ghost use Rattle.pack.specs.Judge.{Sound};
-ghost use Rattle.pack.specs.Read.{endsOf, definedOf, literalOf, Stored, SheetSpan};
+ghost use Rattle.pack.specs.Read.{literalOf, Tabled, Stored, SheetSpan};
 
 // Copies n values that stand one after another from a position, into the places from an index on.
 fn copy_values(p: &[u8], at: usize, n: usize, out: &mut [i32], from: usize)
@@ -34,14 +34,19 @@ fn copy_values(p: &[u8], at: usize, n: usize, out: &mut [i32], from: usize)
     }
 }
 
+// How many places of its two slices `read_definitions` filled.
+pub struct Defined {
+    pub definitions: usize,
+    pub items: usize,
+}
+
 // Reads the definitions of a pack of a format.
-fn copy_definitions(p: &[u8], ends: &mut [u16], defined: &mut [i32], format: Format)
+fn copy_definitions(p: &[u8], ends: &mut [u16], defined: &mut [i32], format: Format) -> Defined
     requires { ⌜ Narrow format ⌝ }
     requires { ⌜ Sound format (now p) ⌝ }
     requires { ⌜ definitionCount (now p) ≤ length (now ends) ⌝ }
     requires { ⌜ itemCount format (now p) ≤ length (now defined) ⌝ }
-    ensures { λ _. ⌜ now (ends .exit) ≡ over (endsOf (decoded format (now (p .entry)))) (now (ends .entry)) ⌝ }
-    ensures { λ _. ⌜ now (defined .exit) ≡ over (definedOf (decoded format (now (p .entry)))) (now (defined .entry)) ⌝ }
+    ensures { λ r. ⌜ Tabled (decoded format (now (p .entry))) (r .definitions) (r .items) (now (ends .entry)) (now (ends .exit)) (now (defined .entry)) (now (defined .exit)) ⌝ }
 {
     let n = byte_at(p, 1);
     let mut items = 0;
@@ -54,17 +59,28 @@ fn copy_definitions(p: &[u8], ends: &mut [u16], defined: &mut [i32], format: For
         ends[d] = items as u16;
         d += 1;
     }
+    Defined {
+        definitions: n,
+        items,
+    }
 }
 
 // Reads the definitions: one past each definition's last item, and each item's value.
-pub fn read_definitions(p: &[u8], ends: &mut [u16], defined: &mut [i32])
+pub fn read_definitions(p: &[u8], ends: &mut [u16], defined: &mut [i32]) -> Defined
     requires { ⌜ Sound format1 (now p) ⌝ }
     requires { ⌜ definitionCount (now p) ≤ length (now ends) ⌝ }
     requires { ⌜ itemCount format1 (now p) ≤ length (now defined) ⌝ }
-    ensures { λ _. ⌜ now (ends .exit) ≡ over (endsOf (decoded format1 (now (p .entry)))) (now (ends .entry)) ⌝ }
-    ensures { λ _. ⌜ now (defined .exit) ≡ over (definedOf (decoded format1 (now (p .entry)))) (now (defined .entry)) ⌝ }
+    ensures { λ r. ⌜ Tabled (decoded format1 (now (p .entry))) (r .definitions) (r .items) (now (ends .entry)) (now (ends .exit)) (now (defined .entry)) (now (defined .exit)) ⌝ }
 {
-    copy_definitions(p, ends, defined, FORMAT1);
+    copy_definitions(p, ends, defined, FORMAT1)
+}
+
+// How many literals there are.
+pub fn literal_count(p: &[u8]) -> usize
+    requires { ⌜ Sound format1 (now p) ⌝ }
+    ensures { λ r. ⌜ r ≡ length (decoded format1 (now (p .entry)) .literals) ⌝ }
+{
+    byte_at(p, 2)
 }
 
 // The origin set of literal l.

@@ -10,12 +10,12 @@ use lib.ListN.{length}
 use denote.Ref.{now}
 use Rattle.ink_list.specs.Every.{table}
 use Rattle.ink_list.specs.Filled.{fill}
-use Rattle.ink_list.proofs.Filled.{fill-none, front-long, front-more}
+use Rattle.ink_list.proofs.Filled.{length-table, fill-none, front-long, front-more}
 use Rattle.pack.specs.Bodies.{count, itemsBelow}
 use Rattle.pack.specs.Bytes.{i32}
 use Rattle.pack.specs.Contents.{definitionCount}
 use Rattle.pack.proofs.Laid.{body}
-use Rattle.pack.proofs.Values.{counted, defined, items-up, items-more, valuesBelow, values-none, values-long, values-more, ends-table, fill-over}
+use Rattle.pack.proofs.Values.{counted, defined, items-up, items-more, valuesBelow, length-values, values-none, values-long, values-more, ends-table, fill-over}
 use borrow.Author.Needs.{needs}
 use Rattle.pack.proofs.read.copy_definitions.Statement.{statement}
 use Rattle.pack.proofs.read.copy_definitions.Tie as tie
@@ -147,14 +147,18 @@ returns c =
     let l = c .before .loop in
     let D = definitionCount p in
     let e : l .d ≡ D = omega arith in
+    let total : l .items ≡ itemsBelow F p D = l .inv .1 ∙ ap (itemsBelow F p) e in
     let ends₀ = now (s .args .ends) in
-    let defined₀ = now (s .args .defined) in (
-      l .inv .2
+    let defined₀ = now (s .args .defined) in
+    record {
+      ends-long = c .before .before .byte-at .ensures .0 ∙ sym (rw (ends-table F p D) (length-table D (λ k. itemsBelow F p (suc k))));
+      defined-long = total ∙ sym (length-values F p D);
+      ends-in = l .inv .2
           ∙ ap (λ (d : ℕ). fill 0 (table d (λ k. itemsBelow F p (suc k))) ends₀) e
           ∙ ap (λ (xs : List ℕ). fill 0 xs ends₀) (sym (ends-table F p D))
-          ∙ fill-over _ ends₀,
-      l .inv .3 ∙ ap (λ (d : ℕ). fill 0 (valuesBelow F p d) defined₀) e ∙ fill-over (valuesBelow F p D) defined₀,
-    )
+          ∙ fill-over _ ends₀;
+      defined-in = l .inv .3 ∙ ap (λ (d : ℕ). fill 0 (valuesBelow F p d) defined₀) e ∙ fill-over (valuesBelow F p D) defined₀;
+    }
 
 pub copy-definitions-spec : {M : Type 1} → statement M
 copy-definitions-spec =

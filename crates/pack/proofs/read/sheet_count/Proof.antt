@@ -1,8 +1,7 @@
 -- `pack::read::sheet_count` meets its contract. Assumes nothing.
 use mathlib.Core.Path.{sym, _∙_}
 use denote.Ref.{now}
-use Rattle.ink_list.proofs.Filled.{length-table}
-use Rattle.pack.specs.Contents.{sheetCount}
+use Rattle.pack.proofs.Programs.{sheets-long}
 use borrow.Author.Needs.{needs}
 use Rattle.pack.proofs.read.sheet_count.Statement.{statement}
 use Rattle.pack.proofs.read.sheet_count.Tie as tie
@@ -11,7 +10,7 @@ byte-at-requires : tie.Need-byte-at-requires
 byte-at-requires c κs = search needs
 
 returns : tie.Need-returns
-returns c = c .byte-at .ensures .0 ∙ sym (length-table (sheetCount (now (c .before .before .args .p))) _)
+returns c = c .byte-at .ensures .0 ∙ sym (sheets-long (now (c .before .before .args .p)))
 
 pub sheet-count-spec : {M : Type 1} → statement M
 sheet-count-spec = tie.close (tie.spec byte-at-requires returns)

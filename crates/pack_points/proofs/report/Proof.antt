@@ -1,0 +1,49 @@
+-- `pack_points::report` is safe: where `check` passes a pack, the pack is sound. Assumes nothing.
+use denote.Ref.{now}
+use Rattle.pack.specs.Format.{format1}
+use Rattle.pack.proofs.Judged.{passed}
+use borrow.Author.Needs.{needs}
+use Rattle.pack_points.proofs.report.Statement.{statement}
+use Rattle.pack_points.proofs.report.Tie as tie
+
+check-requires : tie.Need-check-requires
+check-requires c κs = search needs
+
+enum-known-n : tie.Need-enum-known-n
+enum-known-n c = search needs
+
+widen-requires : tie.Need-widen-requires
+widen-requires c κs = search needs
+
+number-requires : tie.Need-number-requires
+number-requires c κs = search needs
+
+enum-told : tie.Need-enum-told
+enum-told c = search needs
+
+show-requires : tie.Need-show-requires
+show-requires c κs =
+    passed format1 (now (c .before .before .before .before .args .p)) (c .before .before .check .result) (c .enum-told .given .1) (c .before .before .check .ensures)
+
+slice-aggregate-write-all : tie.Need-slice-aggregate-write-all
+slice-aggregate-write-all c = search needs
+
+write-all-requires : tie.Need-write-all-requires
+write-all-requires c κs = search needs
+
+returns : tie.Need-returns
+returns c = search needs
+
+pub report-spec : {M : Type 1} → statement M
+report-spec =
+    tie.close
+    (tie.spec
+    check-requires
+    enum-known-n
+    widen-requires
+    number-requires
+    enum-told
+    show-requires
+    slice-aggregate-write-all
+    write-all-requires
+    returns)

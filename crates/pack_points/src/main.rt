@@ -1,0 +1,257 @@
+// Checks the packs of the standard input, and prints a line for each: its name, then the number of the question that said no,
+// or what the readers give. That is one past each definition's last item and the last item's value; each literal's origin set,
+// how many entries it has and the last one; and how many instructions each sheet has, with these where they are at most 8.
+// Values and Floats are printed as their bits, in hexadecimal. In the input each pack comes after its name, the name after its
+// length of one byte, the pack after its length of three.
+use pack::Checked;
+use pack::instruction::Instruction;
+use pack::instruction::instruction_width;
+use pack::instruction::read_instruction;
+use pack::read::literal_count;
+use pack::read::literal_len;
+use pack::read::literal_origins;
+use pack::read::read_definitions;
+use pack::read::read_literal;
+use pack::read::sheet_count;
+use pack::read::sheet_span;
+ghost use mathlib.Core.Path.{_≡_};
+ghost use Prim.Native.Nat.{_<_, _≤_};
+ghost use lib.ListN.{length};
+ghost use Rattle.pack.specs.Contents.{literalCount, sheetCount};
+ghost use Rattle.pack.specs.Format.{format1};
+ghost use Rattle.pack.specs.Judge.{Sound};
+ghost use Rattle.pack.specs.Read.{program};
+
+const STDOUT: i32 = 1;
+
+const SHOWN: usize = 8;
+
+fn widen(x: u8) -> usize
+    ensures { λ r. ⌜ r < 256 ⌝ }
+{
+    x as usize
+}
+
+fn widen_item(x: u16) -> usize {
+    x as usize
+}
+
+// A number after a space.
+fn number(n: usize) {
+    io::write_all(STDOUT, b" ");
+    io::print_decimal(STDOUT, n as u64);
+}
+
+// The bits of a value or a Float after a space.
+fn bits(n: u32) {
+    io::write_all(STDOUT, b" ");
+    io::print_hex(STDOUT, n as u64, 8);
+}
+
+fn numbers(ns: &[u16]) {
+    let mut i = 0;
+    while i < ns.len() {
+        number(widen_item(ns[i]));
+        i += 1;
+    }
+}
+
+fn show_definitions(p: &[u8])
+    requires { ⌜ Sound format1 (now p) ⌝ }
+{
+    let mut ends = [0u16; 64];
+    let mut defined = [0i32; 256];
+    let d = read_definitions(p, &mut ends, &mut defined);
+    let n = d.definitions;
+    io::write_all(STDOUT, b" ends");
+    numbers(&ends[..n]);
+    let m = d.items;
+    if 0 < m {
+        io::write_all(STDOUT, b" value");
+        bits(ink_number::int::pattern(defined[m - 1]));
+    }
+}
+
+// The last of n entries.
+fn show_last(items: &[u16], values: &[i32], n: usize) {
+    if n == 0 {
+        return;
+    }
+    let k = n - 1;
+    if items.len() <= k {
+        return;
+    }
+    if values.len() <= k {
+        return;
+    }
+    number(widen_item(items[k]));
+    bits(ink_number::int::pattern(values[k]));
+}
+
+fn show_literal(p: &[u8], l: usize)
+    requires { ⌜ Sound format1 (now p) ⌝ }
+    requires { ⌜ l < literalCount (now p) ⌝ }
+{
+    io::write_all(STDOUT, b"; literal ");
+    io::print_hex(STDOUT, literal_origins(p, l), 1);
+    number(literal_len(p, l));
+    let mut items = [0u16; 256];
+    let mut values = [0i32; 256];
+    let n = read_literal(p, l, &mut items, &mut values, 0);
+    show_last(&items, &values, n);
+}
+
+fn show_literals(p: &[u8])
+    requires { ⌜ Sound format1 (now p) ⌝ }
+{
+    let n = literal_count(p);
+    let mut l = 0;
+    while l < n {
+        show_literal(p, l);
+        l += 1;
+    }
+}
+
+fn show_instruction(i: Instruction) {
+    match i {
+        Instruction::Op(n) => {
+            io::write_all(STDOUT, b" op");
+            number(widen(n));
+        }
+        Instruction::Bool(b) => {
+            io::write_all(STDOUT, b" bool");
+            number(if b { 1 } else { 0 });
+        }
+        Instruction::Int(n) => {
+            io::write_all(STDOUT, b" int");
+            bits(ink_number::int::pattern(n));
+        }
+        Instruction::Float(n) => {
+            io::write_all(STDOUT, b" float");
+            bits(n);
+        }
+        Instruction::List(n) => {
+            io::write_all(STDOUT, b" list");
+            number(widen(n));
+        }
+        Instruction::Slot(n) => {
+            io::write_all(STDOUT, b" slot");
+            number(widen(n));
+        }
+        Instruction::Void => {
+            io::write_all(STDOUT, b" void");
+        }
+    }
+}
+
+// How many instructions a sheet has.
+fn instruction_count(p: &[u8], s: usize) -> usize
+    requires { ⌜ Sound format1 (now p) ⌝ }
+    requires { ⌜ s < sheetCount (now p) ⌝ }
+    ensures { λ r. ⌜ r ≡ length (program (now (p .entry)) s) ⌝ }
+{
+    let span = sheet_span(p, s);
+    let mut at = span.start;
+    let end = span.end;
+    let mut k = 0;
+    while at < end {
+        let i = read_instruction(p, at);
+        at += instruction_width(i);
+        k += 1;
+    }
+    k
+}
+
+fn show_instructions(p: &[u8], s: usize)
+    requires { ⌜ Sound format1 (now p) ⌝ }
+    requires { ⌜ s < sheetCount (now p) ⌝ }
+{
+    let span = sheet_span(p, s);
+    let mut at = span.start;
+    let end = span.end;
+    while at < end {
+        let i = read_instruction(p, at);
+        show_instruction(i);
+        at += instruction_width(i);
+    }
+}
+
+fn show_sheet(p: &[u8], s: usize)
+    requires { ⌜ Sound format1 (now p) ⌝ }
+    requires { ⌜ s < sheetCount (now p) ⌝ }
+{
+    io::write_all(STDOUT, b"; sheet");
+    let n = instruction_count(p, s);
+    number(n);
+    if n <= SHOWN {
+        show_instructions(p, s);
+    }
+}
+
+fn show_sheets(p: &[u8])
+    requires { ⌜ Sound format1 (now p) ⌝ }
+{
+    let n = sheet_count(p);
+    let mut s = 0;
+    while s < n {
+        show_sheet(p, s);
+        s += 1;
+    }
+}
+
+fn show(p: &[u8])
+    requires { ⌜ Sound format1 (now p) ⌝ }
+{
+    io::write_all(STDOUT, b" passed");
+    show_definitions(p);
+    show_literals(p);
+    show_sheets(p);
+}
+
+fn report(p: &[u8]) {
+    match pack::check(p) {
+        Checked::Refused(n) => {
+            number(widen(n));
+        }
+        Checked::Passed => {
+            show(p);
+        }
+    }
+    io::write_all(STDOUT, b"\n");
+}
+
+// Reports on the pack whose name's length is at a position, and says where the next one is.
+fn report_at(s: &[u8], at: usize) -> usize
+    requires { ⌜ at < length (now s) ⌝ }
+    ensures { λ r. ⌜ (at < r) × (r ≤ length (now (s .entry))) ⌝ }
+{
+    let named = at + 1;
+    let n = widen(s[at]);
+    if s.len() - named < n + 3 {
+        return s.len();
+    }
+    let from = named + n;
+    let size = widen(s[from]) + 256 * widen(s[from + 1]) + 65536 * widen(s[from + 2]);
+    let start = from + 3;
+    if s.len() - start < size {
+        return s.len();
+    }
+    let end = start + size;
+    io::write_all(STDOUT, &s[named..from]);
+    io::write_all(STDOUT, b":");
+    report(&s[start..end]);
+    end
+}
+
+fn report_all(s: &[u8]) {
+    let mut at = 0;
+    while at < s.len() {
+        at = report_at(s, at);
+    }
+}
+
+fn main() {
+    let mut buf = [0u8; 262144];
+    let n = io::read_full(0, &mut buf);
+    report_all(&buf[..n]);
+}
