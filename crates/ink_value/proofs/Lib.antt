@@ -4,3 +4,4 @@ pub mod Reading
 pub mod Given
 pub mod Casting
 pub mod Results
+pub mod Forming

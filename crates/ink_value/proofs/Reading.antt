@@ -1,21 +1,22 @@
 -- What the code reads of a value is what the definitions read of it. Assumes nothing.
 use mathlib.Core.Path.{_≡_, refl, sym, ap, _∙_, subst}
-use mathlib.Core.Bool.{Bool, true}
+use mathlib.Core.Bool.{Bool}
 use mathlib.Core.List.{List, [], _∷_}
-use Prim.Native.Nat.{ℕ, zero, suc, _+_, _-_, _≤_, _<_}
+use Prim.Native.Nat.{ℕ, zero, suc, _+_, _-_, _≤_}
 use native.Mathlib.Omega.{arith}
 use borrow.Author.Tests.{lt-ltb}
 use lib.Dec.{ltb}
 use lib.IntN.{ℤ}
 use lib.ListN.{length, take, drop, length-drop}
 use lib.Seq.{length-take-le}
-use Rattle.ink_list.specs.Entries.{Entry, entries, Rising, Lent, Wrote}
+use Rattle.ink_list.specs.Entries.{items, Entry, entries, Rising, Lent, Wrote}
 use Rattle.ink_value.specs.Val.{list, kindOf, kindAt, codeOf}
-use Rattle.ink_value.specs.Convert.{lowerOf, upperOf, greatestOf, asInt, asFloat, truthy, nonEmpty, entriesOf, originsIn}
+use Rattle.ink_value.specs.Convert.{lowerOf, upperOf, asInt, asFloat, truthy, entriesOf, originsIn}
 use Rattle.ink_value.specs.Value.{valOf, part, codeOfValue, startOf, lenOf, setIn, intOf, floatOf, truthOf, lowOf, highOf, held, Formed}
 use Rattle.ink_value.specs.declared.Value.{Value}
 use Rattle.ink_number.specs.Real.{ofInt32}
-use Rattle.ink_list.specs.Ops.{extremeValue, valueOfList}
+use Rattle.ink_list.specs.Ops as Ops
+use Rattle.ink_list.specs.Ops.{lowerBound, upperBound, valueOfList}
 use Rattle.ink_list.proofs.Results.{lent-limit}
 use Rattle.ink_list.proofs.Laws.{rising-length}
 use Rattle.ink_list.proofs.Rests.{values-entries, length-entries, of-lent}
@@ -52,11 +53,11 @@ code-in is vs (Is.Float x) = refl
 code-in is vs (Is.List o s n) = refl
 code-in is vs Is.Void = refl
 
-holds-length : (es : List Entry) (n : ℕ) → length es ≡ n → ltb 0 n ≡ nonEmpty es
-holds-length [] zero e = refl
-holds-length [] (suc n) e = absurd (omega arith)
-holds-length (x ∷ es) zero e = absurd (omega arith)
-holds-length (x ∷ es) (suc n) e = lt-ltb 0 (suc n) (omega arith)
+truthy-length : (es : List Entry) (n : ℕ) → length es ≡ n → ltb 0 n ≡ Ops.truthy (items es)
+truthy-length [] zero e = refl
+truthy-length [] (suc n) e = absurd (omega arith)
+truthy-length (x ∷ es) zero e = absurd (omega arith)
+truthy-length (x ∷ es) (suc n) e = lt-ltb 0 (suc n) (omega arith)
 
 module _ (limit : ℕ) (is : List ℕ) (vs : List ℤ) where
   pub len-in : (v : Value) → Formed limit is vs v → length (held is vs v) ≡ lenOf v
@@ -82,21 +83,21 @@ module _ (limit : ℕ) (is : List ℕ) (vs : List ℤ) where
   low-in (Is.Bool b) f = refl
   low-in (Is.Int z) f = refl
   low-in (Is.Float x) f = refl
-  low-in (Is.List o s n) f = ap (extremeValue true) (sym (values-entries (part s n is) (part s n vs) (f .lent .long)))
+  low-in (Is.List o s n) f = ap lowerBound (sym (values-entries (part s n is) (part s n vs) (f .lent .long)))
   low-in Is.Void f = refl
 
   pub high-in : (v : Value) → Formed limit is vs v → highOf vs v ≡ upperOf (valOf is vs v)
   high-in (Is.Bool b) f = refl
   high-in (Is.Int z) f = refl
   high-in (Is.Float x) f = refl
-  high-in (Is.List o s n) f = ap greatestOf (sym (values-entries (part s n is) (part s n vs) (f .lent .long)))
+  high-in (Is.List o s n) f = ap upperBound (sym (values-entries (part s n is) (part s n vs) (f .lent .long)))
   high-in Is.Void f = refl
 
   pub truth-in : (v : Value) → Formed limit is vs v → truthOf v ≡ truthy (valOf is vs v)
   truth-in (Is.Bool b) f = refl
   truth-in (Is.Int z) f = refl
   truth-in (Is.Float x) f = refl
-  truth-in (Is.List o s n) f = holds-length (entries (part s n is) (part s n vs)) n (len-in (Is.List o s n) f)
+  truth-in (Is.List o s n) f = truthy-length (entries (part s n is) (part s n vs)) n (len-in (Is.List o s n) f)
   truth-in Is.Void f = refl
 
   -- a value formed under a limit is so under a higher one
@@ -138,10 +139,6 @@ module _ (limit : ℕ) (is : List ℕ) (vs : List ℤ) (i n : ℕ) (v : Value) (
 
   pub lends-held : entries (take (i + n - i) (drop i is)) (take (i + n - i) (drop i vs)) ≡ held is vs v
   lends-held = rw (lends is i n v p q, lends vs i n v p q)
-
-pub greatest-some : (xs : List ℤ) → 0 < length xs → valueOfList xs ≡ greatestOf xs
-greatest-some [] h = absurd (omega arith)
-greatest-some (x ∷ xs) h = refl
 
 pub lends-few : (limit : ℕ) (is : List ℕ) (vs : List ℤ) (i n : ℕ) (v : Value) → i ≡ startOf v → n ≡ lenOf v → Formed limit is vs v
     → length (take (i + n - i) (drop i is)) ≤ limit

@@ -1,6 +1,6 @@
 -- A value as a Bool, an Int, a Float, entries, or a bound of range; `cast` and the three `coerce_to_`. Assumes nothing.
 use mathlib.Core.Bool.{Bool, true, false, cond}
-use mathlib.Core.List.{List, [], _∷_}
+use mathlib.Core.List.{List, []}
 use Prim.Native.Nat.{ℕ}
 use lib.Dec.{eqb, ltb}
 use lib.IntN.{ℤ, pos}
@@ -8,8 +8,9 @@ use lib.Ieee.{Float}
 use Rattle.ink_number.specs.Answer.{Answer, gives, refuses}
 use Rattle.ink_number.specs.Int.{eqZ, truthyZ}
 use Rattle.ink_number.specs.Real.{ofInt32, toInt32, truthyF}
-use Rattle.ink_list.specs.Entries.{Entry, values}
-use Rattle.ink_list.specs.Ops.{extremeValue, valueOfList}
+use Rattle.ink_list.specs.Entries.{Entry, items, values}
+use Rattle.ink_list.specs.Ops as Ops
+use Rattle.ink_list.specs.Ops.{lowerBound, upperBound, valueOfList}
 use Rattle.ink_value.specs.Val.{Val, bool, int, float, list, void, kindOf, codeOf}
 
 abbrev pub bitZ : Bool → ℤ
@@ -32,16 +33,12 @@ asFloat (float x) = x
 asFloat (list o es) = ofInt32 (valueOfList (values es))
 asFloat void = ofInt32 (pos 0)
 
-abbrev pub nonEmpty : List Entry → Bool
-nonEmpty [] = false
-nonEmpty (e ∷ es) = true
-
 -- "Truthy: a number not 0 (NaN too), a non-empty List"
 abbrev pub truthy : Val → Bool
 truthy (bool b) = b
 truthy (int z) = truthyZ z
 truthy (float x) = truthyF x
-truthy (list o es) = nonEmpty es
+truthy (list o es) = Ops.truthy (items es)
 truthy void = false
 
 -- a List's entries and its origin set
@@ -64,18 +61,14 @@ abbrev pub lowerOf : Val → ℤ
 lowerOf (bool b) = pos 0
 lowerOf (int z) = z
 lowerOf (float x) = pos 0
-lowerOf (list o es) = extremeValue true (values es)
+lowerOf (list o es) = lowerBound (values es)
 lowerOf void = pos 0
-
-abbrev pub greatestOf : List ℤ → ℤ
-greatestOf [] = pos 2147483647
-greatestOf (v ∷ vs) = extremeValue false (v ∷ vs)
 
 abbrev pub upperOf : Val → ℤ
 upperOf (bool b) = pos 2147483647
 upperOf (int z) = z
 upperOf (float x) = pos 2147483647
-upperOf (list o es) = greatestOf (values es)
+upperOf (list o es) = upperBound (values es)
 upperOf void = pos 2147483647
 
 -- ---- question 18

@@ -1,5 +1,4 @@
 -- The words of the contracts for values whose entries stand in lent slices. Assumes nothing.
-use mathlib.Core.List.{List}
 use Prim.Native.Nat.{ℕ}
 use denote.Ref.{now}
 use lib.IntN.{ℤ}

@@ -10,12 +10,12 @@ use lib.ListN.{length, take, drop}
 use Rattle.ink_number.specs.Answer.{Answer, gives, refuses}
 use Rattle.ink_number.specs.Int.{truthyZ}
 use Rattle.ink_number.specs.Real.{ofInt32, toInt32, truthyF}
-use Rattle.ink_list.specs.Ops.{extremeValue, valueOfList}
+use Rattle.ink_list.specs.Ops.{lowerBound, upperBound, valueOfList}
 use Rattle.ink_list.specs.Every.{_and_}
 use Rattle.ink_list.specs.Filled.{over}
 use Rattle.ink_list.specs.Entries.{Entry, entries, items, values, Lent, Rising, formed}
 use Rattle.ink_value.specs.Val.{Val, bool, int, float, list, void}
-use Rattle.ink_value.specs.Convert.{bitZ, entriesOf, greatestOf}
+use Rattle.ink_value.specs.Convert.{bitZ, entriesOf}
 use Rattle.ink_value.specs.declared.Value.{Value}
 use Rattle.ink_value.specs.declared.Value.the-variants as Is
 use Rattle.ink_value.specs.declared.Outcome.{Outcome}
@@ -88,14 +88,14 @@ abbrev pub lowOf : List ℤ → Value → ℤ
 lowOf vs (Is.Bool b) = pos 0
 lowOf vs (Is.Int z) = z
 lowOf vs (Is.Float x) = pos 0
-lowOf vs (Is.List o s n) = extremeValue true (part s n vs)
+lowOf vs (Is.List o s n) = lowerBound (part s n vs)
 lowOf vs Is.Void = pos 0
 
 abbrev pub highOf : List ℤ → Value → ℤ
 highOf vs (Is.Bool b) = pos 2147483647
 highOf vs (Is.Int z) = z
 highOf vs (Is.Float x) = pos 2147483647
-highOf vs (Is.List o s n) = greatestOf (part s n vs)
+highOf vs (Is.List o s n) = upperBound (part s n vs)
 highOf vs Is.Void = pos 2147483647
 
 -- the entries that a value has in the two slices

@@ -8,9 +8,9 @@ ghost use lib.ListN.{length};
 ghost use Rattle.ink_number.specs.Answer.{gives};
 ghost use Rattle.ink_list.specs.Entries.{room};
 ghost use Rattle.ink_value.specs.Slices.{valIn, Gives};
-ghost use Rattle.ink_value.specs.Convert.{bitZ, greatestOf, castable, converted, cast, coerceBool, coerceInt, coerceFloat};
-ghost use Rattle.ink_value.specs.Value.{part, valOf, codeOfValue, startOf, lenOf, setIn, intOf, floatOf, truthOf, lowOf, highOf, Formed, placed};
-ghost use Rattle.ink_list.specs.Ops.{extremeValue, valueOfList};
+ghost use Rattle.ink_value.specs.Convert.{bitZ, castable, converted, cast, coerceBool, coerceInt, coerceFloat};
+ghost use Rattle.ink_value.specs.Value.{part, valOf, formedIn, codeOfValue, startOf, lenOf, setIn, intOf, floatOf, truthOf, lowOf, highOf, Formed, placed};
+ghost use Rattle.ink_list.specs.Ops.{lowerBound, upperBound, valueOfList};
 
 // A value. A list's entries stand beside it, in two parallel slices, from `start` on.
 pub enum Value {
@@ -63,23 +63,22 @@ fn greatest(values: &[i32], start: usize, len: usize) -> i32
     ink_list::extremes::value_of_list(&values[start..end])
 }
 
+// The least of the values that stand from `start` on, or 0.
 fn least(values: &[i32], start: usize, len: usize) -> i32
     requires { ⌜ start + len ≤ length (now values) ⌝ }
-    ensures { λ r. ⌜ r ≡ extremeValue true (part start len (now (values .entry))) ⌝ }
+    ensures { λ r. ⌜ r ≡ lowerBound (part start len (now (values .entry))) ⌝ }
 {
     let end = start + len;
-    ink_list::extremes::extreme_value(true, &values[start..end])
+    ink_list::extremes::lower_bound(&values[start..end])
 }
 
 // The greatest of the values that stand from `start` on, or 2147483647.
 fn highest(values: &[i32], start: usize, len: usize) -> i32
     requires { ⌜ start + len ≤ length (now values) ⌝ }
-    ensures { λ r. ⌜ r ≡ greatestOf (part start len (now (values .entry))) ⌝ }
+    ensures { λ r. ⌜ r ≡ upperBound (part start len (now (values .entry))) ⌝ }
 {
-    if len == 0 {
-        return 2147483647;
-    }
-    greatest(values, start, len)
+    let end = start + len;
+    ink_list::extremes::upper_bound(&values[start..end])
 }
 
 // Where a list's entries start, how many there are, and its origin set; 0 for other values.
@@ -330,4 +329,30 @@ pub fn coerce_to_float(v: Value) -> Outcome
         } => Outcome::Refused(18),
         Value::Void => Outcome::Refused(18),
     }
+}
+
+// Question 7 of one value: a list's entries stand whole in the two slices and are formed as a literal's, in a pack of this many items and
+// definitions.
+pub fn is_formed(v: Value, items: &[u16], values: &[i32], total: usize, definitions: usize) -> bool
+    ensures { λ r. ⌜ r ≡ formedIn total definitions (now (items .entry)) (now (values .entry)) v ⌝ }
+{
+    let start = start_of(v);
+    let len = len_of(v);
+    if items.len() < start {
+        return false;
+    }
+    if items.len() - start < len {
+        return false;
+    }
+    let end = start + len;
+    if values.len() < end {
+        return false;
+    }
+    ink_list::entries::is_formed(
+        &items[start..end],
+        &values[start..end],
+        origins_in(v),
+        total,
+        definitions,
+    )
 }

@@ -15,7 +15,7 @@ use Rattle.ink_value.specs.Convert.{asInt}
 use Rattle.native_function_call.specs.Numbers.{arithZ}
 use Rattle.ink_number.specs.Int.{canDivide, quotient, remainder}
 use Rattle.native_function_call.specs.Op.{opAdd, opSubtract, opDivide, opMultiply, opMod, opMin}
-use Rattle.native_function_call.specs.Lists.{ListDefinitions}
+use Rattle.list_definitions.specs.Defs.{ListDefinitions}
 use Rattle.native_function_call.specs.Apply.{ofInt, whole, entriesFor, listed, compute, guarded, applyOp, Agree}
 
 either : (k : Kind) (t : Bool) (a b : Answer Val) → Agree (gives k) a → Agree (gives k) b → Agree (gives k) (cond t a b)

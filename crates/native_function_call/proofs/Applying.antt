@@ -11,7 +11,8 @@ use Rattle.ink_value.specs.Val.{Val, Kind, listK, voidK, kindOf, kindAt}
 use Rattle.ink_number.specs.Answer.{Answer, gives, refuses}
 use Rattle.native_function_call.specs.Kinds.{known, unary, arity, isVoid, isList, operandCount, kindApply, kindRange, kindEntry}
 use Rattle.ink_value.specs.Convert.{asInt, entriesOf, originsIn}
-use Rattle.native_function_call.specs.Lists.{ListDefinitions, mergeL, shiftL}
+use Rattle.list_definitions.specs.Defs.{ListDefinitions}
+use Rattle.native_function_call.specs.Lists.{mergeL, shiftL}
 use Rattle.native_function_call.specs.Apply.{ofInt, applyOp, compute, listBinary}
 use Rattle.ink_value.specs.Value.{valOf, codeOfValue, written}
 use Rattle.ink_value.specs.declared.Value.{Value}
@@ -101,7 +102,7 @@ right-list u o a is vs (Is.List s i n) e = refl
 right-list u o a is vs Is.Void e = absurd (omega arith)
 
 pub right-int : (u : ListDefinitions) (o : ℕ) (a : Val) (is : List ℕ) (vs : List ℤ) (b : Value) → (codeOfValue b ≡ 3 → ⊥)
-    → listBinary u o a (valOf is vs b) ≡ shiftL u o (originsIn a) (asInt (valOf is vs b)) (entriesOf a)
+    → listBinary u o a (valOf is vs b) ≡ shiftL (u .ends) (u .defined) o (originsIn a) (asInt (valOf is vs b)) (entriesOf a)
 unfolding listBinary
 right-int u o a is vs (Is.Bool b) h = refl
 right-int u o a is vs (Is.Int z) h = refl

@@ -19,7 +19,7 @@ use Rattle.ink_value.proofs.Reading.{ap3, code-in}
 use Rattle.ink_value.proofs.Given.{gave-plain}
 use Rattle.native_function_call.specs.Numbers.{arithZ}
 use Rattle.native_function_call.specs.Kinds.{isList, known, unary, arity, operandCount, kindApply, kindCall, kindRange, kindEntry, kindAnswer, Coded, Counted, KindsGiven}
-use Rattle.native_function_call.specs.Lists.{ListDefinitions}
+use Rattle.list_definitions.specs.Defs.{ListDefinitions}
 use Rattle.native_function_call.specs.Apply.{whole, applyOp, compute, call}
 use Rattle.native_function_call.specs.declared.KindAnswer.{KindAnswer}
 use Rattle.native_function_call.specs.declared.KindAnswer.the-variants as Ans

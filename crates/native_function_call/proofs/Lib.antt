@@ -5,6 +5,5 @@ pub mod Reading
 pub mod Listing
 pub mod Applying
 pub mod Results
-pub mod Steps
 pub mod Known
 pub mod Calling

@@ -8,22 +8,24 @@ use borrow.Author.Tests.{le-leb}
 use lib.Dec.{eqb}
 use lib.IntN.{ℤ}
 use lib.ListN.{length, take}
-use Rattle.ink_list.specs.Entries.{Entry, items, Ascends, Rising, Wrote}
+use Rattle.ink_list.specs.Entries.{itemNumbers, Entry, items, Ascends, Rising, Wrote}
 use Rattle.ink_value.proofs.Reading.{wrote-is}
 use Rattle.ink_value.proofs.Given.{gave-is}
 use Rattle.ink_value.specs.Val.{Val, list}
 use Rattle.ink_number.specs.Answer.{gives}
-use Rattle.native_function_call.specs.Lists.{ListDefinitions, mergeL, unaryL}
+use Rattle.list_definitions.specs.Defs.{ListDefinitions, invert, retarget, raise, lower, originsOf}
+use Rattle.native_function_call.specs.Lists.{mergeL, shiftL, unaryL}
 use Rattle.native_function_call.specs.Apply.{originsAfter, listed, entriesFor}
 use Rattle.ink_value.specs.Value.{Gave}
 use Rattle.ink_value.specs.declared.Outcome.{Outcome}
 use Rattle.ink_list.specs.Ops.{range, listExtreme, extreme, beats}
-use Rattle.ink_list.specs.Defs.{invert, increment, raise, originsOf}
 use Rattle.ink_list.proofs.UnionLaws.{union-length}
 use Rattle.ink_list.proofs.SiftLaws.{sift-length}
-use Rattle.ink_list.proofs.DefLaws.{invert-length, all-is}
-use Rattle.ink_list.proofs.TargetLaws.{retarget-length}
-use Rattle.ink_list.proofs.Results.{read-items, union-rising, sift-rising, invert-rising, retarget-rising, ascends-limit}
+use Rattle.list_definitions.proofs.DefLaws.{invert-length, all-is}
+use Rattle.list_definitions.proofs.TargetLaws.{retarget-length}
+use Rattle.ink_list.proofs.Results.{read-items, union-rising, sift-rising, ascends-limit}
+use Rattle.list_definitions.proofs.Results.{invert-rising, retarget-rising}
+use Rattle.native_function_call.specs.Op.{opAdd}
 use Rattle.ink_value.specs.declared.Value.the-variants as Is
 use Rattle.ink_value.specs.declared.Outcome.the-variants as Out
 
@@ -38,8 +40,8 @@ pub record Fine (limit : ℕ) (M : List Entry) : Type 0 where
   pub rising : Rising limit M
 
 module _ (limit : ℕ) (M : List Entry) (n : ℕ) (oi oi′ : List ℕ) (ov ov′ : List ℤ) (w : Wrote M n oi oi′ ov ov′) where
-  pub written-rising : Fine limit M → limit ≤ 65535 → Ascends 0 65536 (take n oi′)
-  written-rising f h = rw (read-items M n oi oi′ ov ov′ w) (ascends-limit 0 limit 65536 (items M) (omega arith) (f .rising))
+  pub written-rising : Fine limit M → limit < itemNumbers → Ascends 0 itemNumbers (take n oi′)
+  written-rising f h = rw (read-items M n oi oi′ ov ov′ w) (ascends-limit 0 limit itemNumbers (items M) (omega arith) (f .rising))
 
   pub gave-list : (u : ListDefinitions) (o : ℕ) (vs : List Val) (r : Outcome) → length M ≤ u .limit
       → r ≡ Out.Value (Is.List (originsOf (u .ends) (take n oi′)) 0 n) → Gave (listed u o vs M) r oi oi′ ov ov′
@@ -66,13 +68,18 @@ merge-fine limit o a b =
 pub range-fine : (limit : ℕ) (lower upper : ℤ) (a : List Entry) → Fine limit (range limit lower upper a)
 range-fine limit lower upper a = record { few = sift-length limit _ a; rising = sift-rising limit _ a }
 
-pub shift-fine : (limit : ℕ) (ends : List ℕ) (defined : List ℤ) (set : ℕ) (by : ℤ) (a : List Entry) → length defined ≤ limit
-    → Fine limit (increment ends defined set by a)
-shift-fine limit ends defined set by a h =
-    record {
-      few = omega (arith, retarget-length ends defined set (raise by a));
-      rising = ascends-limit 0 (length defined) limit (items (increment ends defined set by a)) h (retarget-rising ends defined set (raise by a));
-    }
+pub shift-fine : (limit : ℕ) (ends : List ℕ) (defined : List ℤ) (o set : ℕ) (n : ℤ) (a : List Entry) → length defined ≤ limit
+    → Fine limit (shiftL ends defined o set n a)
+unfolding shiftL
+shift-fine limit ends defined o set n a h =
+    either limit (eqb o opAdd) _ _ (retargeted (raise n a)) (retargeted (lower n a))
+  where
+    retargeted : (b : List Entry) → Fine limit (retarget ends defined set b)
+    retargeted b =
+        record {
+          few = omega (arith, retarget-length ends defined set b);
+          rising = ascends-limit 0 (length defined) limit (items (retarget ends defined set b)) h (retarget-rising ends defined set b);
+        }
 
 -- the extreme entry is one of the list's
 picks : (limit : ℕ) (t : Bool) (e f : Entry) → e .0 < limit → f .0 < limit → cond t f e .0 < limit
@@ -108,11 +115,11 @@ unary-fine limit ends defined o set a h k r =
 -- all that a call that answers a list asks of what was written
 pub record Done (u : ListDefinitions) (o : ℕ) (vs : List Val) (n : ℕ) (oi oi′ : List ℕ) (ov ov′ : List ℤ) : Type 0 where
   pub short : n ≤ u .limit
-  pub rises : Ascends 0 65536 (take n oi′)
+  pub rises : Ascends 0 itemNumbers (take n oi′)
   pub answers : (r : Outcome) → r ≡ Out.Value (Is.List (originsOf (u .ends) (take n oi′)) 0 n) → Gave (listed u o vs (entriesFor u o vs)) r oi oi′ ov ov′
 
 pub done : (u : ListDefinitions) (o : ℕ) (vs : List Val) {N : List Entry} {n : ℕ} {oi oi′ : List ℕ} {ov ov′ : List ℤ}
-    → entriesFor u o vs ≡ N → Fine (u .limit) (entriesFor u o vs) → u .limit ≤ 65535 → Wrote N n oi oi′ ov ov′ → Done u o vs n oi oi′ ov ov′
+    → entriesFor u o vs ≡ N → Fine (u .limit) (entriesFor u o vs) → u .limit < itemNumbers → Wrote N n oi oi′ ov ov′ → Done u o vs n oi oi′ ov ov′
 done u o vs {N} {n} {oi} {oi′} {ov} {ov′} e f h w =
     let v : Wrote (entriesFor u o vs) n oi oi′ ov ov′ = wrote-is e w in
     record {
@@ -122,5 +129,5 @@ done u o vs {N} {n} {oi} {oi′} {ov} {ov′} e f h w =
     }
 
 pub made : (u : ListDefinitions) (o : ℕ) (vs : List Val) {N : List Entry} {n : ℕ} {oi oi′ : List ℕ} {ov ov′ : List ℤ}
-    → entriesFor u o vs ≡ N → Fine (u .limit) N → u .limit ≤ 65535 → Wrote N n oi oi′ ov ov′ → Done u o vs n oi oi′ ov ov′
+    → entriesFor u o vs ≡ N → Fine (u .limit) N → u .limit < itemNumbers → Wrote N n oi oi′ ov ov′ → Done u o vs n oi oi′ ov ov′
 made u o vs e f h w = done u o vs e (subst (Fine (u .limit)) (sym e) f) h w

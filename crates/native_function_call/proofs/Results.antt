@@ -12,7 +12,8 @@ use Rattle.ink_value.specs.Val.{Val, list, Kind, boolK, intK, floatK, listK, vo
 use Rattle.ink_number.specs.Answer.{Answer, gives, refuses}
 use Rattle.native_function_call.specs.Kinds.{kindApply, isList}
 use Rattle.ink_value.specs.Convert.{asInt, entriesOf, originsIn, lowerOf, upperOf}
-use Rattle.native_function_call.specs.Lists.{ListDefinitions, mergeL, shiftL, stepBy}
+use Rattle.list_definitions.specs.Defs.{ListDefinitions}
+use Rattle.native_function_call.specs.Lists.{mergeL, shiftL}
 use Rattle.native_function_call.specs.Apply.{listBinary, entriesFor, originsAfter, listed, compute, guarded, applyOp}
 use Rattle.ink_value.specs.Value.{written, AllWf}
 use Rattle.native_function_call.proofs.Listing.{Fine, merge-fine, shift-fine, range-fine, unary-fine}
@@ -31,9 +32,9 @@ module _ (u : ListDefinitions) (some : 1 ≤ u .limit) (within : length (u .defi
   unfolding listBinary
   binary-fine o a b = go (isList (kindOf b))
     where
-      go : (t : Bool) → Fine (u .limit) (cond t (mergeL (u .limit) o (entriesOf a) (entriesOf b)) (shiftL u o (originsIn a) (asInt b) (entriesOf a)))
+      go : (t : Bool) → Fine (u .limit) (cond t (mergeL (u .limit) o (entriesOf a) (entriesOf b)) (shiftL (u .ends) (u .defined) o (originsIn a) (asInt b) (entriesOf a)))
       go true = merge-fine (u .limit) o (entriesOf a) (entriesOf b)
-      go false = shift-fine (u .limit) (u .ends) (u .defined) (originsIn a) (stepBy o (asInt b)) (entriesOf a) within
+      go false = shift-fine (u .limit) (u .ends) (u .defined) o (originsIn a) (asInt b) (entriesOf a) within
 
   entries-fine : (o : ℕ) (vs : List Val) → AllWf (u .limit) vs → Fine (u .limit) (entriesFor u o vs)
   entries-fine o [] h = none-fine (u .limit)

@@ -15,10 +15,10 @@ use Rattle.ink_number.specs.Answer.{Answer, gives, refuses, ask}
 use Rattle.native_function_call.specs.Kinds.{known, arity, kindApply, common, isList}
 use Rattle.ink_value.specs.Convert.{bitZ, asInt, asFloat, truthy, entriesOf, originsIn}
 use Rattle.native_function_call.specs.Numbers.{arithZ, arithF, testZ, testF}
-use Rattle.native_function_call.specs.Lists.{ListDefinitions, testL, mergeL, shiftL, unaryL, rangeL}
+use Rattle.list_definitions.specs.Defs.{ListDefinitions, originsOf}
+use Rattle.native_function_call.specs.Lists.{testL, mergeL, shiftL, unaryL, rangeL}
 use Rattle.ink_number.specs.Int.{wrap}
 use Rattle.ink_number.specs.Real.{negF, ofInt32}
-use Rattle.ink_list.specs.Defs.{originsOf}
 
 -- ---- results that are Bools
 
@@ -83,7 +83,7 @@ real o (a ∷ b ∷ c ∷ vs) = ofInt32 (pos 0)
 unfoldable pub listBinary : ListDefinitions → ℕ → Val → Val → List Entry
 listBinary u o a b =
     cond (isList (kindOf b)) (mergeL (u .limit) o (entriesOf a) (entriesOf b))
-    (shiftL u o (originsIn a) (asInt b) (entriesOf a))
+    (shiftL (u .ends) (u .defined) o (originsIn a) (asInt b) (entriesOf a))
 
 -- three operands: range
 abbrev pub entriesFor : ListDefinitions → ℕ → List Val → List Entry

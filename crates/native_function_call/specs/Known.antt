@@ -7,7 +7,7 @@ use Rattle.ink_number.specs.Known.{answers}
 use Rattle.ink_number.specs.Known as Below
 use Rattle.ink_value.specs.Val.{Val, bool, int, float, list, void}
 use Rattle.native_function_call.specs.Op.{opAdd, opNot}
-use Rattle.native_function_call.specs.Lists.{ListDefinitions}
+use Rattle.list_definitions.specs.Defs.{ListDefinitions}
 use Rattle.native_function_call.specs.Apply.{applyOp}
 
 -- the value is this Bool, this Int

@@ -1,25 +1,18 @@
 -- The operators on Lists, by operator number; the definitions that they go by. Assumes nothing.
 use mathlib.Core.Bool.{Bool, cond}
 use mathlib.Core.List.{List}
-use Prim.Native.Nat.{ℕ, _≤_}
+use Prim.Native.Nat.{ℕ, _≤_, _<_}
 use denote.Ref.{now}
 use lib.Dec.{eqb}
-use lib.IntN.{ℤ, negℤ}
+use lib.IntN.{ℤ}
 use lib.ListN.{length}
 use Rattle.native_function_call.specs.Op.{opAdd, opSubtract, opGreater, opLess, opGreaterThanOrEquals, opLessThanOrEquals, opHas, opListMin, opListMax, opAll}
 use Rattle.ink_list.specs.Slices.{Slice}
-use Rattle.ink_list.specs.Entries.{Entry, items, values}
+use Rattle.ink_list.specs.Entries.{Entry, items, values, itemNumbers}
 use Rattle.ink_value.specs.Val.{Val}
 use Rattle.ink_value.specs.Convert.{lowerOf, upperOf}
-use Rattle.ink_number.specs.Int.{wrap}
 use Rattle.ink_list.specs.Ops.{union, without, intersect, range, has, hasnt, listMin, listMax, greater, greaterOrEquals, less, lessOrEquals}
-use Rattle.ink_list.specs.Defs.{Tables, all, invert, increment}
-
--- the definitions of a pack, as ink_list has them, and the item limit
-pub record ListDefinitions : Type 0 where
-  pub ends : List ℕ
-  pub defined : List ℤ
-  pub limit : ℕ
+use Rattle.list_definitions.specs.Defs.{ListDefinitions, Tables, all, invert, increment, decrement}
 
 -- the tests on two Lists; Hasnt is the last
 unfoldable pub testL : ℕ → List Entry → List Entry → Bool
@@ -38,13 +31,9 @@ mergeL limit o a b =
     (cond (eqb o opSubtract) (without limit a (items b))
     (intersect limit a (items b)))
 
--- what is added to each value by Add and Subtract with an Int: v + -n is v - n, modulo 2^32
-unfoldable pub stepBy : ℕ → ℤ → ℤ
-stepBy o n = cond (eqb o opAdd) n (wrap (negℤ n))
-
--- Add, Subtract of an Int, set being the left operand's origins
-abbrev pub shiftL : ListDefinitions → ℕ → ℕ → ℤ → List Entry → List Entry
-shiftL u o set n a = increment (u .ends) (u .defined) set (stepBy o n) a
+-- a List and an Int, set being the List's origins; Subtract is the last
+unfoldable pub shiftL : List ℕ → List ℤ → ℕ → ℕ → ℤ → List Entry → List Entry
+shiftL ends defined o set n a = cond (eqb o opAdd) (increment ends defined set n a) (decrement ends defined set n a)
 
 -- one List, set being its origins; Invert is the last
 unfoldable pub unaryL : List ℕ → List ℤ → ℕ → ℕ → List Entry → List Entry
@@ -71,6 +60,6 @@ pub record Room (u : ListDefinitions) (oi : List ℕ) (ov : List ℤ) : Type 0 w
   pub few : length (u .ends) ≤ 64
   pub within : length (u .defined) ≤ u .limit
   pub some : 1 ≤ u .limit
-  pub small : u .limit ≤ 65535
+  pub small : u .limit < itemNumbers
   pub items-room : u .limit ≤ length oi
   pub values-room : u .limit ≤ length ov

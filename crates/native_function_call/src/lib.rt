@@ -10,16 +10,16 @@ ghost use lib.ListN.{length, take};
 ghost use Rattle.ink_value.specs.Val.{kindAt, kindOf, listK};
 ghost use Rattle.native_function_call.specs.Kinds.{common, kindEntry, decoded, operandCount, kindRange, kindAnswer, Coded, KindsGiven};
 ghost use Rattle.native_function_call.specs.Numbers.{arithZ, arithF, testZ, testF};
-ghost use Rattle.native_function_call.specs.Lists.{ListDefinitions, testL, mergeL, unaryL, stepBy, Room, definitions, definitionsIn};
+ghost use Rattle.list_definitions.specs.Defs.{ListDefinitions, Tables, originsOf};
+ghost use Rattle.native_function_call.specs.Lists.{testL, mergeL, unaryL, shiftL, Room, definitions, definitionsIn};
 ghost use Rattle.ink_value.specs.Slices.{valIn, Gives};
 ghost use Rattle.ink_list.specs.Slices.{list, Answers};
 ghost use Rattle.native_function_call.specs.Apply.{ofInt, testLists, testAs, wholeUnary, realUnary, compute, call, entriesFor, listed};
 ghost use Rattle.ink_value.specs.Value.{codeOfValue, valOf, placed, startOf, lenOf, held, Formed};
-ghost use Rattle.ink_list.specs.Entries.{room, Ascends, Rising, Lent};
+ghost use Rattle.ink_list.specs.Entries.{itemNumbers, room, Ascends, Rising, Lent};
 ghost use Rattle.ink_number.specs.Int.{divided};
 ghost use Rattle.ink_value.specs.declared.Value.the-variants as Is;
 ghost use Rattle.ink_value.specs.declared.Outcome.the-variants as Out;
-ghost use Rattle.ink_list.specs.Defs.{Tables, originsOf};
 
 // What an operator gives on kinds: the kind of its result, or a refusal.
 pub enum KindAnswer {
@@ -970,7 +970,7 @@ fn test_float(op: u8, x: f32, y: f32) -> bool
 }
 
 fn test_entries(op: u8, ai: &[u16], av: &[i32], bi: &[u16], bv: &[i32]) -> bool
-    requires { ⌜ Lent 65536 (now ai) (now av) × Lent 65536 (now bi) (now bv) ⌝ }
+    requires { ⌜ Lent itemNumbers (now ai) (now av) × Lent itemNumbers (now bi) (now bv) ⌝ }
     ensures { λ r. ⌜ r ≡ testL op (list ai av) (list bi bv) ⌝ }
 {
     match op {
@@ -1014,25 +1014,37 @@ fn unary(
     oi: &mut [u16],
     ov: &mut [i32],
 ) -> usize
-    requires { ⌜ Tables (now ends) (now defined) × Lent 65536 (now ai) (now av) ⌝ }
-    requires { ⌜ (1 ≤ length (now oi)) × (1 ≤ length (now ov)) × (length (now defined) ≤ length (now oi)) × (length (now defined) ≤ length (now ov)) ⌝ }
+    requires { ⌜ Tables (now ends) (now defined) × Lent itemNumbers (now ai) (now av) ⌝ }
+    requires { ⌜ (1 ≤ room (now oi) (now ov)) × (length (now defined) ≤ room (now oi) (now ov)) ⌝ }
     ensures { λ r. ⌜ Answers (unaryL (now (ends .entry)) (now (defined .entry)) op set (list ai av)) r oi ov ⌝ }
 {
     match op {
         25 => ink_list::extremes::list_min(ai, av, oi, ov),
         26 => ink_list::extremes::list_max(ai, av, oi, ov),
-        27 => ink_list::definitions::all(set, ends, defined, oi, ov),
-        _ => ink_list::definitions::invert(ai, set, ends, defined, oi, ov),
+        27 => list_definitions::all(set, ends, defined, oi, ov),
+        _ => list_definitions::invert(ai, set, ends, defined, oi, ov),
     }
 }
 
-fn step_by(op: u8, n: i32) -> i32
-    ensures { λ r. ⌜ r ≡ stepBy op n ⌝ }
+fn shift(
+    op: u8,
+    ai: &[u16],
+    av: &[i32],
+    by: i32,
+    set: u64,
+    ends: &[u16],
+    defined: &[i32],
+    oi: &mut [u16],
+    ov: &mut [i32],
+) -> usize
+    requires { ⌜ Tables (now ends) (now defined) × Lent itemNumbers (now ai) (now av) ⌝ }
+    requires { ⌜ length (now defined) ≤ room (now oi) (now ov) ⌝ }
+    ensures { λ r. ⌜ Answers (shiftL (now (ends .entry)) (now (defined .entry)) op set by (list ai av)) r oi ov ⌝ }
 {
-    if op == 0 {
-        return n;
+    match op {
+        0 => list_definitions::increment(ai, av, by, set, ends, defined, oi, ov),
+        _ => list_definitions::decrement(ai, av, by, set, ends, defined, oi, ov),
     }
-    ink_number::int::wrapping_neg(n)
 }
 
 // The code of the common kind: the highest present, at least 1.
@@ -1052,7 +1064,7 @@ fn common(a: Value, b: Value) -> u8
 
 // The tests on the entries of two lists.
 fn test_held(op: u8, a: Value, b: Value, items: &[u16], values: &[i32]) -> bool
-    requires { ⌜ Formed 65536 (now items) (now values) a × Formed 65536 (now items) (now values) b ⌝ }
+    requires { ⌜ Formed itemNumbers (now items) (now values) a × Formed itemNumbers (now items) (now values) b ⌝ }
     ensures { λ r. ⌜ r ≡ testL op (held (now (items .entry)) (now (values .entry)) a) (held (now (items .entry)) (now (values .entry)) b) ⌝ }
 {
     let i = ink_value::start_of(a);
@@ -1066,7 +1078,7 @@ fn test_held(op: u8, a: Value, b: Value, items: &[u16], values: &[i32]) -> bool
 
 // With a list among the operands.
 fn test_lists(op: u8, a: Value, b: Value, items: &[u16], values: &[i32]) -> bool
-    requires { ⌜ Formed 65536 (now items) (now values) a × Formed 65536 (now items) (now values) b ⌝ }
+    requires { ⌜ Formed itemNumbers (now items) (now values) a × Formed itemNumbers (now items) (now values) b ⌝ }
     ensures { λ r. ⌜ r ≡ testLists op (valIn items values a) (valIn items values b) ⌝ }
 {
     match op {
@@ -1077,7 +1089,7 @@ fn test_lists(op: u8, a: Value, b: Value, items: &[u16], values: &[i32]) -> bool
 }
 
 fn test2(op: u8, a: Value, b: Value, items: &[u16], values: &[i32]) -> bool
-    requires { ⌜ Formed 65536 (now items) (now values) a × Formed 65536 (now items) (now values) b ⌝ }
+    requires { ⌜ Formed itemNumbers (now items) (now values) a × Formed itemNumbers (now items) (now values) b ⌝ }
     ensures { λ r. ⌜ r ≡ testAs (common (kindOf (valIn items values a)) (kindOf (valIn items values b)))
         op (valIn items values a) (valIn items values b) ⌝ }
 {
@@ -1099,7 +1111,7 @@ fn test2(op: u8, a: Value, b: Value, items: &[u16], values: &[i32]) -> bool
 }
 
 fn whole1(op: u8, a: Value, values: &[i32]) -> i32
-    requires { ⌜ (startOf a + lenOf a ≤ length (now values)) × (lenOf a ≤ 65535) ⌝ }
+    requires { ⌜ (startOf a + lenOf a ≤ length (now values)) × (lenOf a ≤ itemNumbers) ⌝ }
     ensures { λ r. ⌜ ((limit : ℕ) (is : List ℕ) → Formed limit is (now (values .entry)) a → r ≡ wholeUnary op (valOf is (now (values .entry)) a)) ⌝ }
 {
     match op {
@@ -1123,10 +1135,10 @@ fn real1(op: u8, a: Value, values: &[i32]) -> f32
 
 // The list of the first n entries of the output, with its items' origins.
 fn located(n: usize, items: &[u16], ends: &[u16]) -> Outcome
-    requires { ⌜ (n ≤ length (now items)) × Ascends 0 65536 (take n (now items)) × (length (now ends) ≤ 64) ⌝ }
+    requires { ⌜ (n ≤ length (now items)) × Ascends 0 itemNumbers (take n (now items)) × (length (now ends) ≤ 64) ⌝ }
     ensures { λ r. ⌜ r ≡ Out.Value (Is.List (originsOf (now (ends .entry)) (take n (now (items .entry)))) 0 n) ⌝ }
 {
-    let origins = ink_list::definitions::origins_of(&items[..n], ends);
+    let origins = list_definitions::origins_of(&items[..n], ends);
     Outcome::Value(Value::List {
         origins,
         start: 0,
@@ -1218,9 +1230,10 @@ fn list_int(
     let i = ink_value::start_of(a);
     let m = ink_value::len_of(a);
     let set = ink_value::origins_in(a);
-    let by = step_by(op, ink_value::to_int(b, values));
+    let by = ink_value::to_int(b, values);
     let e = i + m;
-    let n = ink_list::definitions::increment(
+    let n = shift(
+        op,
         &items[i..e],
         &values[i..e],
         by,
@@ -1288,7 +1301,7 @@ fn list3(
 
 // A result that is no List, of one operand.
 fn scalar1(op: u8, kind: u8, a: Value, values: &[i32]) -> Outcome
-    requires { ⌜ (kind ≡ 3 → ⊥) × (startOf a + lenOf a ≤ length (now values)) × (lenOf a ≤ 65535) ⌝ }
+    requires { ⌜ (kind ≡ 3 → ⊥) × (startOf a + lenOf a ≤ length (now values)) × (lenOf a ≤ itemNumbers) ⌝ }
     ensures { λ r. ⌜ ((u : ListDefinitions) (limit : ℕ) (is : List ℕ) → Formed limit is (now (values .entry)) a → r ≡ placed (compute u op (valOf is (now (values .entry)) a ∷ []) (kindAt kind))) ⌝ }
 {
     match kind {
@@ -1301,7 +1314,7 @@ fn scalar1(op: u8, kind: u8, a: Value, values: &[i32]) -> Outcome
 
 // A result that is no List, of two operands.
 fn scalar2(op: u8, kind: u8, a: Value, b: Value, items: &[u16], values: &[i32]) -> Outcome
-    requires { ⌜ (kind ≡ 3 → ⊥) × Formed 65536 (now items) (now values) a × Formed 65536 (now items) (now values) b ⌝ }
+    requires { ⌜ (kind ≡ 3 → ⊥) × Formed itemNumbers (now items) (now values) a × Formed itemNumbers (now items) (now values) b ⌝ }
     ensures { λ r. ⌜ ((u : ListDefinitions) → r ≡ placed (compute u op (valIn items values a ∷ valIn items values b ∷ []) (kindAt kind))) ⌝ }
 {
     match kind {
@@ -1331,7 +1344,7 @@ pub fn scalar(
     values: &[i32],
 ) -> Outcome
     requires { ⌜ (kind ≡ 3 → ⊥) × (1 ≤ count) × (count ≤ 2) ⌝ }
-    requires { ⌜ Formed 65535 (now items) (now values) a × Formed 65535 (now items) (now values) b ⌝ }
+    requires { ⌜ Formed itemNumbers (now items) (now values) a × Formed itemNumbers (now items) (now values) b ⌝ }
     ensures { λ r. ⌜ ((u : ListDefinitions) → r ≡ placed (compute u op (take count (valIn items values a ∷ valIn items values b ∷ [])) (kindAt kind))) ⌝ }
 {
     if count == 1 {

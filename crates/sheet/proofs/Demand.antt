@@ -13,7 +13,7 @@ use Rattle.ink_number.specs.Answer.{Answer, gives, refuses, ask}
 use Rattle.ink_value.specs.Val.{Val, void, Kind, kindOf, codeOf}
 use Rattle.native_function_call.specs.Kinds.{known, arity, kindApply}
 use Rattle.native_function_call.specs.Apply.{applyOp, Agree}
-use Rattle.native_function_call.specs.Lists.{ListDefinitions}
+use Rattle.list_definitions.specs.Defs.{ListDefinitions}
 use Rattle.native_function_call.proofs.Agree.{agree}
 use Rattle.pack.specs.Bodies.{Literal}
 use Rattle.pack.specs.Instruction.{Push, pushBool, pushInt, pushFloat, pushList, pushSlot, pushVoid, Instr, op, push}

@@ -13,7 +13,7 @@ use Rattle.ink_list.specs.Entries.{Rising}
 use Rattle.ink_value.specs.Val.{Val, bool, int, float, list, void}
 use Rattle.ink_value.specs.Value.{written, Wf, AllWf}
 use Rattle.native_function_call.specs.Kinds.{known, arity}
-use Rattle.native_function_call.specs.Lists.{ListDefinitions}
+use Rattle.list_definitions.specs.Defs.{ListDefinitions}
 use Rattle.native_function_call.specs.Apply.{applyOp}
 use Rattle.native_function_call.proofs.Listing.{Fine}
 use Rattle.native_function_call.proofs.Results.{apply-fine}

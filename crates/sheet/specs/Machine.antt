@@ -8,7 +8,7 @@ use Rattle.ink_number.specs.Answer.{Answer, gives, refuses, ask}
 use Rattle.ink_number.specs.Real.{ofBits32}
 use Rattle.ink_value.specs.Val.{Val, bool, int, float, list, void, Kind, boolK, intK, floatK, listK, voidK}
 use Rattle.native_function_call.specs.Kinds.{known, arity, kindApply}
-use Rattle.native_function_call.specs.Lists.{ListDefinitions}
+use Rattle.list_definitions.specs.Defs.{ListDefinitions}
 use Rattle.native_function_call.specs.Apply.{applyOp}
 use Rattle.pack.specs.Bodies.{Literal}
 use Rattle.pack.specs.Instruction.{Push, pushBool, pushInt, pushFloat, pushList, pushSlot, pushVoid, Instr, op, push}

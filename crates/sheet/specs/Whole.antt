@@ -6,7 +6,8 @@ use lib.Dec.{ltb}
 use lib.ListN.{length}
 use Rattle.ink_number.specs.Answer.{Answer, gives, refuses, ask, andThen}
 use Rattle.ink_value.specs.Val.{Val, Kind}
-use Rattle.native_function_call.specs.Lists.{ListDefinitions, definitions}
+use Rattle.list_definitions.specs.Defs.{ListDefinitions}
+use Rattle.native_function_call.specs.Lists.{definitions}
 use Rattle.pack.specs.Bodies.{Pack}
 use Rattle.pack.specs.Judge.{judge}
 use Rattle.pack.specs.Read.{endsOf, definedOf, literalOf, sheetOf}

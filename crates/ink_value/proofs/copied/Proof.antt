@@ -2,7 +2,6 @@ use borrow.Author.Needs.{needs}
 use mathlib.Core.Path.{sym, ap}
 use mathlib.Core.List.{List}
 use Prim.Native.Nat.{ℕ}
-use native.Mathlib.Omega.{arith}
 use Rattle.ink_list.specs.Entries.{room}
 use Rattle.ink_number.specs.Answer.{gives}
 use Rattle.ink_value.specs.declared.Value.{Value}
@@ -53,7 +52,7 @@ copy-requires : tie.Need-copy-requires
 copy-requires c κs = let s = c .before .before .before .before .before .before .before .before .before in
     let l = lends-lent (room (s .args .oi .now) (s .args .ov .now)) (s .args .items .now) (s .args .values .now) (c .before .before .before .before .before .before .start-of .result) (c .before .before .before .before .before .len-of .result) (s .args .v) (c .before .before .before .before .before .before .start-of .ensures) (c .before .before .before .before .before .len-of .ensures) (s .pre .0) in
     let f = lends-few (room (s .args .oi .now) (s .args .ov .now)) (s .args .items .now) (s .args .values .now) (c .before .before .before .before .before .before .start-of .result) (c .before .before .before .before .before .len-of .result) (s .args .v) (c .before .before .before .before .before .before .start-of .ensures) (c .before .before .before .before .before .len-of .ensures) (s .pre .0) in
-    (l .long, (omega (arith, f), omega (arith, f)))
+    (l .long, f)
 
 same-length : tie.Need-same-length
 same-length c = search needs

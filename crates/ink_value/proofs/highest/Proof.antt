@@ -1,25 +1,45 @@
-use borrow.Author.Needs.{needs}
-use mathlib.Core.Path.{sym, ap, _∙_}
-use Prim.Native.Nat.{ℕ}
+use mathlib.Core.Path.{_≡_, ap, _∙_}
+use Prim.Native.Nat.{ℕ, _+_, _-_}
 use native.Mathlib.Omega.{arith}
-use Rattle.ink_value.specs.Convert.{greatestOf}
-use Rattle.ink_value.specs.Value.{part}
-use Rattle.ink_value.proofs.Reading.{length-part, greatest-some}
+use lib.ListN.{take, drop}
 use Rattle.ink_number.proofs.Signed.{returned}
+use Rattle.ink_list.specs.Ops.{upperBound}
+use borrow.Author.Needs.{needs}
 use Rattle.ink_value.proofs.highest.Statement.{statement}
 use Rattle.ink_value.proofs.highest.Tie as tie
 
+add-end : tie.Need-add-end
+add-end c = search needs
+
+mul-upper-bound : tie.Need-mul-upper-bound
+mul-upper-bound c = search needs
+
+sub-upper-bound : tie.Need-sub-upper-bound
+sub-upper-bound c = search needs
+
+part-upper-bound-start : tie.Need-part-upper-bound-start
+part-upper-bound-start c = search needs
+
+part-upper-bound-end : tie.Need-part-upper-bound-end
+part-upper-bound-end c = search needs
+
+upper-bound-requires : tie.Need-upper-bound-requires
+upper-bound-requires c κs = search needs
+
 returns : tie.Need-returns
-returns c = let s = c .before in
-    sym (ap (λ (n : ℕ). greatestOf (part (s .args .start) n (s .args .values .now))) (c .if1 .taken))
-
-greatest-requires : tie.Need-greatest-requires
-greatest-requires c κs = search needs
-
-returns-2 : tie.Need-returns-2
-returns-2 c = let s = c .before .before in
-    let a = s .args in
-    returned (c .greatest .ok) ∙ c .greatest .ensures ∙ greatest-some (part (a .start) (a .len) (a .values .now)) (omega (arith, length-part (a .start) (a .len) (a .values .now) (s .pre)))
+returns c =
+    let a = c .before .before .args in
+    let e : a .start + a .len - a .start ≡ a .len = omega arith in
+    returned (c .upper-bound .ok) ∙ c .upper-bound .ensures ∙ ap (λ (n : ℕ). upperBound (take n (drop (a .start) (a .values .now)))) e
 
 pub highest-spec : {M : Type 1} → statement M
-highest-spec = tie.close (tie.spec returns greatest-requires returns-2)
+highest-spec =
+    tie.close
+    (tie.spec
+    add-end
+    mul-upper-bound
+    sub-upper-bound
+    part-upper-bound-start
+    part-upper-bound-end
+    upper-bound-requires
+    returns)

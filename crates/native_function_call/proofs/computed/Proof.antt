@@ -3,6 +3,7 @@ use mathlib.Core.List.{[], _∷_}
 use Prim.Native.Nat.{ℕ}
 use native.Mathlib.Omega.{arith}
 use lib.ListN.{take}
+use Rattle.ink_list.specs.Entries.{itemNumbers}
 use Rattle.ink_value.specs.Val.{kindAt}
 use Rattle.ink_value.specs.Value.{valOf}
 use Rattle.ink_value.proofs.Reading.{formed-limit}
@@ -34,8 +35,8 @@ scalar-requires c κs =
     let n3 : s .args .count ≡ 3 → ⊥ = λ e. c .if1 .left (s .pre .1 .1 .2 e) in (
       (c .if1 .left, s .pre .1 .1 .0, omega (arith, n3)),
       (
-        formed-limit (s .args .limit) (s .args .items .now) (s .args .values .now) 65535 (s .args .a) (s .pre .0 .small) (s .pre .1 .0 .0),
-        formed-limit (s .args .limit) (s .args .items .now) (s .args .values .now) 65535 (s .args .b) (s .pre .0 .small) (s .pre .1 .0 .1),
+        formed-limit (s .args .limit) (s .args .items .now) (s .args .values .now) itemNumbers (s .args .a) (omega (arith, s .pre .0 .small)) (s .pre .1 .0 .0),
+        formed-limit (s .args .limit) (s .args .items .now) (s .args .values .now) itemNumbers (s .args .b) (omega (arith, s .pre .0 .small)) (s .pre .1 .0 .1),
       ),
     )
 

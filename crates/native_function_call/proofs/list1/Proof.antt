@@ -51,7 +51,7 @@ unary-requires c κs =
     let s = c .before .before .before .before .before .before .before .before .before .before in
     let h = s .pre .0 in (
       (h .tables, lends-lent 65536 (c .before .before .before .before .before .before .before .before .before .before .args .items .now) (c .before .before .before .before .before .before .before .before .before .before .args .values .now) (c .before .before .before .before .before .before .start-of .result) (c .before .before .before .before .before .len-of .result) (c .before .before .before .before .before .before .before .before .before .before .args .a) (c .before .before .before .before .before .before .start-of .ensures) (c .before .before .before .before .before .len-of .ensures) (formed-limit (s .args .limit) (c .before .before .before .before .before .before .before .before .before .before .args .items .now) (c .before .before .before .before .before .before .before .before .before .before .args .values .now) 65536 (s .args .a) (omega (arith, h .small)) (s .pre .1))),
-      (omega (arith, h), omega (arith, h), omega (arith, h), omega (arith, h)),
+      (omega (arith, h), omega (arith, h)),
     )
 
 located-requires : tie.Need-located-requires

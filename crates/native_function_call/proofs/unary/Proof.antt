@@ -4,7 +4,7 @@ use borrow.Author.Tests.{ne-eqb}
 use Rattle.ink_list.specs.Entries.{entries}
 use Rattle.native_function_call.specs.Lists.{unaryL}
 use Rattle.ink_value.proofs.Reading.{wrote-is}
-use Rattle.ink_list.specs.Defs.{all, invert}
+use Rattle.list_definitions.specs.Defs.{all, invert}
 use Rattle.ink_list.proofs.Rests.{items-entries}
 use Rattle.native_function_call.proofs.unary.Statement.{statement}
 use Rattle.native_function_call.proofs.unary.Tie as tie
