@@ -2,7 +2,7 @@
 use mathlib.Core.Path.{_≡_, refl, subst}
 use mathlib.Core.Bool.{Bool, true, false, cond}
 use mathlib.Core.List.{List}
-use mathlib.Core.Option.{Option, some, none}
+use mathlib.Core.Option.{Option, some}
 use Prim.Native.Nat.{ℕ, _+_}
 use native.Mathlib.Omega.{arith}
 use lib.Dec.{ltb, eqb}

@@ -9,24 +9,13 @@ use super::format::DEFINITION_LIMIT;
 use super::format::Format;
 ghost use mathlib.Core.Bool.{true};
 ghost use mathlib.Core.Path.{_≡_};
-ghost use Prim.Native.Nat.{_+_, _*_, _<_, _≤_};
-ghost use Rattle.ink_list.specs.Entries.{ascends, bitsBelow};
+ghost use Prim.Native.Nat.{_+_, _*_, _<_};
+ghost use Rattle.ink_list.specs.Entries.{ascends};
 ghost use Rattle.ink_list.specs.Every.{table};
 ghost use Rattle.pack.specs.Bodies.{itemCount, item, literalOk};
 ghost use Rattle.pack.specs.Contents.{bodyCount, size};
-ghost use Rattle.pack.specs.Format.{Narrow, definitionLimit};
+ghost use Rattle.pack.specs.Format.{Narrow};
 ghost use Rattle.pack.specs.Judge.{question3, question4, Placed};
-
-// Has an origin set bits below d alone?
-fn bits_below(set: u64, d: usize) -> bool
-    requires { ⌜ d ≤ definitionLimit ⌝ }
-    ensures { λ r. ⌜ r ≡ bitsBelow d set ⌝ }
-{
-    if d == DEFINITION_LIMIT {
-        return true;
-    }
-    set >> d == 0
-}
 
 // Do the items of the n entries of a literal rise, all below total?
 fn items_ok(p: &[u8], b: usize, n: usize, total: usize, format: Format) -> bool
@@ -71,7 +60,7 @@ fn literal_ok(p: &[u8], b: usize, total: usize, format: Format) -> bool
         return false;
     }
     let at = offset(p, b);
-    if !bits_below(u64_at(p, at), byte_at(p, 1)) {
+    if !ink_list::entries::bits_below(u64_at(p, at), byte_at(p, 1)) {
         return false;
     }
     items_ok(p, b, k, total, format)

@@ -10,7 +10,7 @@ use denote.Ref.{now}
 use Rattle.ink_list.specs.Entries.{ascends}
 use Rattle.ink_list.specs.Every.{table}
 use Rattle.ink_list.proofs.Filled.{length-table}
-use Rattle.ink_list.proofs.LentLaws.{too-low, too-high, goes-on, ascends-end}
+use Rattle.ink_list.proofs.Formed.{too-low, too-high, goes-on, ascends-end}
 use Rattle.pack.specs.Bodies.{entryAt, item}
 use Rattle.pack.specs.Bytes.{number}
 use Rattle.pack.proofs.Laid.{body}
