@@ -6,10 +6,12 @@ use mathlib.Core.Path.{_≡_}
 use lib.IntN.{ℤ}
 use lib.ListN.{length, getD, drop}
 use Rattle.ink_list.specs.Entries.{Entry, items, values}
+use Rattle.list_definitions.specs.Defs.{ListDefinitions}
 use Rattle.ink_list.specs.Filled.{fill, over}
 use Rattle.pack.specs.Bodies.{Literal, Pack, decoded}
 use Rattle.pack.specs.Contents.{literalCount, sheetBody, offset, size}
 use Rattle.pack.specs.Format.{format1, instructionLimit}
+use Rattle.pack.specs.declared.format.Format.{Format}
 use Rattle.pack.specs.Instruction.{Instr, push, pushVoid, width, instruction, instructions}
 
 -- ---- the parts of a decoded pack
@@ -30,6 +32,10 @@ module _ (d : Pack) where
 
   abbrev pub definedOf : List ℤ
   definedOf = joined (d .definitions)
+
+  -- the same as one record, with the format's item limit
+  abbrev pub definitionsOf : Format → ListDefinitions
+  definitionsOf F = record { ends = endsOf; defined = definedOf; limit = F .limit }
 
   -- literal l and sheet s, empty where there is none
   abbrev pub literalOf : ℕ → Literal

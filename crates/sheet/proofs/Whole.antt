@@ -11,10 +11,10 @@ use Rattle.ink_number.specs.Answer.{Answer, gives, refuses, ask, andThen}
 use Rattle.ink_value.specs.Val.{Val, Kind, kindOf}
 use Rattle.pack.specs.Bodies.{Pack}
 use Rattle.pack.specs.Judge.{judge}
-use Rattle.pack.specs.Read.{literalOf, sheetOf}
+use Rattle.pack.specs.Read.{definitionsOf, literalOf, sheetOf}
 use Rattle.pack.specs.declared.format.Format.{Format}
 use Rattle.sheet.specs.Machine.{ended, run, vet}
-use Rattle.sheet.specs.Whole.{definitionsOf, opened, started, sheetRun, sheetVet, countOf}
+use Rattle.sheet.specs.Whole.{opened, started, sheetRun, sheetVet, countOf}
 use Rattle.sheet.specs.Foretold.{verdict, Begins, Foretold}
 use Rattle.sheet.proofs.Demand.{demand3}
 
@@ -35,8 +35,8 @@ module _ (F : Format) (s : ℕ) (f : List ℕ) (slots : List Val) where
       → ((k : Kind) → started a (λ d. vet (sheetOf d s) (map kindOf slots)) .end ≡ ended k
       → Begins f (started a (λ d. vet (sheetOf d s) (map kindOf slots)) .stacks))
       → Foretold (countOf a s) (verdict (started a (λ d. vet (sheetOf d s) (map kindOf slots)) .end)) f
-      (started a (λ d. run (definitionsOf F d) (sheetOf d s) (literalOf d) slots))
-  foretold (gives d) w = demand3 (definitionsOf F d) f (sheetOf d s) (literalOf d) slots w
+      (started a (λ d. run (definitionsOf d F) (sheetOf d s) (literalOf d) slots))
+  foretold (gives d) w = demand3 (definitionsOf d F) f (sheetOf d s) (literalOf d) slots w
   foretold (refuses r) w = inr refl
 
 -- f is what stands in the forecast slice
@@ -46,7 +46,7 @@ pub demand3-whole : (F : Format) (p : List ℕ) (s : ℕ) (memory memory' : Pack
     → Foretold (countOf (opened F p s memory) s) (verdict (sheetVet F p s memory (map kindOf slots) .end)) f (sheetRun F p s memory' slots)
 demand3-whole F p s memory memory' f slots h h' w =
     subst (λ (a : Answer Pack). Foretold (countOf (opened F p s memory) s) (verdict (sheetVet F p s memory (map kindOf slots) .end)) f
-    (started a (λ d. run (definitionsOf F d) (sheetOf d s) (literalOf d) slots)))
+    (started a (λ d. run (definitionsOf d F) (sheetOf d s) (literalOf d) slots)))
     (opened-alike F p s memory memory' h h')
     (foretold F s f slots (opened F p s memory) w)
 

@@ -6,17 +6,11 @@ use lib.Dec.{ltb}
 use lib.ListN.{length}
 use Rattle.ink_number.specs.Answer.{Answer, gives, refuses, ask, andThen}
 use Rattle.ink_value.specs.Val.{Val, Kind}
-use Rattle.list_definitions.specs.Defs.{ListDefinitions}
-use Rattle.native_function_call.specs.Lists.{definitions}
 use Rattle.pack.specs.Bodies.{Pack}
 use Rattle.pack.specs.Judge.{judge}
-use Rattle.pack.specs.Read.{endsOf, definedOf, literalOf, sheetOf}
+use Rattle.pack.specs.Read.{definitionsOf, literalOf, sheetOf}
 use Rattle.pack.specs.declared.format.Format.{Format}
 use Rattle.sheet.specs.Machine.{Run, stopped, run, vet}
-
--- the definitions of a decoded pack, by item number, and its format's item limit
-abbrev pub definitionsOf : Format → Pack → ListDefinitions
-definitionsOf F d = definitions (endsOf d) (definedOf d) (F .limit)
 
 -- questions 1 to 5; 6, "Does the sheet number exist?"; and 7, of which `memory` is the answer
 unfoldable pub opened : Format → List ℕ → ℕ → (Pack → Bool) → Answer Pack
@@ -29,7 +23,7 @@ started (refuses r) f = record { stacks = []; end = stopped r 0 }
 
 -- "It is fed the pack, a sheet number and 16 slot values"
 abbrev pub sheetRun : Format → List ℕ → ℕ → (Pack → Bool) → List Val → Run Val
-sheetRun F p s memory slots = started (opened F p s memory) (λ d. run (definitionsOf F d) (sheetOf d s) (literalOf d) slots)
+sheetRun F p s memory slots = started (opened F p s memory) (λ d. run (definitionsOf d F) (sheetOf d s) (literalOf d) slots)
 
 -- vetting gets 16 kind codes for the slots
 abbrev pub sheetVet : Format → List ℕ → ℕ → (Pack → Bool) → List Kind → Run Kind

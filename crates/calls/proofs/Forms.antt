@@ -1,0 +1,123 @@
+-- Operands that are not used, question 7 of those that are, and slices read from the start. Assumes nothing.
+use mathlib.Core.Path.{_≡_, refl, sym, ap, _∙_}
+use mathlib.Core.Bool.{Bool, true, false, cond}
+use mathlib.Core.List.{List, [], _∷_, map}
+use Prim.Native.Nat.{ℕ, zero, suc, _+_, _^_, _≤_, _<_}
+use native.Mathlib.Omega.{arith}
+use lib.Dec.{ltb, leb, eqb}
+use lib.IntN.{ℤ}
+use lib.ListN.{length, take}
+use lib.Pow.{pow-pos}
+use lib.Seq.{take-at}
+use borrow.Author.Tests.{lt-ltb, le-leb, eq-eqb, ne-eqb}
+use Rattle.ink_list.specs.Every.{_and_}
+use Rattle.ink_list.specs.Entries.{bitsBelow, formed}
+use Rattle.ink_list.specs.Filled.{over}
+use Rattle.ink_list.proofs.Every.{and-left, and-right, and-both, and-no-left, and-no-right}
+use Rattle.ink_value.specs.Val.{Val}
+use Rattle.ink_value.specs.Value.{valOf, Formed, formedIn, eachFormed, allFormed}
+use Rattle.ink_value.specs.declared.Value.{Value}
+use Rattle.ink_value.proofs.Forming.{formed-yes}
+use Rattle.ink_number.specs.Answer.{refuses}
+use Rattle.list_definitions.specs.Defs.{ListDefinitions}
+use Rattle.native_function_call.specs.Apply.{call}
+use Rattle.calls.specs.Call.{operandsOk, resultsOk, called}
+use Rattle.ink_value.specs.declared.Value.the-variants as Is
+
+-- Void is always formed
+void-formed : (total d : ℕ) (is : List ℕ) (vs : List ℤ) → formedIn total d is vs Is.Void ≡ true
+unfolding _and_ formed bitsBelow
+void-formed total d is vs = rw (le-leb 0 (length is) (omega arith), le-leb 0 (length vs) (omega arith), lt-ltb 0 (2 ^ d) (pow-pos d))
+
+-- the first n of three, and Void in place of the others
+abbrev pub kept : ℕ → Value → Value → Value → List Value
+kept n a b c = cond (ltb 0 n) a Is.Void ∷ cond (ltb 1 n) b Is.Void ∷ cond (ltb 2 n) c Is.Void ∷ []
+
+pub kept-take : (n : ℕ) (a b c : Value) → take n (kept n a b c) ≡ take n (a ∷ b ∷ c ∷ [])
+kept-take zero a b c = refl
+kept-take (suc zero) a b c = refl
+kept-take (suc (suc zero)) a b c = refl
+kept-take (suc (suc (suc n))) a b c =
+    rw (lt-ltb 0 (suc (suc (suc n))) (omega arith), lt-ltb 1 (suc (suc (suc n))) (omega arith), lt-ltb 2 (suc (suc (suc n))) (omega arith))
+
+pub kept-formed : (total d : ℕ) (is : List ℕ) (vs : List ℤ) (n : ℕ) (a b c : Value)
+    → eachFormed total d is vs (kept n a b c) ≡ eachFormed total d is vs (take n (a ∷ b ∷ c ∷ []))
+unfolding _and_
+kept-formed total d is vs zero a b c = rw (void-formed total d is vs)
+kept-formed total d is vs (suc zero) a b c = rw (void-formed total d is vs)
+kept-formed total d is vs (suc (suc zero)) a b c = rw (void-formed total d is vs)
+kept-formed total d is vs (suc (suc (suc zero))) a b c = refl
+kept-formed total d is vs (suc (suc (suc (suc n)))) a b c =
+    rw (lt-ltb 0 (suc (suc (suc (suc n)))) (omega arith), lt-ltb 1 (suc (suc (suc (suc n)))) (omega arith), lt-ltb 2 (suc (suc (suc (suc n)))) (omega arith))
+
+pub map-take : {A B : Type 0} (f : A → B) (n : ℕ) (l : List A) → map f (take n l) ≡ take n (map f l)
+map-take f zero l = refl
+map-take f (suc n) [] = refl
+map-take {A} {B} f (suc n) (x ∷ l) = ap {B = List B} (λ r. f x ∷ r) (map-take f n l)
+
+-- what was written over the start is read back
+pub front : {A : Type 0} (xs old new : List A) (n : ℕ) → n ≡ length xs → new ≡ over xs old → take n new ≡ xs
+front xs old new n h e = rw (e, h) (take-at xs _ (length xs) refl)
+
+-- ---- question 7, as the code asks it
+
+and-yes : (x y : Bool) → x ≡ true → x and y ≡ y
+unfolding _and_
+and-yes x y e = rw e
+
+and-true : (x : Bool) → x and true ≡ x
+unfolding _and_
+and-true true = refl
+and-true false = refl
+
+module _ (total d : ℕ) (is : List ℕ) (vs : List ℤ) where
+  pub unlike-long : (l : List Value) → (length is ≡ length vs → ⊥) → allFormed total d is vs l ≡ false
+  unlike-long l h = and-no-left _ _ (ne-eqb (length is) (length vs) h)
+
+  module _ (long : length is ≡ length vs) where
+    pub all-one : (v : Value) → allFormed total d is vs (v ∷ []) ≡ formedIn total d is vs v
+    all-one v = and-yes _ _ (eq-eqb (length is) (length vs) long) ∙ and-true (formedIn total d is vs v)
+
+    pub all-three : (a b c : Value)
+        → allFormed total d is vs (a ∷ b ∷ c ∷ []) ≡ formedIn total d is vs a and (formedIn total d is vs b and formedIn total d is vs c)
+    all-three a b c =
+        and-yes _ _ (eq-eqb (length is) (length vs) long)
+        ∙ ap (λ (x : Bool). formedIn total d is vs a and (formedIn total d is vs b and x)) (and-true (formedIn total d is vs c))
+
+    pub third : (a b c : Value) → formedIn total d is vs a ≡ true → formedIn total d is vs b ≡ true
+        → allFormed total d is vs (a ∷ b ∷ c ∷ []) ≡ formedIn total d is vs c
+    third a b c p q = all-three a b c ∙ and-yes _ _ p ∙ and-yes _ _ q
+
+  pub kept-all : (n : ℕ) (a b c : Value) → allFormed total d is vs (kept n a b c) ≡ allFormed total d is vs (take n (a ∷ b ∷ c ∷ []))
+  kept-all n a b c = ap (λ (x : Bool). eqb (length is) (length vs) and x) (kept-formed total d is vs n a b c)
+
+  -- each of three that passed
+  pub each-of : (limit : ℕ) (a b c : Value) → total ≤ limit → allFormed total d is vs (a ∷ b ∷ c ∷ []) ≡ true
+      → Formed limit is vs a × Formed limit is vs b × Formed limit is vs c
+  each-of limit a b c h e =
+      let r = and-right _ _ e in (
+        formed-yes total d is vs a limit h (and-left _ _ r),
+        formed-yes total d is vs b limit h (and-left _ _ (and-right _ _ r)),
+        formed-yes total d is vs c limit h (and-left _ _ (and-right _ _ (and-right _ _ r))),
+      )
+
+-- ---- the answer of a call
+
+module _ (is : List ℕ) (vs : List ℤ) (oi : List ℕ) (ov : List ℤ) (o n : ℕ) (l : List Value) (u : ListDefinitions) where
+  pub ill-operands : operandsOk u is vs (take n l) ≡ false → called is vs oi ov o n l u ≡ refuses 7
+  unfolding called
+  ill-operands e = rw (and-no-left _ (resultsOk u oi ov) e)
+
+  pub short-results : resultsOk u oi ov ≡ false → called is vs oi ov o n l u ≡ refuses 7
+  unfolding called
+  short-results e = rw (and-no-right (operandsOk u is vs (take n l)) _ e)
+
+  pub goes-on : operandsOk u is vs (take n l) ≡ true → resultsOk u oi ov ≡ true → called is vs oi ov o n l u ≡ call u o n (map (valOf is vs) (take n l))
+  unfolding called
+  goes-on e f = rw (and-both _ _ e f)
+
+-- the operands that the code hands on are the first n
+pub operands-are : (is : List ℕ) (vs : List ℤ) (n : ℕ) (a b c x y z : Value) → kept n a b c ≡ x ∷ y ∷ z ∷ []
+    → map (valOf is vs) (take n (a ∷ b ∷ c ∷ [])) ≡ take n (valOf is vs x ∷ valOf is vs y ∷ valOf is vs z ∷ [])
+operands-are is vs n a b c x y z k =
+    ap (map (valOf is vs)) (sym (kept-take n a b c) ∙ ap (take n) k) ∙ map-take (valOf is vs) n (x ∷ y ∷ z ∷ [])

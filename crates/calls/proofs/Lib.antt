@@ -1,0 +1,2 @@
+-- The laws of direct calls.
+pub mod Forms

@@ -1,0 +1,50 @@
+-- A direct call and the conversions on the bytes of a pack: questions 1 to 5 and 7 come before those of the operator. Assumes nothing.
+use mathlib.Core.Bool.{Bool}
+use mathlib.Core.List.{List, [], _∷_, map}
+use Prim.Native.Nat.{ℕ, _≤_}
+use lib.Dec.{leb}
+use lib.IntN.{ℤ}
+use lib.ListN.{length, take}
+use Rattle.ink_number.specs.Answer.{Answer, ask, andThen}
+use Rattle.ink_list.specs.Every.{_and_}
+use Rattle.list_definitions.specs.Defs.{ListDefinitions, Tables}
+use Rattle.ink_value.specs.Val.{Val}
+use Rattle.ink_value.specs.Convert.{cast}
+use Rattle.ink_value.specs.Value.{valOf, allFormed}
+use Rattle.ink_value.specs.declared.Value.{Value}
+use Rattle.native_function_call.specs.Apply.{call}
+use Rattle.pack.specs.Format.{format1, definitionLimit}
+use Rattle.pack.specs.Judge.{judge}
+use Rattle.pack.specs.Read.{definitionsOf}
+use Rattle.pack.specs.declared.format.Format.{Format}
+
+-- 7, of operands: their lists are formed as literals of a pack with these definitions
+abbrev pub operandsOk : ListDefinitions → List ℕ → List ℤ → List Value → Bool
+operandsOk u is vs l = allFormed (length (u .defined)) (length (u .ends)) is vs l
+
+-- 7, of result slices: "result slices at least 256 entries"
+abbrev pub resultsOk : ListDefinitions → List ℕ → List ℤ → Bool
+resultsOk u oi ov = leb (u .limit) (length oi) and leb (u .limit) (length ov)
+
+module _ (is : List ℕ) (vs : List ℤ) where
+  -- operator o on the first n of three operands: 7, then 8 and 10 to 16
+  unfoldable pub called : List ℕ → List ℤ → ℕ → ℕ → List Value → ListDefinitions → Answer Val
+  called oi ov o n l u = ask 7 (operandsOk u is vs (take n l) and resultsOk u oi ov) (call u o n (map (valOf is vs) (take n l)))
+
+  -- `cast`: 7, then 18. It has result slices, since a List is cast to a List
+  unfoldable pub castTo : List ℕ → List ℤ → ℕ → Value → ListDefinitions → Answer Val
+  castTo oi ov to v u = ask 7 (operandsOk u is vs (v ∷ []) and resultsOk u oi ov) (cast to (valOf is vs v))
+
+  -- the three `coerce_to_`, of which f is one: 7, then 18
+  unfoldable pub coerced : (Val → Answer Val) → Value → ListDefinitions → Answer Val
+  coerced f v u = ask 7 (operandsOk u is vs (v ∷ [])) (f (valOf is vs v))
+
+-- questions 1 to 5 first: "a direct call 1 to 5, 7, 8, 10 to 16; a conversion 1 to 5, 7, 18"
+abbrev pub onPack : Format → List ℕ → (ListDefinitions → Answer Val) → Answer Val
+onPack F p f = andThen (judge F p) (λ d. f (definitionsOf d F))
+
+-- tables of a pack of format 1
+pub record PackLists (ends : List ℕ) (defined : List ℤ) : Type 0 where
+  pub tables : Tables ends defined
+  pub few : length ends ≤ definitionLimit
+  pub within : length defined ≤ format1 .limit

@@ -1,0 +1,2 @@
+-- What direct calls and conversions on a pack answer.
+pub mod Call

@@ -1,0 +1,175 @@
+// Direct calls: one operator, or one conversion, on operands that are lists of a pack.
+use ink_value::Outcome;
+use ink_value::Value;
+use pack::Checked;
+ghost use mathlib.Core.Path.{_≡_};
+ghost use mathlib.Core.Bool.{Bool, cond};
+ghost use mathlib.Core.List.{[], _∷_};
+ghost use denote.Ref.{now};
+ghost use Rattle.native_function_call.specs.Lists.{definitionsIn};
+ghost use Rattle.pack.specs.Read.{definitionsOf};
+ghost use Rattle.ink_value.specs.Convert.{cast, coerceBool, coerceInt, coerceFloat};
+ghost use Rattle.ink_value.specs.Value.{placed, allFormed};
+ghost use Rattle.ink_value.specs.Slices.{valIn, Gives};
+ghost use Rattle.ink_value.specs.declared.Value.the-variants as Is;
+ghost use Rattle.pack.specs.Bodies.{decoded};
+ghost use Rattle.pack.specs.Format.{format1};
+ghost use Rattle.pack.specs.Judge.{Sound};
+ghost use Rattle.calls.specs.Call.{called, castTo, coerced, onPack, PackLists};
+
+// The most items of a pack, and so the entries that a result may have.
+const ITEM_LIMIT: usize = 256;
+
+// Question 7 of a value, with its two slices equally long.
+fn one_formed(v: Value, items: &[u16], values: &[i32], total: usize, definitions: usize) -> bool
+    ensures { λ r. ⌜ r ≡ allFormed total definitions (now (items .entry)) (now (values .entry)) (v ∷ []) ⌝ }
+{
+    if items.len() != values.len() {
+        return false;
+    }
+    ink_value::is_formed(v, items, values, total, definitions)
+}
+
+// The same of three.
+fn three_formed(
+    a: Value,
+    b: Value,
+    c: Value,
+    items: &[u16],
+    values: &[i32],
+    total: usize,
+    definitions: usize,
+) -> bool
+    ensures { λ r. ⌜ r ≡ allFormed total definitions (now (items .entry)) (now (values .entry)) (a ∷ b ∷ c ∷ []) ⌝ }
+{
+    if items.len() != values.len() {
+        return false;
+    }
+    if !ink_value::is_formed(a, items, values, total, definitions) {
+        return false;
+    }
+    if !ink_value::is_formed(b, items, values, total, definitions) {
+        return false;
+    }
+    ink_value::is_formed(c, items, values, total, definitions)
+}
+
+// An operand that is used, or Void in its place.
+fn used(yes: bool, v: Value) -> Value
+    ensures { λ r. ⌜ r ≡ cond yes v Is.Void ⌝ }
+{
+    if yes { v } else { Value::Void }
+}
+
+// An operator with the definitions at hand: question 7, then 8 and 10 to 16.
+fn call_with(
+    op: u8,
+    count: usize,
+    a: Value,
+    b: Value,
+    c: Value,
+    items: &[u16],
+    values: &[i32],
+    ends: &[u16],
+    defined: &[i32],
+    oi: &mut [u16],
+    ov: &mut [i32],
+) -> Outcome
+    requires { ⌜ PackLists (now ends) (now defined) ⌝ }
+    ensures { λ r. ⌜ Gives (called (now (items .entry)) (now (values .entry)) (now (oi .entry)) (now (ov .entry)) op count (a ∷ b ∷ c ∷ []) (definitionsIn ends defined (format1 .limit))) r oi ov ⌝ }
+{
+    let x = used(0 < count, a);
+    let y = used(1 < count, b);
+    let z = used(2 < count, c);
+    if !three_formed(x, y, z, items, values, defined.len(), ends.len()) {
+        return Outcome::Refused(7);
+    }
+    if oi.len() < ITEM_LIMIT {
+        return Outcome::Refused(7);
+    }
+    if ov.len() < ITEM_LIMIT {
+        return Outcome::Refused(7);
+    }
+    native_function_call::apply(
+        op,
+        count,
+        x,
+        y,
+        z,
+        items,
+        values,
+        ends,
+        defined,
+        ITEM_LIMIT,
+        oi,
+        ov,
+    )
+}
+
+// A call on a pack that has passed.
+fn call_checked(
+    pack: &[u8],
+    op: u8,
+    count: usize,
+    a: Value,
+    b: Value,
+    c: Value,
+    items: &[u16],
+    values: &[i32],
+    oi: &mut [u16],
+    ov: &mut [i32],
+) -> Outcome
+    requires { ⌜ Sound format1 (now pack) ⌝ }
+    ensures { λ r. ⌜ Gives (called (now (items .entry)) (now (values .entry)) (now (oi .entry)) (now (ov .entry)) op count (a ∷ b ∷ c ∷ []) (definitionsOf (decoded format1 (now (pack .entry))) format1)) r oi ov ⌝ }
+{
+    let mut ends = [0u16; 64];
+    let mut defined = [0i32; 256];
+    let read = pack::read::read_definitions(pack, &mut ends, &mut defined);
+    let n = read.definitions;
+    let total = read.items;
+    call_with(
+        op,
+        count,
+        a,
+        b,
+        c,
+        items,
+        values,
+        &ends[..n],
+        &defined[..total],
+        oi,
+        ov,
+    )
+}
+
+// An operator on the first `count` of three operands, whose entries stand in two slices.
+pub fn call(
+    pack: &[u8],
+    op: u8,
+    count: usize,
+    a: Value,
+    b: Value,
+    c: Value,
+    items: &[u16],
+    values: &[i32],
+    result_items: &mut [u16],
+    result_values: &mut [i32],
+) -> Outcome
+    ensures { λ r. ⌜ Gives (onPack format1 (now (pack .entry)) (called (now (items .entry)) (now (values .entry)) (now («result_items» .entry)) (now («result_values» .entry)) op count (a ∷ b ∷ c ∷ []))) r «result_items» «result_values» ⌝ }
+{
+    match pack::check(pack) {
+        Checked::Refused(number) => Outcome::Refused(number),
+        Checked::Passed => call_checked(
+            pack,
+            op,
+            count,
+            a,
+            b,
+            c,
+            items,
+            values,
+            result_items,
+            result_values,
+        ),
+    }
+}
