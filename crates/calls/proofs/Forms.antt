@@ -6,7 +6,7 @@ use Prim.Native.Nat.{ℕ, zero, suc, _+_, _^_, _≤_, _<_}
 use native.Mathlib.Omega.{arith}
 use lib.Dec.{ltb, leb, eqb}
 use lib.IntN.{ℤ}
-use lib.ListN.{length, take}
+use lib.ListN.{length, take, drop, length-append}
 use lib.Pow.{pow-pos}
 use lib.Seq.{take-at}
 use borrow.Author.Tests.{lt-ltb, le-leb, eq-eqb, ne-eqb}
@@ -18,10 +18,14 @@ use Rattle.ink_value.specs.Val.{Val}
 use Rattle.ink_value.specs.Value.{valOf, Formed, formedIn, eachFormed, allFormed}
 use Rattle.ink_value.specs.declared.Value.{Value}
 use Rattle.ink_value.proofs.Forming.{formed-yes}
-use Rattle.ink_number.specs.Answer.{refuses}
+use Rattle.ink_number.specs.Answer.{Answer, gives, refuses}
 use Rattle.list_definitions.specs.Defs.{ListDefinitions}
 use Rattle.native_function_call.specs.Apply.{call}
-use Rattle.calls.specs.Call.{operandsOk, resultsOk, called}
+use Rattle.calls.specs.Call.{operandsOk, resultsOk, called, onPack}
+use Rattle.pack.specs.Bodies.{Pack, decoded}
+use Rattle.pack.specs.Format.{format1}
+use Rattle.pack.specs.Judge.{judge}
+use Rattle.pack.specs.Read.{endsOf, definedOf, definitionsOf, Tabled}
 use Rattle.ink_value.specs.declared.Value.the-variants as Is
 
 -- Void is always formed
@@ -56,8 +60,40 @@ map-take f (suc n) [] = refl
 map-take {A} {B} f (suc n) (x ∷ l) = ap {B = List B} (λ r. f x ∷ r) (map-take f n l)
 
 -- what was written over the start is read back
-pub front : {A : Type 0} (xs old new : List A) (n : ℕ) → n ≡ length xs → new ≡ over xs old → take n new ≡ xs
+front : {A : Type 0} (xs old new : List A) (n : ℕ) → n ≡ length xs → new ≡ over xs old → take n new ≡ xs
 front xs old new n h e = rw (e, h) (take-at xs _ (length xs) refl)
+
+front-long : {A : Type 0} (xs old new : List A) (n : ℕ) → n ≡ length xs → new ≡ over xs old → n ≤ length new
+front-long xs old new n h e = omega (arith, ap length e, length-append xs (drop (length xs) old))
+
+-- the tables of a pack, read into two arrays
+module _ {d : Pack} {n m : ℕ} {oe oe′ : List ℕ} {od od′ : List ℤ} (t : Tabled d n m oe oe′ od od′) where
+  pub ends-front : take n oe′ ≡ endsOf d
+  ends-front = front (endsOf d) oe oe′ n (t .ends-long) (t .ends-in)
+
+  pub ends-fit : n ≤ length oe′
+  ends-fit = front-long (endsOf d) oe oe′ n (t .ends-long) (t .ends-in)
+
+  pub ends-count : n ≡ length (take n oe′)
+  ends-count = t .ends-long ∙ sym (ap length ends-front)
+
+  pub defined-front : take m od′ ≡ definedOf d
+  defined-front = front (definedOf d) od od′ m (t .defined-long) (t .defined-in)
+
+  pub defined-fit : m ≤ length od′
+  defined-fit = front-long (definedOf d) od od′ m (t .defined-long) (t .defined-in)
+
+  pub defined-count : m ≡ length (take m od′)
+  defined-count = t .defined-long ∙ sym (ap length defined-front)
+
+-- questions 1 to 5
+
+module _ (p : List ℕ) where
+  pub pack-refused : (n : ℕ) (f : ListDefinitions → Answer Val) → judge format1 p ≡ refuses n → onPack format1 p f ≡ refuses n
+  pack-refused n f e = rw e
+
+  pub pack-passed : (f : ListDefinitions → Answer Val) → judge format1 p ≡ gives (decoded format1 p) → onPack format1 p f ≡ f (definitionsOf (decoded format1 p) format1)
+  pack-passed f e = rw e
 
 -- ---- question 7, as the code asks it
 

@@ -1,42 +1,59 @@
+use mathlib.Core.Path.{_≡_, refl, sym, ap, _∙_, subst}
+use mathlib.Core.List.{List, [], _∷_}
+use Prim.Native.Nat.{ℕ, _≤_}
+use native.Mathlib.Omega.{arith}
+use lib.IntN.{ℤ}
+use lib.ListN.{length, take, length-append}
+use Rattle.ink_number.specs.Answer.{gives, refuses}
+use Rattle.list_definitions.specs.Defs.{ListDefinitions}
+use Rattle.ink_value.specs.Value.{Gave}
+use Rattle.ink_value.specs.declared.Value.{Value}
+use Rattle.ink_value.proofs.Given.{gave-is, gave-plain}
+use Rattle.ink_value.proofs.Reading.{ap2}
+use Rattle.native_function_call.specs.Lists.{definitions}
+use Rattle.pack.specs.Bodies.{decoded}
+use Rattle.pack.specs.Format.{format1}
+use Rattle.pack.specs.Judge.{judge, checked}
+use Rattle.pack.specs.Read.{endsOf, definedOf, definitionsOf}
+use Rattle.pack.specs.declared.Checked.{Checked}
+use Rattle.pack.proofs.Judged.{passed, turned}
+use Rattle.pack.proofs.Values.{pack-tables}
+use Rattle.calls.specs.Call.{PackLists, called, onPack}
+use Rattle.calls.proofs.Forms.{pack-refused, pack-passed}
 use borrow.Author.Needs.{needs}
 use Rattle.calls.proofs.call.Statement.{statement}
 use Rattle.calls.proofs.call.Tie as tie
-use Rattle.calls.proofs.call.Reads as reads
-use Rattle.calls.proofs.call.Lts as lts
-use Rattle.calls.proofs.call_checked.Reads as call-checked-reads
-use Rattle.pack.proofs.check.Reads as check-reads
 
--- src/lib.rt:160:11
 check-requires : tie.Need-check-requires
 check-requires c κs = search needs
 
--- src/lib.rt:161:26
 enum-known-number : tie.Need-enum-known-number
 enum-known-number c = search needs
 
--- src/lib.rt:171:13
 enum-told : tie.Need-enum-told
 enum-told c = search needs
 
--- src/lib.rt:162:28
 call-checked-requires : tie.Need-call-checked-requires
-call-checked-requires c κs = search needs
+call-checked-requires c κs =
+    passed format1 (c .before .before .before .before .before .before .before .before .args .pack .now) (c .before .before .before .before .check .result) (c .before .before .enum-told .given .1) (c .before .before .before .before .check .ensures)
 
--- src/lib.rt:146:1
 returns : tie.Need-returns
-returns c = search needs
+returns c =
+    let s = c .before .before .before .before .before .before .before in
+    let p = s .args .pack .now in
+    gave-is (pack-refused p (c .before .number .given .0 .0) (called (s .args .items .now) (s .args .values .now) (s .args .result-items .now) (s .args .result-values .now) (s .args .op) (s .args .count) (s .args .a ∷ s .args .b ∷ s .args .c ∷ [])) (turned format1 p (c .before .before .before .check .result) (c .before .number .given .0 .0) (c .before .number .given .1) (c .before .before .before .check .ensures))) (gave-plain (refuses (c .before .number .given .0 .0)) _ _ _ refl refl)
 
--- src/lib.rt:146:1
 same-length : tie.Need-same-length
 same-length c = search needs
 
--- src/lib.rt:146:1
 same-length-2 : tie.Need-same-length-2
 same-length-2 c = search needs
 
--- src/lib.rt:146:1
 returns-2 : tie.Need-returns-2
-returns-2 c = search needs
+returns-2 c =
+    let s = c .before .before .before .before .before .before .before .before .before .before .before .before in
+    let p = s .args .pack .now in
+    gave-is (pack-passed p (called (s .args .items .now) (s .args .values .now) (s .args .result-items .now) (s .args .result-values .now) (s .args .op) (s .args .count) (s .args .a ∷ s .args .b ∷ s .args .c ∷ [])) (sym (c .before .before .before .before .before .before .before .before .check .ensures) ∙ ap (λ (r : Checked). checked r (decoded format1 p)) (c .before .before .before .before .before .before .enum-told .given .1))) (c .before .before .before .call-checked .ensures)
 
 pub call-spec : {M : Type 1} → statement M
 call-spec =

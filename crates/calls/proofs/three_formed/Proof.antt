@@ -23,7 +23,7 @@ use Rattle.calls.proofs.three_formed.Tie as tie
 returns : tie.Need-returns
 returns c =
     let s = c .before .before in
-    sym (unlike-long (s .args .total) (s .args .definitions) (s .args .items .now) (s .args .values .now) _ (c .if1 .taken))
+    sym (unlike-long (s .args .total) (s .args .definitions) (s .args .items .now) (s .args .values .now) (s .args .a ∷ s .args .b ∷ s .args .c ∷ []) (c .if1 .taken))
 
 is-formed-requires : tie.Need-is-formed-requires
 is-formed-requires c κs = search needs

@@ -10,7 +10,7 @@ use Rattle.pack.specs.Contents.{literalCount}
 use Rattle.pack.specs.Instruction.{Instr, instrOf, push, pushVoid}
 use Rattle.pack.specs.Read.{program, sheetEnd, Standing}
 use Rattle.pack.proofs.Allowed.{allowed}
-use Rattle.pack.proofs.Programs.{next-of, whole, last-of}
+use Rattle.pack.proofs.Programs.{whole, last-of}
 use Rattle.pack.proofs.Steps.{wide-some}
 use Rattle.sheet.specs.Machine.{step, kindPushed}
 use Rattle.sheet.specs.Stack.{stackOf}
@@ -74,7 +74,7 @@ mul-out c =
     let p = s .args .pack .now in
     let l = c .before .before .before .before .before .before .before .before .loop in
     let t : l .at < sheetEnd p (s .args .sheet) = omega (arith, c .before .before .before .before .before .before .before .loop-test .taken, l .inv .2) in
-    let next = next-of p (s .args .sheet) (l .i) (l .at) (l .inv .1) t .1 in
+    let next = c .before .before .before .before .before .before .read-instruction .ensures .each (s .args .sheet) (l .i) (l .inv .1) t in
     omega (arith, next .few)
 
 element-write-out : tie.Need-element-write-out Inv-loop μ-loop
@@ -83,7 +83,7 @@ element-write-out c =
     let p = s .args .pack .now in
     let l = c .before .before .before .before .before .before .before .before .loop in
     let t : l .at < sheetEnd p (s .args .sheet) = omega (arith, c .before .before .before .before .before .before .before .loop-test .taken, l .inv .2) in
-    let next = next-of p (s .args .sheet) (l .i) (l .at) (l .inv .1) t .1 in
+    let next = c .before .before .before .before .before .before .read-instruction .ensures .each (s .args .sheet) (l .i) (l .inv .1) t in
     omega (arith, next .few)
 
 mul-out-2 : tie.Need-mul-out-2 Inv-loop μ-loop
@@ -92,7 +92,7 @@ mul-out-2 c =
     let p = s .args .pack .now in
     let l = c .before .before .before .before .before .before .before .before .loop in
     let t : l .at < sheetEnd p (s .args .sheet) = omega (arith, c .before .before .before .before .before .before .before .loop-test .taken, l .inv .2) in
-    let next = next-of p (s .args .sheet) (l .i) (l .at) (l .inv .1) t .1 in
+    let next = c .before .before .before .before .before .before .read-instruction .ensures .each (s .args .sheet) (l .i) (l .inv .1) t in
     omega (arith, next .few)
 
 add-out : tie.Need-add-out Inv-loop μ-loop
@@ -101,7 +101,7 @@ add-out c =
     let p = s .args .pack .now in
     let l = c .before .before .before .before .before .before .before .before .loop in
     let t : l .at < sheetEnd p (s .args .sheet) = omega (arith, c .before .before .before .before .before .before .before .loop-test .taken, l .inv .2) in
-    let next = next-of p (s .args .sheet) (l .i) (l .at) (l .inv .1) t .1 in
+    let next = c .before .before .before .before .before .before .read-instruction .ensures .each (s .args .sheet) (l .i) (l .inv .1) t in
     omega (arith, next .few)
 
 element-write-out-2 : tie.Need-element-write-out-2 Inv-loop μ-loop
@@ -110,7 +110,7 @@ element-write-out-2 c =
     let p = s .args .pack .now in
     let l = c .before .before .before .before .before .before .before .before .loop in
     let t : l .at < sheetEnd p (s .args .sheet) = omega (arith, c .before .before .before .before .before .before .before .loop-test .taken, l .inv .2) in
-    let next = next-of p (s .args .sheet) (l .i) (l .at) (l .inv .1) t .1 in
+    let next = c .before .before .before .before .before .before .read-instruction .ensures .each (s .args .sheet) (l .i) (l .inv .1) t in
     omega (arith, next .few)
 
 add-at : tie.Need-add-at Inv-loop μ-loop
@@ -119,9 +119,8 @@ add-at c =
     let p = s .args .pack .now in
     let l = c .before .before .before .before .before .before .before .before .loop in
     let t : l .at < sheetEnd p (s .args .sheet) = omega (arith, c .before .before .before .before .before .before .before .loop-test .taken, l .inv .2) in
-    let next = next-of p (s .args .sheet) (l .i) (l .at) (l .inv .1) t .1 in
-    let after = c .before .before .before .before .before .before .read-instruction .ensures .next (s .args .sheet) (l .i) (l .inv .1) t in
-    omega (arith, s .good .0 .0, c .before .before .before .before .before .instruction-width .ensures, after .reach, l .inv .2, l .inv .3)
+    let next = c .before .before .before .before .before .before .read-instruction .ensures .each (s .args .sheet) (l .i) (l .inv .1) t in
+    omega (arith, s .good .0 .0, c .before .before .before .before .before .instruction-width .ensures, next .within, l .inv .2, l .inv .3)
 
 add-i : tie.Need-add-i Inv-loop μ-loop
 add-i c =
@@ -129,7 +128,7 @@ add-i c =
     let p = s .args .pack .now in
     let l = c .before .before .before .before .before .before .before .before .loop in
     let t : l .at < sheetEnd p (s .args .sheet) = omega (arith, c .before .before .before .before .before .before .before .loop-test .taken, l .inv .2) in
-    let next = next-of p (s .args .sheet) (l .i) (l .at) (l .inv .1) t .1 in
+    let next = c .before .before .before .before .before .before .read-instruction .ensures .each (s .args .sheet) (l .i) (l .inv .1) t in
     omega (arith, next .few)
 
 loop-less : tie.Need-loop-less Inv-loop μ-loop
@@ -142,14 +141,14 @@ loop-again c =
     let p = s .args .pack .now in
     let l = c .before .before .before .before .before .before .before .before .loop in
     let t : l .at < sheetEnd p (s .args .sheet) = omega (arith, c .before .before .before .before .before .before .before .loop-test .taken, l .inv .2) in
-    let next = next-of p (s .args .sheet) (l .i) (l .at) (l .inv .1) t .1 in
+    let next = c .before .before .before .before .before .before .read-instruction .ensures .each (s .args .sheet) (l .i) (l .inv .1) t in
     let r = c .before .before .before .before .before .before .read-instruction .ensures in
-    let k = r .kth (s .args .sheet) (l .i) (l .inv .1) t in
+    let k = next .kth in
     let e : gives (kindAt (c .before .step .given .0 .1 .0) ∷ stackOf (kindOn (l .stack)) (c .before .step .given .0 .0)) ≡ step (kindPushed (map kindAt (s .args .kinds))) kindApply (getD (program p (s .args .sheet)) (l .i) (push pushVoid)) (stackOf (kindOn (l .stack)) (l .n)) =
     rw (c .before .step .given .1) at (c .before .before .before .vet-step .ensures .0) ∙ ap (λ (x : Instr). step (kindPushed (map kindAt (s .args .kinds))) kindApply x (stackOf (kindOn (l .stack)) (l .n))) (sym k) in
     let w = (rw (c .before .step .given .1) at (c .before .before .before .vet-step .ensures .1)) in (
       advance (program p (s .args .sheet)) (map kindAt (s .args .kinds)) (l .out) (l .stack) (l .n) (l .i) (c .before .step .given .0 .0) (c .before .step .given .0 .1 .0) (l .inv .0) (next .below) (next .few) (w .0) (w .2) e,
-      rw (c .before .before .before .before .before .instruction-width .ensures) (r .next (s .args .sheet) (l .i) (l .inv .1) t),
+      rw (c .before .before .before .before .before .instruction-width .ensures) (next .next),
       l .inv .2,
       l .inv .3,
     )
@@ -163,9 +162,9 @@ returns c =
     let p = s .args .pack .now in
     let l = c .before .before .before .before .before .before .before .before .loop in
     let t : l .at < sheetEnd p (s .args .sheet) = omega (arith, c .before .before .before .before .before .before .before .loop-test .taken, l .inv .2) in
-    let next = next-of p (s .args .sheet) (l .i) (l .at) (l .inv .1) t .1 in
+    let next = c .before .before .before .before .before .before .read-instruction .ensures .each (s .args .sheet) (l .i) (l .inv .1) t in
     let r = c .before .before .before .before .before .before .read-instruction .ensures in
-    let k = r .kth (s .args .sheet) (l .i) (l .inv .1) t in
+    let k = next .kth in
     let e : refuses (c .before .step2 .given .0 .0) ≡ step (kindPushed (map kindAt (s .args .kinds))) kindApply (getD (program p (s .args .sheet)) (l .i) (push pushVoid)) (stackOf (kindOn (l .stack)) (l .n)) =
     rw (c .before .step2 .given .1) at (c .before .before .before .vet-step .ensures .0) ∙ ap (λ (x : Instr). step (kindPushed (map kindAt (s .args .kinds))) kindApply x (stackOf (kindOn (l .stack)) (l .n))) (sym k) in
     (refused (program p (s .args .sheet)) (map kindAt (s .args .kinds)) (l .out) (l .stack) (l .n) (l .i) (l .inv .0) (c .before .step2 .given .0 .0) (next .below) e, tt, l .inv .0 .out-is)

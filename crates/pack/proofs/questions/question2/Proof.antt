@@ -43,8 +43,9 @@ returns : tie.Need-returns Inv-loop μ-loop
 unfolding J.question2
 returns c =
     let l = c .before .before .before .loop in
-    let below : l .b < bodyCount (now (c .before .before .before .before .before .before .args .p)) = omega arith in
-    sym (and-no-left _ _ (every-fails _ _ (l .b) below (ne-eqb _ _ (λ e. c .if1 .taken (c .before .offset .ensures .0 ∙ e ∙ sym (l .inv .1))))))
+    let p = now (c .before .before .before .before .before .before .args .p) in
+    let below : l .b < bodyCount p = omega arith in
+    sym (and-no-left _ _ (every-fails _ _ (l .b) below (ne-eqb (offset p (l .b)) (place p (l .b)) (λ e. omega arith))))
 
 size-requires : tie.Need-size-requires Inv-loop μ-loop
 size-requires c κs = omega (arith, c .before .before .before .before .before .before .pre)
@@ -63,7 +64,7 @@ unfolding place
 loop-again c =
     let l = c .before .before .before .before .loop in
     let p = now (c .before .before .before .before .before .before .before .args .p) in
-    let ok : eqb (offset p (l .b)) (place p (l .b)) ≡ true = eq-eqb _ _ (sym (c .before .before .offset .ensures .0) ∙ c .before .if1 .left ∙ l .inv .1) in
+    let ok : eqb (offset p (l .b)) (place p (l .b)) ≡ true = eq-eqb (offset p (l .b)) (place p (l .b)) (omega arith) in
     (omega arith, rw (add-one, place) (omega arith), omega arith, every-more _ (l .b) (l .inv .3) ok)
 
 returns-2 : tie.Need-returns-2 Inv-loop μ-loop

@@ -71,7 +71,7 @@ returns-7 : tie.Need-returns-7
 returns-7 c =
     let a = c .before .before .before .before .before .before .before .before .before .args in
     let p = now (a .p) in
-    rw (is-void (a .literals) p (a .at) (c .if7 .taken), le-leb (a .at + 1) (a .end) (omega arith))
+    rw (is-void (a .literals) p (a .at) (omega arith), le-leb (a .at + 1) (a .end) (omega arith))
 
 returns-8 : tie.Need-returns-8
 returns-8 c =
