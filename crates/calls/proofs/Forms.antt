@@ -2,9 +2,9 @@
 use mathlib.Core.Path.{_≡_, refl, sym, ap, _∙_}
 use mathlib.Core.Bool.{Bool, true, false, cond}
 use mathlib.Core.List.{List, [], _∷_, map}
-use Prim.Native.Nat.{ℕ, zero, suc, _+_, _^_, _≤_, _<_}
+use Prim.Native.Nat.{ℕ, zero, suc, _^_, _≤_}
 use native.Mathlib.Omega.{arith}
-use lib.Dec.{ltb, leb, eqb}
+use lib.Dec.{ltb, eqb}
 use lib.IntN.{ℤ}
 use lib.ListN.{length, take, drop, length-append}
 use lib.Pow.{pow-pos}
@@ -21,7 +21,8 @@ use Rattle.ink_value.proofs.Forming.{formed-yes}
 use Rattle.ink_number.specs.Answer.{Answer, gives, refuses}
 use Rattle.list_definitions.specs.Defs.{ListDefinitions}
 use Rattle.native_function_call.specs.Apply.{call}
-use Rattle.calls.specs.Call.{operandsOk, resultsOk, called, onPack}
+use Rattle.calls.specs.Call.{operandsOk, resultsOk, called, castTo, coerced, onPack}
+use Rattle.ink_value.specs.Convert.{cast}
 use Rattle.pack.specs.Bodies.{Pack, decoded}
 use Rattle.pack.specs.Format.{format1}
 use Rattle.pack.specs.Judge.{judge}
@@ -157,3 +158,32 @@ pub operands-are : (is : List ℕ) (vs : List ℤ) (n : ℕ) (a b c x y z : Valu
     → map (valOf is vs) (take n (a ∷ b ∷ c ∷ [])) ≡ take n (valOf is vs x ∷ valOf is vs y ∷ valOf is vs z ∷ [])
 operands-are is vs n a b c x y z k =
     ap (map (valOf is vs)) (sym (kept-take n a b c) ∙ ap (take n) k) ∙ map-take (valOf is vs) n (x ∷ y ∷ z ∷ [])
+
+-- ---- the answers of the conversions
+
+module _ (is : List ℕ) (vs : List ℤ) (oi : List ℕ) (ov : List ℤ) (to : ℕ) (v : Value) (u : ListDefinitions) where
+  pub cast-ill : operandsOk u is vs (v ∷ []) ≡ false → castTo is vs oi ov to v u ≡ refuses 7
+  unfolding castTo
+  cast-ill e = rw (and-no-left _ (resultsOk u oi ov) e)
+
+  pub cast-short : resultsOk u oi ov ≡ false → castTo is vs oi ov to v u ≡ refuses 7
+  unfolding castTo
+  cast-short e = rw (and-no-right (operandsOk u is vs (v ∷ [])) _ e)
+
+  pub cast-goes : operandsOk u is vs (v ∷ []) ≡ true → resultsOk u oi ov ≡ true → castTo is vs oi ov to v u ≡ cast to (valOf is vs v)
+  unfolding castTo
+  cast-goes e f = rw (and-both _ _ e f)
+
+module _ (p is : List ℕ) (vs : List ℤ) (f : Val → Answer Val) (v : Value) where
+  pub coerce-refused : (n : ℕ) → judge format1 p ≡ refuses n → refuses n ≡ onPack format1 p (coerced is vs f v)
+  coerce-refused n e = sym (pack-refused p n (coerced is vs f v) e)
+
+  pub coerce-ill : judge format1 p ≡ gives (decoded format1 p) → operandsOk (definitionsOf (decoded format1 p) format1) is vs (v ∷ []) ≡ false
+      → refuses 7 ≡ onPack format1 p (coerced is vs f v)
+  unfolding coerced
+  coerce-ill j e = sym (pack-passed p (coerced is vs f v) j ∙ rw e)
+
+  pub coerce-goes : judge format1 p ≡ gives (decoded format1 p) → operandsOk (definitionsOf (decoded format1 p) format1) is vs (v ∷ []) ≡ true
+      → f (valOf is vs v) ≡ onPack format1 p (coerced is vs f v)
+  unfolding coerced
+  coerce-goes j e = sym (pack-passed p (coerced is vs f v) j ∙ rw e)

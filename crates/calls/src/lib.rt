@@ -3,19 +3,19 @@ use ink_value::Outcome;
 use ink_value::Value;
 use pack::Checked;
 ghost use mathlib.Core.Path.{_≡_};
-ghost use mathlib.Core.Bool.{Bool, cond};
+ghost use mathlib.Core.Bool.{cond};
 ghost use mathlib.Core.List.{[], _∷_};
 ghost use denote.Ref.{now};
 ghost use Rattle.native_function_call.specs.Lists.{definitionsIn};
 ghost use Rattle.pack.specs.Read.{definitionsOf};
 ghost use Rattle.ink_value.specs.Convert.{cast, coerceBool, coerceInt, coerceFloat};
 ghost use Rattle.ink_value.specs.Value.{placed, allFormed};
-ghost use Rattle.ink_value.specs.Slices.{valIn, Gives};
+ghost use Rattle.ink_value.specs.Slices.{Gives};
 ghost use Rattle.ink_value.specs.declared.Value.the-variants as Is;
 ghost use Rattle.pack.specs.Bodies.{decoded};
 ghost use Rattle.pack.specs.Format.{format1};
 ghost use Rattle.pack.specs.Judge.{Sound};
-ghost use Rattle.calls.specs.Call.{called, castTo, coerced, onPack, PackLists};
+ghost use Rattle.calls.specs.Call.{operandsOk, called, castTo, coerced, onPack, PackLists};
 
 // The most items of a pack, and so the entries that a result may have.
 const ITEM_LIMIT: usize = 256;
@@ -171,5 +171,106 @@ pub fn call(
             result_items,
             result_values,
         ),
+    }
+}
+
+// Question 7 of the operand of a conversion, with a pack that has passed.
+fn operand_formed(pack: &[u8], v: Value, items: &[u16], values: &[i32]) -> bool
+    requires { ⌜ Sound format1 (now pack) ⌝ }
+    ensures { λ r. ⌜ r ≡ operandsOk (definitionsOf (decoded format1 (now (pack .entry))) format1) (now (items .entry)) (now (values .entry)) (v ∷ []) ⌝ }
+{
+    let mut ends = [0u16; 64];
+    let mut defined = [0i32; 256];
+    let read = pack::read::read_definitions(pack, &mut ends, &mut defined);
+    let n = read.definitions;
+    let total = read.items;
+    one_formed(v, items, values, total, n)
+}
+
+// `cast` on a pack that has passed.
+fn cast_checked(
+    pack: &[u8],
+    to: u8,
+    v: Value,
+    items: &[u16],
+    values: &[i32],
+    oi: &mut [u16],
+    ov: &mut [i32],
+) -> Outcome
+    requires { ⌜ Sound format1 (now pack) ⌝ }
+    ensures { λ r. ⌜ Gives (castTo (now (items .entry)) (now (values .entry)) (now (oi .entry)) (now (ov .entry)) to v (definitionsOf (decoded format1 (now (pack .entry))) format1)) r oi ov ⌝ }
+{
+    if !operand_formed(pack, v, items, values) {
+        return Outcome::Refused(7);
+    }
+    if oi.len() < ITEM_LIMIT {
+        return Outcome::Refused(7);
+    }
+    if ov.len() < ITEM_LIMIT {
+        return Outcome::Refused(7);
+    }
+    ink_value::cast(to, v, items, values, oi, ov)
+}
+
+// `Value::cast` to the kind code `to`: codes 0 to 3.
+pub fn cast(
+    pack: &[u8],
+    to: u8,
+    v: Value,
+    items: &[u16],
+    values: &[i32],
+    result_items: &mut [u16],
+    result_values: &mut [i32],
+) -> Outcome
+    ensures { λ r. ⌜ Gives (onPack format1 (now (pack .entry)) (castTo (now (items .entry)) (now (values .entry)) (now («result_items» .entry)) (now («result_values» .entry)) to v)) r «result_items» «result_values» ⌝ }
+{
+    match pack::check(pack) {
+        Checked::Refused(number) => Outcome::Refused(number),
+        Checked::Passed => cast_checked(pack, to, v, items, values, result_items, result_values),
+    }
+}
+
+// `coerce_to_bool`: Bool and Int only, and only Int 1 is true.
+pub fn coerce_to_bool(pack: &[u8], v: Value, items: &[u16], values: &[i32]) -> Outcome
+    ensures { λ r. ⌜ r ≡ placed (onPack format1 (now (pack .entry)) (coerced (now (items .entry)) (now (values .entry)) coerceBool v)) ⌝ }
+{
+    match pack::check(pack) {
+        Checked::Refused(number) => Outcome::Refused(number),
+        Checked::Passed => {
+            if !operand_formed(pack, v, items, values) {
+                return Outcome::Refused(7);
+            }
+            ink_value::coerce_to_bool(v)
+        }
+    }
+}
+
+// `coerce_to_int`: not List or Void.
+pub fn coerce_to_int(pack: &[u8], v: Value, items: &[u16], values: &[i32]) -> Outcome
+    ensures { λ r. ⌜ r ≡ placed (onPack format1 (now (pack .entry)) (coerced (now (items .entry)) (now (values .entry)) coerceInt v)) ⌝ }
+{
+    match pack::check(pack) {
+        Checked::Refused(number) => Outcome::Refused(number),
+        Checked::Passed => {
+            if !operand_formed(pack, v, items, values) {
+                return Outcome::Refused(7);
+            }
+            ink_value::coerce_to_int(v)
+        }
+    }
+}
+
+// `coerce_to_float`: not List or Void.
+pub fn coerce_to_float(pack: &[u8], v: Value, items: &[u16], values: &[i32]) -> Outcome
+    ensures { λ r. ⌜ r ≡ placed (onPack format1 (now (pack .entry)) (coerced (now (items .entry)) (now (values .entry)) coerceFloat v)) ⌝ }
+{
+    match pack::check(pack) {
+        Checked::Refused(number) => Outcome::Refused(number),
+        Checked::Passed => {
+            if !operand_formed(pack, v, items, values) {
+                return Outcome::Refused(7);
+            }
+            ink_value::coerce_to_float(v)
+        }
     }
 }

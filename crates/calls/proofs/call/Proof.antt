@@ -1,24 +1,13 @@
-use mathlib.Core.Path.{_≡_, refl, sym, ap, _∙_, subst}
-use mathlib.Core.List.{List, [], _∷_}
-use Prim.Native.Nat.{ℕ, _≤_}
-use native.Mathlib.Omega.{arith}
-use lib.IntN.{ℤ}
-use lib.ListN.{length, take, length-append}
-use Rattle.ink_number.specs.Answer.{gives, refuses}
-use Rattle.list_definitions.specs.Defs.{ListDefinitions}
-use Rattle.ink_value.specs.Value.{Gave}
-use Rattle.ink_value.specs.declared.Value.{Value}
+use mathlib.Core.Path.{refl, sym, ap, _∙_}
+use mathlib.Core.List.{[], _∷_}
+use Rattle.ink_number.specs.Answer.{refuses}
 use Rattle.ink_value.proofs.Given.{gave-is, gave-plain}
-use Rattle.ink_value.proofs.Reading.{ap2}
-use Rattle.native_function_call.specs.Lists.{definitions}
 use Rattle.pack.specs.Bodies.{decoded}
 use Rattle.pack.specs.Format.{format1}
-use Rattle.pack.specs.Judge.{judge, checked}
-use Rattle.pack.specs.Read.{endsOf, definedOf, definitionsOf}
+use Rattle.pack.specs.Judge.{checked}
 use Rattle.pack.specs.declared.Checked.{Checked}
 use Rattle.pack.proofs.Judged.{passed, turned}
-use Rattle.pack.proofs.Values.{pack-tables}
-use Rattle.calls.specs.Call.{PackLists, called, onPack}
+use Rattle.calls.specs.Call.{called}
 use Rattle.calls.proofs.Forms.{pack-refused, pack-passed}
 use borrow.Author.Needs.{needs}
 use Rattle.calls.proofs.call.Statement.{statement}

@@ -1,37 +1,18 @@
-use mathlib.Core.Path.{_≡_, refl, sym, ap, _∙_, subst}
+use mathlib.Core.Path.{_≡_, sym, ap}
 use mathlib.Core.List.{List, [], _∷_}
-use Prim.Native.Nat.{ℕ, _≤_}
+use Prim.Native.Nat.{ℕ}
 use lib.IntN.{ℤ}
-use lib.ListN.{length, take, length-append}
-use Rattle.ink_number.specs.Answer.{gives, refuses}
-use Rattle.list_definitions.specs.Defs.{ListDefinitions}
-use Rattle.ink_value.specs.Value.{Gave}
+use lib.ListN.{take}
 use Rattle.ink_value.proofs.Reading.{ap2}
 use Rattle.pack.specs.Bodies.{decoded}
-use Rattle.pack.specs.Judge.{judge, checked}
 use Rattle.pack.specs.Read.{endsOf, definedOf, definitionsOf}
-use Rattle.pack.specs.declared.Checked.{Checked}
-use Rattle.pack.proofs.Judged.{passed, turned}
 use Rattle.pack.proofs.Values.{pack-tables}
-use Rattle.calls.specs.Call.{PackLists, called, onPack}
+use Rattle.calls.specs.Call.{called}
 use Rattle.calls.proofs.Forms.{ends-front, ends-fit, ends-count, defined-front, defined-fit, defined-count}
-use mathlib.Core.Path.{_≡_, refl, sym, ap, _∙_}
-use mathlib.Core.Bool.{true, false}
-use mathlib.Core.List.{List, [], _∷_, map}
-use Prim.Native.Nat.{ℕ, _<_, _≤_}
 use native.Mathlib.Omega.{arith}
-use lib.ListN.{length, take}
-use borrow.Author.Tests.{not-true, not-false, le-leb, lt-leb}
-use Rattle.ink_number.specs.Answer.{refuses}
-use Rattle.ink_list.proofs.Every.{and-both, and-no-left, and-no-right}
-use Rattle.ink_value.specs.Value.{valOf}
-use Rattle.ink_value.specs.declared.Value.{Value}
-use Rattle.ink_value.proofs.Reading.{ap3}
-use Rattle.ink_value.proofs.Given.{gave-is, gave-plain}
+use Rattle.ink_value.proofs.Given.{gave-is}
 use Rattle.native_function_call.specs.Lists.{definitions}
-use Rattle.native_function_call.specs.Apply.{call}
 use Rattle.pack.specs.Format.{format1}
-use Rattle.calls.specs.Call.{operandsOk, resultsOk}
 use borrow.Author.Needs.{needs}
 use Rattle.calls.proofs.call_checked.Statement.{statement}
 use Rattle.calls.proofs.call_checked.Tie as tie

@@ -1,20 +1,17 @@
 use mathlib.Core.Path.{_≡_, refl, sym, ap, _∙_}
-use mathlib.Core.Bool.{true, false}
-use mathlib.Core.List.{List, [], _∷_, map}
-use Prim.Native.Nat.{ℕ, _<_, _≤_}
+use mathlib.Core.List.{[], _∷_}
 use native.Mathlib.Omega.{arith}
 use lib.ListN.{length, take}
 use borrow.Author.Tests.{not-true, not-false, le-leb, lt-leb}
 use Rattle.ink_number.specs.Answer.{refuses}
 use Rattle.ink_list.proofs.Every.{and-both, and-no-left, and-no-right}
-use Rattle.ink_value.specs.Value.{valOf}
 use Rattle.ink_value.specs.declared.Value.{Value}
 use Rattle.ink_value.proofs.Reading.{ap3}
 use Rattle.ink_value.proofs.Given.{gave-is, gave-plain}
 use Rattle.native_function_call.specs.Lists.{definitions}
 use Rattle.native_function_call.specs.Apply.{call}
 use Rattle.pack.specs.Format.{format1}
-use Rattle.calls.specs.Call.{operandsOk, resultsOk}
+use Rattle.calls.specs.Call.{operandsOk}
 use Rattle.calls.proofs.Forms.{kept, kept-all, each-of, ill-operands, short-results, goes-on, operands-are}
 use borrow.Author.Needs.{needs}
 use Rattle.calls.proofs.call_with.Statement.{statement}
@@ -79,9 +76,10 @@ returns-3 c =
 
 apply-requires : tie.Need-apply-requires
 apply-requires c κs =
-    let s = c .before .before .before .before .before .before .before .before .before .before .before .before in
-    (record { tables = s .pre .tables; few = s .pre .few; within = s .pre .within; some = omega arith; small = omega arith; items-room = c .before .before .before .if2 .left; values-room = c .before .before .if3 .left },
-    each-of (length (s .args .defined .now)) (length (s .args .ends .now)) (s .args .items .now) (s .args .values .now) (format1 .limit) (c .before .before .before .before .before .before .before .before .used .result) (c .before .before .before .before .before .before .before .used2 .result) (c .before .before .before .before .before .before .used3 .result) (s .pre .within) (sym (c .before .before .before .before .before .three-formed .ensures) ∙ not-false _ (c .before .before .before .before .if1 .left)))
+    let s = c .before .before .before .before .before .before .before .before .before .before .before .before in (
+      record { tables = s .pre .tables; few = s .pre .few; within = s .pre .within; some = omega arith; small = omega arith; items-room = c .before .before .before .if2 .left; values-room = c .before .before .if3 .left },
+      each-of (length (s .args .defined .now)) (length (s .args .ends .now)) (s .args .items .now) (s .args .values .now) (format1 .limit) (c .before .before .before .before .before .before .before .before .used .result) (c .before .before .before .before .before .before .before .used2 .result) (c .before .before .before .before .before .before .used3 .result) (s .pre .within) (sym (c .before .before .before .before .before .three-formed .ensures) ∙ not-false _ (c .before .before .before .before .if1 .left)),
+    )
 
 same-length : tie.Need-same-length
 same-length c = search needs

@@ -1,20 +1,6 @@
-use mathlib.Core.Path.{_≡_, refl, sym, ap, _∙_}
-use mathlib.Core.Bool.{true, false}
-use mathlib.Core.List.{List, [], _∷_, map}
-use Prim.Native.Nat.{ℕ, _<_, _≤_}
-use native.Mathlib.Omega.{arith}
-use lib.ListN.{length, take}
-use borrow.Author.Tests.{not-true, not-false, le-leb, lt-leb}
-use Rattle.ink_number.specs.Answer.{refuses}
-use Rattle.ink_list.proofs.Every.{and-both, and-no-left, and-no-right}
-use Rattle.ink_value.specs.Value.{valOf}
-use Rattle.ink_value.specs.declared.Value.{Value}
-use Rattle.ink_value.proofs.Reading.{ap3}
-use Rattle.ink_value.proofs.Given.{gave-is, gave-plain}
+use mathlib.Core.Path.{sym, _∙_}
+use mathlib.Core.List.{[], _∷_}
 use Rattle.native_function_call.specs.Lists.{definitions}
-use Rattle.native_function_call.specs.Apply.{call}
-use Rattle.pack.specs.Format.{format1}
-use Rattle.calls.specs.Call.{operandsOk, resultsOk}
 use Rattle.calls.proofs.Forms.{unlike-long, all-one}
 use borrow.Author.Needs.{needs}
 use Rattle.calls.proofs.one_formed.Statement.{statement}

@@ -1,0 +1,57 @@
+use mathlib.Core.Path.{refl, sym, ap, _∙_}
+use Rattle.ink_number.specs.Answer.{refuses}
+use Rattle.ink_value.proofs.Given.{gave-is, gave-plain}
+use Rattle.pack.specs.Bodies.{decoded}
+use Rattle.pack.specs.Format.{format1}
+use Rattle.pack.specs.Judge.{checked}
+use Rattle.pack.specs.declared.Checked.{Checked}
+use Rattle.pack.proofs.Judged.{passed, turned}
+use Rattle.calls.specs.Call.{castTo}
+use Rattle.calls.proofs.Forms.{pack-refused, pack-passed}
+use borrow.Author.Needs.{needs}
+use Rattle.calls.proofs.cast.Statement.{statement}
+use Rattle.calls.proofs.cast.Tie as tie
+
+check-requires : tie.Need-check-requires
+check-requires c κs = search needs
+
+enum-known-number : tie.Need-enum-known-number
+enum-known-number c = search needs
+
+enum-told : tie.Need-enum-told
+enum-told c = search needs
+
+cast-checked-requires : tie.Need-cast-checked-requires
+cast-checked-requires c κs =
+    passed format1 (c .before .before .before .before .before .before .before .before .args .pack .now) (c .before .before .before .before .check .result) (c .before .before .enum-told .given .1) (c .before .before .before .before .check .ensures)
+
+returns : tie.Need-returns
+returns c =
+    let s = c .before .before .before .before .before .before .before in
+    let p = s .args .pack .now in
+    gave-is (pack-refused p (c .before .number .given .0 .0) (castTo (s .args .items .now) (s .args .values .now) (s .args .result-items .now) (s .args .result-values .now) (s .args .to) (s .args .v)) (turned format1 p (c .before .before .before .check .result) (c .before .number .given .0 .0) (c .before .number .given .1) (c .before .before .before .check .ensures))) (gave-plain (refuses (c .before .number .given .0 .0)) _ _ _ refl refl)
+
+same-length : tie.Need-same-length
+same-length c = search needs
+
+same-length-2 : tie.Need-same-length-2
+same-length-2 c = search needs
+
+returns-2 : tie.Need-returns-2
+returns-2 c =
+    let s = c .before .before .before .before .before .before .before .before .before .before .before .before in
+    let p = s .args .pack .now in
+    gave-is (pack-passed p (castTo (s .args .items .now) (s .args .values .now) (s .args .result-items .now) (s .args .result-values .now) (s .args .to) (s .args .v)) (sym (c .before .before .before .before .before .before .before .before .check .ensures) ∙ ap (λ (r : Checked). checked r (decoded format1 p)) (c .before .before .before .before .before .before .enum-told .given .1))) (c .before .before .before .cast-checked .ensures)
+
+pub cast-spec : {M : Type 1} → statement M
+cast-spec =
+    tie.close
+    (tie.spec
+    check-requires
+    enum-known-number
+    enum-told
+    cast-checked-requires
+    returns
+    same-length
+    same-length-2
+    returns-2)
