@@ -1,0 +1,4 @@
+-- The laws of running.
+pub mod Filling
+pub mod Putting
+pub mod Operating
