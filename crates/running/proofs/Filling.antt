@@ -5,10 +5,10 @@ use mathlib.Core.List.{List, [], _∷_, _++_, append-assoc}
 use Prim.Native.Nat.{ℕ, zero, suc, _+_, _-_, _≤_, _<_}
 use native.Mathlib.Numerals.{add-one}
 use native.Mathlib.Omega.{arith}
-use lib.ListN.{length, take, drop, getD, replicate, length-append, length-drop, length-replicate, List·getD-append, take-append-drop}
+use lib.ListN.{length, take, drop, getD, replicate, length-append, length-drop, length-replicate, List·getD-append, take-append-drop, set, replicate-append-replicate}
 use lib.Seq.{length-take-le, take-at, drop-at, take-append-le, drop-append-le, getD-append-add, getD-take, getD-drop, take-take}
-use Rattle.ink_list.specs.Every.{table}
 use Rattle.ink_list.specs.Filled.{fill}
+use Rattle.ink_list.proofs.Filled.{fill-nothing, length-fill, fill-set}
 use Rattle.ink_value.specs.Value.{part}
 use Rattle.running.specs.Steps.{Outside}
 
@@ -62,3 +62,17 @@ module _ {A : Type 0} (at : ℕ) (xs l : List A) (fits : at + length xs ≤ leng
       ∙ ap (λ (i : ℕ). getD (take at l ++ (xs ++ drop (at + length xs) l)) (i + k) d) (sym front)
       ∙ getD-append-add (take at l) (xs ++ drop (at + length xs) l) k d
       ∙ List·getD-append xs (drop (at + length xs) l) d k h
+
+-- a loop that fills with one value: none, and one more
+module _ {A : Type 0} (from : ℕ) (z : A) (l₀ : List A) where
+  pub same-none : l₀ ≡ fill from (replicate 0 z) l₀
+  same-none = sym (fill-nothing from l₀)
+
+  pub same-long : (k : ℕ) (l : List A) → l ≡ fill from (replicate k z) l₀ → from + k ≤ length l₀ → length l ≡ length l₀
+  same-long k l e h = rw e (length-fill from (replicate k z) l₀ (rw (length-replicate k z) h))
+
+  pub same-more : (k : ℕ) (l : List A) → l ≡ fill from (replicate k z) l₀ → from + k < length l₀ → set l (from + k) z ≡ fill from (replicate (k + 1) z) l₀
+  same-more k l e h =
+      rw (e, ← replicate-append-replicate k 1 z)
+      (subst (λ (i : ℕ). set (fill from (replicate k z) l₀) (from + i) z ≡ fill from (replicate k z ++ (z ∷ [])) l₀) (length-replicate k z)
+      (fill-set from (replicate k z) l₀ z z (rw (length-replicate k z) h)))

@@ -2,3 +2,5 @@
 pub mod Filling
 pub mod Putting
 pub mod Operating
+pub mod Working
+pub mod Clearing

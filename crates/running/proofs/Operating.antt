@@ -7,10 +7,10 @@ use native.Mathlib.Omega.{arith}
 use borrow.Author.Tests.{eq-eqb, ne-eqb}
 use lib.Dec.{eqb, ltb}
 use lib.IntN.{ℤ}
-use lib.ListN.{length, take}
+use lib.ListN.{length, getD, take, List·getD-map}
 use Rattle.ink_number.specs.Answer.{Answer, gives, refuses, ask}
 use Rattle.ink_list.specs.Entries.{Rising}
-use Rattle.ink_value.specs.Val.{Val, Kind, boolK, intK, floatK, listK, voidK, kindAt, kindOf}
+use Rattle.ink_value.specs.Val.{Val, void, Kind, boolK, intK, floatK, listK, voidK, kindAt, kindOf}
 use Rattle.ink_value.specs.Convert.{asInt, entriesOf}
 use Rattle.ink_value.specs.Value.{valOf, codeOfValue, written, Formed, Wf, AllWf}
 use Rattle.ink_value.specs.declared.Value.{Value}
@@ -26,10 +26,13 @@ use Rattle.native_function_call.proofs.Applying.{takes, count-three}
 use Rattle.native_function_call.proofs.Calling.{codes-of, call-gives, call-refuses}
 use Rattle.native_function_call.proofs.Results.{apply-fine}
 use Rattle.pack.specs.Format.{format1}
-use Rattle.sheet.specs.Machine.{stackLimit, topped, stepOp, stepPush}
+use Rattle.pack.specs.Instruction.{Push, Instr, op, push}
+use Rattle.pack.proofs.Values.{pack-tables}
+use Rattle.sheet.specs.Machine.{stackLimit, topped, stepOp, stepPush, step}
 use Rattle.sheet.specs.Stack.{stackOf}
-use Rattle.sheet.proofs.Stack.{op-unknown, op-few, op-one, op-two, op-three, stack-length}
-use Rattle.running.specs.Steps.{ByStep, Answered, StepBy, Steps, Tops, TopsFormed, Picks, startAt, Put, pushed}
+use Rattle.sheet.proofs.Stack.{op-unknown, op-few, op-one, op-two, op-three, stack-length, getD-any}
+use Rattle.running.specs.Steps.{ByStep, Answered, StepBy, Steps, Tops, TopsFormed, Picks, Known, startAt, Put, pushed}
+use Rattle.running.specs.Run.{Inputs}
 use Rattle.running.specs.declared.Step.{Step}
 use Rattle.running.specs.declared.Step.the-variants as St
 use Rattle.running.proofs.Putting.{Plain}
@@ -193,3 +196,29 @@ module _ (u : ListDefinitions) (o n : ℕ) (f : ℕ → Val) (wi : List ℕ) (wv
 
   pub no-operands : (m : ℕ) → 1 ≤ m → operandCount o ≡ m → n < m → Steps n (stepOp (applyOp u) o (stackOf f n)) f (St.No 10) wi wi wv wv
   no-operands m h e l = record { by = record { refused = op-few (applyOp u) f o n m h e l; items-same = refl; values-same = refl } }
+
+-- ---- an instruction
+
+module _ (value : Push → Val) (apply : ℕ → List Val → Answer Val) (n : ℕ) (f : ℕ → Val) (r : Step) (wi wi′ : List ℕ) (wv wv′ : List ℤ) (i : Instr) where
+  pub push-steps : (p : Push) → i ≡ push p → (x : Val) → x ≡ value p → Answered (pushed n x) n r wi wi′ wv wv′
+      → Steps n (step value apply i (stackOf f n)) f r wi wi′ wv wv′
+  unfolding step
+  push-steps p e x q w =
+      steps-of n n _ _ f r wi wi′ wv wv′
+      (push-topped n x f ∙ ap (λ (y : Val). stepPush y (stackOf f n)) q ∙ sym (ap (λ (y : Instr). step value apply y (stackOf f n)) e)) (omega arith) w
+
+  pub op-steps : (o : ℕ) → i ≡ op o → Steps n (stepOp apply o (stackOf f n)) f r wi wi′ wv wv′ → Steps n (step value apply i (stackOf f n)) f r wi wi′ wv wv′
+  unfolding step
+  op-steps o e w = subst (λ (y : Instr). Steps n (step value apply y (stackOf f n)) f r wi wi′ wv wv′) (sym e) w
+
+-- a slot's value
+pub slot-value : (is : List ℕ) (vs : List ℤ) (slots : List Value) (k : ℕ) → k < length slots
+    → valOf is vs (getD slots k (Is.Bool false)) ≡ getD (map (valOf is vs) slots) k void
+slot-value is vs slots k h = ap (valOf is vs) (getD-any slots k (Is.Bool false) Is.Void h) ∙ sym (List·getD-map (valOf is vs) slots k Is.Void)
+
+-- the definitions of a pack that passed
+pub known-of : (p ends : List ℕ) (defined : List ℤ) (slots : List Value) (si : List ℕ) (sv : List ℤ) → Inputs p ends defined slots si sv → Known ends defined
+known-of p ends defined slots si sv g =
+    let t = pack-tables p (g .sound) in
+    rw (g .ends-are, g .defined-are)
+    (record { tables = t .tables; few = omega (arith, t .ends-long, t .ends-few); within = omega (arith, t .defined-long, t .defined-few) })

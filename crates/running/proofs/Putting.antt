@@ -124,7 +124,7 @@ refusal (refuses n) r place wi wv e q s = record { by = record { refused = cc; i
 
 -- ---- a List's result, in the slices lent for it
 
-formed-none : (is : List ℕ) (vs : List ℤ) (v : Value) → startOf v ≡ 0 → lenOf v ≡ 0 → Formed (format1 .limit) is vs v
+pub formed-none : (is : List ℕ) (vs : List ℤ) (v : Value) → startOf v ≡ 0 → lenOf v ≡ 0 → Formed (format1 .limit) is vs v
 formed-none is vs v s n = record { items-in = omega arith; values-in = omega arith; lent = rw (s, n) (record { long = refl; rising = tt }) }
 
 module _ (oi oi′ : List ℕ) (ov ov′ : List ℤ) (hi : format1 .limit ≤ length oi) (hv : format1 .limit ≤ length ov) (r : Outcome) where

@@ -7,7 +7,7 @@ use pack::instruction::Instruction;
 use sheet::STACK_LIMIT;
 ghost use mathlib.Core.Path.{_≡_};
 ghost use mathlib.Core.List.{List, [], _∷_, map};
-ghost use Prim.Native.Nat.{ℕ, _<_, _≤_, _+_};
+ghost use Prim.Native.Nat.{ℕ, _<_, _≤_, _+_, _-_};
 ghost use lib.IntN.{ℤ, pos};
 ghost use lib.ListN.{length, getD, take, replicate};
 ghost use Rattle.ink_list.specs.Entries.{Rising};
@@ -302,4 +302,188 @@ fn run_op(
         work_items,
         work_values,
     )
+}
+
+// An instruction on a stack of n, of which the three topmost are given.
+fn run_step(
+    pack: &[u8],
+    ends: &[u16],
+    defined: &[i32],
+    slots: [Value; 16],
+    slot_items: &[u16],
+    slot_values: &[i32],
+    i: Instruction,
+    n: usize,
+    third: Value,
+    second: Value,
+    top: Value,
+    work_items: &mut [u16],
+    work_values: &mut [i32],
+) -> Step
+    requires { ⌜ Inputs (now pack) (now ends) (now defined) slots (now «slot_items») (now «slot_values») ⌝ }
+    requires { ⌜ Allowed (literalCount (now pack)) (instrOf i) × (n ≤ stackLimit) ⌝ }
+    requires { ⌜ Roomy (now «work_items») (now «work_values») × TopsFormed (now «work_items») (now «work_values») third second top n ⌝ }
+    ensures { λ r. ⌜ ((f : ℕ → Val) → Tops (now («work_items» .entry)) (now («work_values» .entry)) third second top n f
+        → Steps n (step (valuePushed (literalOf (decoded format1 (now (pack .entry)))) (map (valIn «slot_items» «slot_values») slots))
+        (applyOp (definitionsIn ends defined (format1 .limit))) (instrOf i) (stackOf f n)) f r
+        (now («work_items» .entry)) (now («work_items» .exit)) (now («work_values» .entry)) (now («work_values» .exit))) ⌝ }
+{
+    match i {
+        Instruction::Op(op) => run_op(
+            op,
+            n,
+            third,
+            second,
+            top,
+            ends,
+            defined,
+            work_items,
+            work_values,
+        ),
+        Instruction::Bool(b) => push_value(Value::Bool(b), n),
+        Instruction::Int(z) => push_value(Value::Int(z), n),
+        Instruction::Float(b) => push_value(
+            Value::Float(ink_number::convert::float_from_bits(b)),
+            n,
+        ),
+        Instruction::List(l) => push_literal(pack, l as usize, n, work_items, work_values),
+        Instruction::Slot(s) => {
+            let k = s as usize;
+            let v = slots[k];
+            push_slot(v, n, slot_items, slot_values, work_items, work_values)
+        }
+        Instruction::Void => push_value(Value::Void, n),
+    }
+}
+
+// The place k below the top of a stack of n, or 0 where there is none.
+fn below(n: usize, k: usize) -> usize
+    requires { ⌜ (n ≤ stackLimit) × (1 ≤ k) ⌝ }
+    ensures { λ r. ⌜ (k ≤ n → r ≡ n - k) × (r < stackLimit) ⌝ }
+{
+    if k <= n { n - k } else { 0 }
+}
+
+// Keeps the greatest length at a place.
+fn keep_longest(used: &mut [usize], place: usize, len: usize)
+    requires { ⌜ place < length (now used) ⌝ }
+    ensures { λ _. ⌜ Longest (now (used .entry)) (now (used .exit)) place len ⌝ }
+{
+    if used[place] < len {
+        used[place] = len;
+    }
+}
+
+// Zeros the n places from an index on.
+fn zero_items(s: &mut [u16], from: usize, n: usize)
+    requires { ⌜ from + n ≤ length (now s) ⌝ }
+    ensures { λ _. ⌜ now (s .exit) ≡ fill from (replicate n 0) (now (s .entry)) ⌝ }
+{
+    let mut k: usize = 0;
+    while k < n {
+        s[from + k] = 0;
+        k += 1;
+    }
+}
+
+fn zero_values(s: &mut [i32], from: usize, n: usize)
+    requires { ⌜ from + n ≤ length (now s) ⌝ }
+    ensures { λ _. ⌜ now (s .exit) ≡ fill from (replicate n (pos 0)) (now (s .entry)) ⌝ }
+{
+    let mut k: usize = 0;
+    while k < n {
+        s[from + k] = 0;
+        k += 1;
+    }
+}
+
+// Zeros what each place of the stack has used of the work slices.
+fn clear(used: &[usize], work_items: &mut [u16], work_values: &mut [i32])
+    requires { ⌜ (length (now used) ≡ stackLimit) × ((q : ℕ) → getD (now used) q 0 ≤ format1 .limit) ⌝ }
+    requires { ⌜ Roomy (now «work_items») (now «work_values») ⌝ }
+    ensures { λ _. ⌜ (now («work_items» .exit) ≡ cleared 0 (now (used .entry)) stackLimit (now («work_items» .entry)))
+        × (now («work_values» .exit) ≡ cleared (pos 0) (now (used .entry)) stackLimit (now («work_values» .entry))) ⌝ }
+{
+    let mut q: usize = 0;
+    while q < STACK_LIMIT {
+        let n = used[q];
+        let from = q * ITEM_LIMIT;
+        zero_items(work_items, from, n);
+        zero_values(work_values, from, n);
+        q += 1;
+    }
+}
+
+// Works a sheet's instructions in order. A List that is left stands in the work slices.
+fn work(
+    pack: &[u8],
+    ends: &[u16],
+    defined: &[i32],
+    sheet: usize,
+    slots: [Value; 16],
+    slot_items: &[u16],
+    slot_values: &[i32],
+    used: &mut [usize],
+    work_items: &mut [u16],
+    work_values: &mut [i32],
+) -> Ran
+    requires { ⌜ Inputs (now pack) (now ends) (now defined) slots (now «slot_items») (now «slot_values») ⌝ }
+    requires { ⌜ (sheet < sheetCount (now pack)) × (now used ≡ replicate stackLimit 0) ⌝ }
+    requires { ⌜ Roomy (now «work_items») (now «work_values») ⌝ }
+    ensures { λ r. ⌜ Worked (run (definitionsIn ends defined (format1 .limit)) (program (now (pack .entry)) sheet) (literalOf (decoded format1 (now (pack .entry)))) (map (valIn «slot_items» «slot_values») slots) .end) r
+        (now (used .exit)) (now («work_items» .entry)) (now («work_items» .exit)) (now («work_values» .entry)) (now («work_values» .exit)) ⌝ }
+{
+    let span = pack::read::sheet_span(pack, sheet);
+    let end = span.end;
+    let mut at = span.start;
+    let void = Value::Void;
+    let mut stack = [void; STACK_LIMIT];
+    let mut n: usize = 0;
+    let mut i: usize = 0;
+    while at < end {
+        let instruction = pack::instruction::read_instruction(pack, at);
+        let width = pack::instruction::instruction_width(instruction);
+        let p1 = below(n, 1);
+        let p2 = below(n, 2);
+        let p3 = below(n, 3);
+        let top = stack[p1];
+        let second = stack[p2];
+        let third = stack[p3];
+        let step = run_step(
+            pack,
+            ends,
+            defined,
+            slots,
+            slot_items,
+            slot_values,
+            instruction,
+            n,
+            third,
+            second,
+            top,
+            work_items,
+            work_values,
+        );
+        match step {
+            Step::Put { place, value } => {
+                keep_longest(used, place, ink_value::len_of(value));
+                stack[place] = value;
+                n = place + 1;
+                at += width;
+                i += 1;
+            }
+            Step::No(number) => {
+                return Ran::Stopped { number, index: i };
+            }
+        }
+    }
+    if n == 1 {
+        let last = stack[0];
+        Ran::Ended(last)
+    } else {
+        Ran::Stopped {
+            number: 17,
+            index: i,
+        }
+    }
 }
