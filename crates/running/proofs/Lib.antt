@@ -4,3 +4,4 @@ pub mod Putting
 pub mod Operating
 pub mod Working
 pub mod Clearing
+pub mod Ending

@@ -487,3 +487,56 @@ fn work(
         }
     }
 }
+
+// Runs a sheet of a pack that has passed, its definitions read and its slots well formed, in work slices that are zero.
+pub fn run_checked(
+    pack: &[u8],
+    ends: &[u16],
+    defined: &[i32],
+    sheet: usize,
+    slots: [Value; 16],
+    slot_items: &[u16],
+    slot_values: &[i32],
+    work_items: &mut [u16],
+    work_values: &mut [i32],
+    result_items: &mut [u16],
+    result_values: &mut [i32],
+) -> Ran
+    requires { ⌜ Inputs (now pack) (now ends) (now defined) slots (now «slot_items») (now «slot_values») × (sheet < sheetCount (now pack)) ⌝ }
+    requires { ⌜ Memory (now «work_items») (now «work_values») (now «result_items») (now «result_values») ⌝ }
+    ensures { λ r. ⌜ RanTo (runOf (now (pack .entry)) sheet (map (valIn «slot_items» «slot_values») slots)) r
+        (now («result_items» .entry)) (now («result_items» .exit)) (now («result_values» .entry)) (now («result_values» .exit)) ⌝ }
+    ensures { λ _. ⌜ (now («work_items» .exit) ≡ now («work_items» .entry)) × (now («work_values» .exit) ≡ now («work_values» .entry)) ⌝ }
+{
+    let mut used = [0usize; STACK_LIMIT];
+    let ran = work(
+        pack,
+        ends,
+        defined,
+        sheet,
+        slots,
+        slot_items,
+        slot_values,
+        &mut used,
+        work_items,
+        work_values,
+    );
+    match ran {
+        Ran::Ended(v) => {
+            let last = store(
+                v,
+                &work_items[..],
+                &work_values[..],
+                result_items,
+                result_values,
+                0,
+            );
+            clear(&used, work_items, work_values);
+            Ran::Ended(last)
+        }
+        Ran::Stopped { number, index } => {
+            clear(&used, work_items, work_values);
+            Ran::Stopped { number, index }
+        }
+    }
+}
