@@ -1,0 +1,224 @@
+-- An operator on the top of a stack: its operands, and its answer put on the stack below them. Assumes nothing.
+use mathlib.Core.Path.{_≡_, refl, sym, ap, _∙_, subst}
+use mathlib.Core.Bool.{Bool, true, false, cond}
+use mathlib.Core.List.{List, [], _∷_, map}
+use Prim.Native.Nat.{ℕ, zero, suc, _+_, _*_, _-_, _≤_, _<_}
+use native.Mathlib.Omega.{arith}
+use borrow.Author.Tests.{eq-eqb, ne-eqb}
+use lib.Dec.{eqb, ltb}
+use lib.IntN.{ℤ}
+use lib.ListN.{length, getD, take, List·getD-map}
+use Rattle.ink_number.specs.Answer.{Answer, gives, refuses, ask}
+use Rattle.ink_list.specs.Entries.{Rising}
+use Rattle.ink_value.specs.Val.{Val, void, Kind, boolK, intK, floatK, listK, voidK, kindAt, kindOf}
+use Rattle.ink_value.specs.Convert.{asInt, entriesOf}
+use Rattle.ink_value.specs.Value.{valOf, codeOfValue, written, Formed, Wf, AllWf}
+use Rattle.ink_value.specs.declared.Value.{Value}
+use Rattle.ink_value.specs.declared.Value.the-variants as Is
+use Rattle.ink_value.proofs.Reading.{rising-in}
+use Rattle.native_function_call.specs.Kinds.{isList, known, arity, operandCount, kindCall, kindAnswer, KindsGiven}
+use Rattle.native_function_call.specs.Numbers.{arithZ}
+use Rattle.native_function_call.specs.Lists.{ListDefinitions}
+use Rattle.native_function_call.specs.Apply.{ofInt, whole, compute, applyOp, call}
+use Rattle.native_function_call.specs.declared.KindAnswer.{KindAnswer}
+use Rattle.native_function_call.specs.declared.KindAnswer.the-variants as Ans
+use Rattle.native_function_call.proofs.Applying.{takes, count-three}
+use Rattle.native_function_call.proofs.Calling.{codes-of, call-gives, call-refuses}
+use Rattle.native_function_call.proofs.Results.{apply-fine}
+use Rattle.pack.specs.Format.{format1}
+use Rattle.pack.specs.Instruction.{Push, Instr, op, push}
+use Rattle.pack.proofs.Values.{pack-tables}
+use Rattle.sheet.specs.Machine.{stackLimit, topped, stepOp, stepPush, step}
+use Rattle.sheet.specs.Stack.{stackOf}
+use Rattle.sheet.proofs.Stack.{op-unknown, op-few, op-one, op-two, op-three, stack-length, getD-any}
+use Rattle.running.specs.Steps.{ByStep, Answered, StepBy, Steps, Tops, TopsFormed, Picks, Known, startAt, Put, pushed}
+use Rattle.running.specs.Run.{Inputs}
+use Rattle.running.specs.declared.Step.{Step}
+use Rattle.running.specs.declared.Step.the-variants as St
+use Rattle.running.proofs.Putting.{Plain}
+
+-- ---- a result that is no List
+
+int-plain : (a : Answer ℤ) → Plain (ofInt a)
+int-plain (gives z) = tt
+int-plain (refuses r) = tt
+
+whole-plain : (o : ℕ) (vs : List Val) → Plain (whole o vs)
+whole-plain o [] = tt
+whole-plain o (a ∷ []) = tt
+whole-plain o (a ∷ b ∷ []) = int-plain (arithZ o (asInt a) (asInt b))
+whole-plain o (a ∷ b ∷ c ∷ vs) = tt
+
+compute-plain : (u : ListDefinitions) (o : ℕ) (vs : List Val) (k : Kind) → (k ≡ listK → ⊥) → Plain (compute u o vs k)
+unfolding compute
+compute-plain u o vs boolK h = tt
+compute-plain u o vs intK h = whole-plain o vs
+compute-plain u o vs floatK h = tt
+compute-plain u o vs listK h = absurd (h refl)
+compute-plain u o vs voidK h = tt
+
+other-kind : (k : ℕ) → (k ≡ 3 → ⊥) → kindAt k ≡ listK → ⊥
+other-kind k h e = go (eqb k 0) (eqb k 1) (eqb k 2) (rw (ne-eqb k 3 h) at e)
+  where
+    go : (r s t : Bool) → cond r boolK (cond s intK (cond t floatK (cond false listK voidK))) ≡ listK → ⊥
+    go true s t q = let z : _≡_ {A = ℕ} 0 1 = cc in omega arith
+    go false true t q = let z : _≡_ {A = ℕ} 0 1 = cc in omega arith
+    go false false true q = let z : _≡_ {A = ℕ} 0 1 = cc in omega arith
+    go false false false q = let z : _≡_ {A = ℕ} 0 1 = cc in omega arith
+
+pub scalar-plain : (u : ListDefinitions) (o : ℕ) (vs : List Val) (k : ℕ) → (k ≡ 3 → ⊥) → Plain (compute u o vs (kindAt k))
+scalar-plain u o vs k h = compute-plain u o vs (kindAt k) (other-kind k h)
+
+-- ---- a call
+
+wf-in : (is : List ℕ) (vs : List ℤ) (v : Value) → Formed (format1 .limit) is vs v → Wf (format1 .limit) (valOf is vs v)
+wf-in is vs (Is.Bool b) f = tt
+wf-in is vs (Is.Int z) f = tt
+wf-in is vs (Is.Float x) f = tt
+wf-in is vs (Is.List o s n) f = rising-in (format1 .limit) is vs (Is.List o s n) f
+wf-in is vs Is.Void f = tt
+
+module _ (is : List ℕ) (vs : List ℤ) (a b c : Value) where
+  -- the operands
+  abbrev pub operandsOf : ℕ → List Val
+  operandsOf n = take n (valOf is vs a ∷ valOf is vs b ∷ valOf is vs c ∷ [])
+
+  all-wf : Formed (format1 .limit) is vs a → Formed (format1 .limit) is vs b → Formed (format1 .limit) is vs c → (n : ℕ) → AllWf (format1 .limit) (operandsOf n)
+  all-wf f g h zero = tt
+  all-wf f g h (suc zero) = (wf-in is vs a f, tt)
+  all-wf f g h (suc (suc zero)) = (wf-in is vs a f, (wf-in is vs b g, tt))
+  all-wf f g h (suc (suc (suc zero))) = (wf-in is vs a f, (wf-in is vs b g, (wf-in is vs c h, tt)))
+  all-wf f g h (suc (suc (suc (suc n)))) = (wf-in is vs a f, (wf-in is vs b g, (wf-in is vs c h, tt)))
+
+  module _ (u : ListDefinitions) (o n : ℕ) where
+    pub call-rises : Formed (format1 .limit) is vs a → Formed (format1 .limit) is vs b → Formed (format1 .limit) is vs c → u .limit ≡ format1 .limit
+        → length (u .defined) ≤ u .limit → Rising (format1 .limit) (written (call u o n (operandsOf n)))
+    unfolding call
+    call-rises f g h e w = go (known o) (eqb n (arity o))
+      where
+        wf : AllWf (u .limit) (operandsOf n)
+        wf = rw e (all-wf f g h n)
+
+        go : (s t : Bool) → Rising (format1 .limit) (written (ask 8 s (ask 10 t (applyOp u o (operandsOf n)))))
+        go true true = rw (← e) (apply-fine u (omega arith) w o (operandsOf n) wf .rising)
+        go true false = tt
+        go false t = tt
+
+    module _ (k : KindAnswer) (g : KindsGiven o n (take n (kindAt (codeOfValue a) ∷ kindAt (codeOfValue b) ∷ kindAt (codeOfValue c) ∷ [])) k) where
+      kinds-are : kindCall o n (map kindOf (operandsOf n)) ≡ kindAnswer k
+      kinds-are = ap (kindCall o n) (codes-of is vs n a b c) ∙ sym (g .answered)
+
+      pub call-computes : (j : ℕ) → k ≡ Ans.Kind j → call u o n (operandsOf n) ≡ compute u o (operandsOf n) (kindAt j)
+      call-computes j e = call-gives u o n (operandsOf n) (kindAt j) (kinds-are ∙ ap kindAnswer e)
+
+      pub call-stops : (q : ℕ) → k ≡ Ans.Refused q → call u o n (operandsOf n) ≡ refuses q
+      call-stops q e = call-refuses u o n (operandsOf n) q (kinds-are ∙ ap kindAnswer e)
+
+  call-applies : (u : ListDefinitions) (o n : ℕ) → 1 ≤ n → operandCount o ≡ n → call u o n (operandsOf n) ≡ applyOp u o (operandsOf n)
+  unfolding call
+  call-applies u o n h e = let t = takes o n h e in rw (t .is-known, t .arity-is, eq-eqb n n refl)
+
+pub answered-is : (a b : Answer Val) (place : ℕ) (r : Step) (wi wi′ : List ℕ) (wv wv′ : List ℤ) → b ≡ a → Answered a place r wi wi′ wv wv′ → Answered b place r wi wi′ wv wv′
+answered-is a b place r wi wi′ wv wv′ e w = subst (λ (x : Answer Val). Answered x place r wi wi′ wv wv′) (sym e) w
+
+-- ---- the stack
+
+-- an answer on the stack below
+pub steps-of : (n place : ℕ) (a : Answer Val) (b : Answer (List Val)) (f : ℕ → Val) (r : Step) (wi wi′ : List ℕ) (wv wv′ : List ℤ)
+    → topped (stackOf f place) a ≡ b → place ≤ n → Answered a place r wi wi′ wv wv′ → Steps n b f r wi wi′ wv wv′
+steps-of n place a b f r wi wi′ wv wv′ e h w = record { by = go r (w .by) }
+  where
+    go : (r : Step) → ByStep a place r wi wi′ wv wv′ → StepBy n b f r wi wi′ wv wv′
+    go (St.Put p v) x =
+        record {
+          value = x .value;
+          given = sym e ∙ ap (topped (stackOf f place)) (x .given) ∙ ap (λ (k : ℕ). gives (x .value ∷ stackOf f k)) (sym (x .at-place));
+          within = omega (arith, x .at-place);
+          depth = omega (arith, x .at-place, x .depth);
+          put = subst (λ (k : ℕ). Put (x .value) (startAt k) v wi wi′ wv wv′) (sym (x .at-place)) (x .put);
+        }
+    go (St.No q) x = record { refused = sym e ∙ ap (topped (stackOf f place)) (x .refused); items-same = x .items-same; values-same = x .values-same }
+
+-- a push
+pub push-topped : (n : ℕ) (x : Val) (f : ℕ → Val) → topped (stackOf f n) (pushed n x) ≡ stepPush x (stackOf f n)
+push-topped n x f = rw (stack-length f n) (go (ltb n stackLimit))
+  where
+    go : (t : Bool) → topped (stackOf f n) (ask 9 t (gives x)) ≡ ask 9 t (gives (x ∷ stackOf f n))
+    go true = refl
+    go false = refl
+
+-- an operator's operands are the topmost
+module _ (wi : List ℕ) (wv : List ℤ) (third second top a b : Value) (f : ℕ → Val) (u : ListDefinitions) (o n : ℕ) (t : Tops wi wv third second top n f) where
+  pub operands-topped : (count : ℕ) → Picks count top second third a → Picks count top top second b → operandCount o ≡ count → 1 ≤ count → count ≤ n
+      → topped (stackOf f (n - count)) (call u o count (operandsOf wi wv a b top count)) ≡ stepOp (applyOp u) o (stackOf f n)
+  operands-topped zero p q e h l = absurd (omega arith)
+  operands-topped (suc zero) p q e h l =
+      let x : valOf wi wv a ≡ f (n - 1) = ap (valOf wi wv) (p .at-one refl) ∙ sym (t .one (omega arith)) in
+      ap (topped (stackOf f (n - 1))) (call-applies wi wv a b top u o 1 h e ∙ ap (λ (y : Val). applyOp u o (y ∷ [])) x)
+      ∙ op-one (applyOp u) f o n e (omega arith)
+  operands-topped (suc (suc zero)) p q e h l =
+      let x : valOf wi wv a ≡ f (n - 2) = ap (valOf wi wv) (p .at-two refl) ∙ sym (t .two (omega arith)) in
+      let y : valOf wi wv b ≡ f (n - 1) = ap (valOf wi wv) (q .at-two refl) ∙ sym (t .one (omega arith)) in
+      ap (topped (stackOf f (n - 2))) (call-applies wi wv a b top u o 2 h e ∙ ap (λ (z : Val). applyOp u o (z ∷ valOf wi wv b ∷ [])) x ∙ ap (λ (z : Val). applyOp u o (f (n - 2) ∷ z ∷ [])) y)
+      ∙ op-two (applyOp u) f o n e (omega arith)
+  operands-topped (suc (suc (suc zero))) p q e h l =
+      let x : valOf wi wv a ≡ f (n - 3) = ap (valOf wi wv) (p .at-three refl) ∙ sym (t .three (omega arith)) in
+      let y : valOf wi wv b ≡ f (n - 2) = ap (valOf wi wv) (q .at-three refl) ∙ sym (t .two (omega arith)) in
+      let w : valOf wi wv top ≡ f (n - 1) = sym (t .one (omega arith)) in
+      ap (topped (stackOf f (n - 3))) (call-applies wi wv a b top u o 3 h e ∙ ap (λ (z : Val). applyOp u o (z ∷ valOf wi wv b ∷ valOf wi wv top ∷ [])) x ∙ ap (λ (z : Val). applyOp u o (f (n - 3) ∷ z ∷ valOf wi wv top ∷ [])) y ∙ ap (λ (z : Val). applyOp u o (f (n - 3) ∷ f (n - 2) ∷ z ∷ [])) w)
+      ∙ op-three (applyOp u) f o n e (omega arith)
+  operands-topped (suc (suc (suc (suc m)))) p q e h l =
+      let z = count-three o (suc (suc (suc (suc m)))) e h (λ k. omega arith) (λ k. omega arith) in
+      absurd (omega arith)
+
+-- and are formed
+pub operands-formed : (wi : List ℕ) (wv : List ℤ) (third second top a b : Value) (n o : ℕ) → TopsFormed wi wv third second top n → (count : ℕ)
+    → Picks count top second third a → Picks count top top second b → operandCount o ≡ count → 1 ≤ count → count ≤ n
+    → Formed (format1 .limit) wi wv a × Formed (format1 .limit) wi wv b × Formed (format1 .limit) wi wv top
+operands-formed wi wv third second top a b n o t zero p q e h l = absurd (omega arith)
+operands-formed wi wv third second top a b n o t (suc zero) p q e h l =
+    let f = t .one (omega arith) in
+    (subst (Formed (format1 .limit) wi wv) (sym (p .at-one refl)) f, subst (Formed (format1 .limit) wi wv) (sym (q .at-one refl)) f, f)
+operands-formed wi wv third second top a b n o t (suc (suc zero)) p q e h l =
+    let f = t .one (omega arith) in
+    (subst (Formed (format1 .limit) wi wv) (sym (p .at-two refl)) (t .two (omega arith)), subst (Formed (format1 .limit) wi wv) (sym (q .at-two refl)) f, f)
+operands-formed wi wv third second top a b n o t (suc (suc (suc zero))) p q e h l =
+    (subst (Formed (format1 .limit) wi wv) (sym (p .at-three refl)) (t .three (omega arith)), subst (Formed (format1 .limit) wi wv) (sym (q .at-three refl)) (t .two (omega arith)), t .one (omega arith))
+operands-formed wi wv third second top a b n o t (suc (suc (suc (suc m)))) p q e h l =
+    let z = count-three o (suc (suc (suc (suc m)))) e h (λ k. omega arith) (λ k. omega arith) in
+    absurd (omega arith)
+
+-- ---- no operator, and too few operands
+
+module _ (u : ListDefinitions) (o n : ℕ) (f : ℕ → Val) (wi : List ℕ) (wv : List ℤ) where
+  pub no-operator : operandCount o ≡ 0 → Steps n (stepOp (applyOp u) o (stackOf f n)) f (St.No 8) wi wi wv wv
+  no-operator e = record { by = record { refused = op-unknown (applyOp u) f o n e; items-same = refl; values-same = refl } }
+
+  pub no-operands : (m : ℕ) → 1 ≤ m → operandCount o ≡ m → n < m → Steps n (stepOp (applyOp u) o (stackOf f n)) f (St.No 10) wi wi wv wv
+  no-operands m h e l = record { by = record { refused = op-few (applyOp u) f o n m h e l; items-same = refl; values-same = refl } }
+
+-- ---- an instruction
+
+module _ (value : Push → Val) (apply : ℕ → List Val → Answer Val) (n : ℕ) (f : ℕ → Val) (r : Step) (wi wi′ : List ℕ) (wv wv′ : List ℤ) (i : Instr) where
+  pub push-steps : (p : Push) → i ≡ push p → (x : Val) → x ≡ value p → Answered (pushed n x) n r wi wi′ wv wv′
+      → Steps n (step value apply i (stackOf f n)) f r wi wi′ wv wv′
+  unfolding step
+  push-steps p e x q w =
+      steps-of n n _ _ f r wi wi′ wv wv′
+      (push-topped n x f ∙ ap (λ (y : Val). stepPush y (stackOf f n)) q ∙ sym (ap (λ (y : Instr). step value apply y (stackOf f n)) e)) (omega arith) w
+
+  pub op-steps : (o : ℕ) → i ≡ op o → Steps n (stepOp apply o (stackOf f n)) f r wi wi′ wv wv′ → Steps n (step value apply i (stackOf f n)) f r wi wi′ wv wv′
+  unfolding step
+  op-steps o e w = subst (λ (y : Instr). Steps n (step value apply y (stackOf f n)) f r wi wi′ wv wv′) (sym e) w
+
+-- a slot's value
+pub slot-value : (is : List ℕ) (vs : List ℤ) (slots : List Value) (k : ℕ) → k < length slots
+    → valOf is vs (getD slots k (Is.Bool false)) ≡ getD (map (valOf is vs) slots) k void
+slot-value is vs slots k h = ap (valOf is vs) (getD-any slots k (Is.Bool false) Is.Void h) ∙ sym (List·getD-map (valOf is vs) slots k Is.Void)
+
+-- the definitions of a pack that passed
+pub known-of : (p ends : List ℕ) (defined : List ℤ) (slots : List Value) (si : List ℕ) (sv : List ℤ) → Inputs p ends defined slots si sv → Known ends defined
+known-of p ends defined slots si sv g =
+    let t = pack-tables p (g .sound) in
+    rw (g .ends-are, g .defined-are)
+    (record { tables = t .tables; few = omega (arith, t .ends-long, t .ends-few); within = omega (arith, t .defined-long, t .defined-few) })

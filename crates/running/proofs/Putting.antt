@@ -1,0 +1,149 @@
+-- Values put at a place of two slices, and pushes: what each leaves is what the definitions say. Assumes nothing.
+use mathlib.Core.Path.{_≡_, refl, sym, ap, _∙_, subst}
+use mathlib.Core.List.{List, []}
+use Prim.Native.Nat.{ℕ, _+_, _*_, _-_, _≤_, _<_}
+use native.Mathlib.Omega.{arith}
+use borrow.Author.Tests.{lt-ltb, le-ltb}
+use lib.IntN.{ℤ}
+use lib.ListN.{length, take, drop}
+use lib.Seq.{sets, sets-eq}
+use Rattle.ink_number.specs.Answer.{Answer, gives, refuses}
+use Rattle.ink_list.specs.Entries.{Entry, entries, items, values, Rising, Copied}
+use Rattle.ink_list.specs.Filled.{fill}
+use Rattle.ink_list.proofs.Filled.{fill-nothing}
+use Rattle.ink_list.proofs.Rests.{items-entries, values-entries}
+use Rattle.ink_value.specs.Val.{Val, bool, int, float, list, void}
+use Rattle.ink_value.specs.Convert.{entriesOf}
+use Rattle.ink_value.specs.Value.{valOf, part, codeOfValue, startOf, lenOf, setIn, held, placed, placedVal, written, outcomeOf, Formed, Gave}
+use Rattle.ink_value.specs.declared.Value.{Value}
+use Rattle.ink_value.specs.declared.Value.the-variants as Is
+use Rattle.ink_value.specs.declared.Outcome.{Outcome}
+use Rattle.ink_value.specs.declared.Outcome.the-variants as Out
+use Rattle.ink_value.proofs.Reading.{length-part, lends, list-in, len-in, entries-in, rising-in}
+use Rattle.ink_value.proofs.Results.{read-back, formed-back}
+use Rattle.pack.specs.Format.{format1}
+use Rattle.pack.specs.Read.{Stored}
+use Rattle.sheet.specs.Machine.{stackLimit}
+use Rattle.running.specs.Run.{workLimit}
+use Rattle.running.specs.Steps.{placedAt, Put, startAt, Answered, pushed}
+use Rattle.running.specs.declared.Step.{Step}
+use Rattle.running.specs.declared.Step.the-variants as St
+
+-- a place of the stack has room for a list
+pub place-fits : (place n : ℕ) → place < stackLimit → n ≤ format1 .limit → startAt place + n ≤ workLimit format1
+place-fits place n h k = omega arith
+
+-- ---- what is put
+
+-- a value without entries
+put-none : (x : Val) (at : ℕ) (r : Value) (oi : List ℕ) (ov : List ℤ) → entriesOf x ≡ [] → r ≡ placedAt at x → Put x at r oi oi ov ov
+put-none x at r oi ov e q =
+    record {
+      value-is = q;
+      items-in = sym (ap (λ (es : List Entry). fill at (items es) oi) e ∙ fill-nothing at oi);
+      values-in = sym (ap (λ (es : List Entry). fill at (values es) ov) e ∙ fill-nothing at ov);
+      rising = subst (Rising (format1 .limit)) (sym e) tt;
+    }
+
+pub put-plain : (at : ℕ) (is : List ℕ) (vs : List ℤ) (v : Value) (oi : List ℕ) (ov : List ℤ) → (codeOfValue v ≡ 3 → ⊥) → Put (valOf is vs v) at v oi oi ov ov
+put-plain at is vs (Is.Bool b) oi ov h = put-none (bool b) at (Is.Bool b) oi ov refl refl
+put-plain at is vs (Is.Int z) oi ov h = put-none (int z) at (Is.Int z) oi ov refl refl
+put-plain at is vs (Is.Float x) oi ov h = put-none (float x) at (Is.Float x) oi ov refl refl
+put-plain at is vs (Is.List o s n) oi ov h = absurd (h refl)
+put-plain at is vs Is.Void oi ov h = put-none void at Is.Void oi ov refl refl
+
+pub put-literal : (o to count : ℕ) (es : List Entry) (r : Value) (oi oi′ : List ℕ) (ov ov′ : List ℤ) → Stored es to count oi oi′ ov ov′
+    → Rising (format1 .limit) es → r ≡ Is.List o to count → Put (list o es) to r oi oi′ ov ov′
+put-literal o to count es r oi oi′ ov ov′ w up q =
+    record { value-is = q ∙ ap (Is.List o to) (w .counted); items-in = w .items-in; values-in = w .values-in; rising = up }
+
+-- a list that is copied from its slices
+module _ (is : List ℕ) (vs : List ℤ) (v : Value) (f : Formed (format1 .limit) is vs v) (i n to : ℕ) (p : i ≡ startOf v) (q : n ≡ lenOf v)
+    (oi oi′ : List ℕ) (ov ov′ : List ℤ) (hi : to + lenOf v ≤ length oi) (hv : to + lenOf v ≤ length ov) (m : ℕ)
+    (w : Copied (take (i + n - i) (drop i is)) (take (i + n - i) (drop i vs)) to m oi oi′ ov ov′) where
+  items-are : part (startOf v) (lenOf v) is ≡ items (entriesOf (valOf is vs v))
+  items-are = sym (ap items (entries-in is vs v) ∙ items-entries (part (startOf v) (lenOf v) is) (part (startOf v) (lenOf v) vs) (f .lent .long))
+
+  values-are : part (startOf v) (lenOf v) vs ≡ values (entriesOf (valOf is vs v))
+  values-are = sym (ap values (entries-in is vs v) ∙ values-entries (part (startOf v) (lenOf v) is) (part (startOf v) (lenOf v) vs) (f .lent .long))
+
+  filled : {A : Type 0} (xs o : List A) → to + length xs ≤ length o → sets o to xs ≡ fill to xs o
+  unfolding fill
+  filled xs o h = sets-eq xs o to h
+
+  pub put-copied : (o : ℕ) (r : Value) → o ≡ setIn v → codeOfValue v ≡ 3 → r ≡ Is.List o to n → Put (valOf is vs v) to r oi oi′ ov ov′
+  put-copied o r s k e =
+      record {
+        value-is = e ∙ ap (λ (x : ℕ). Is.List x to n) s ∙ ap (Is.List (setIn v) to) (q ∙ sym (len-in (format1 .limit) is vs v f))
+            ∙ ap (placedAt to) (sym (list-in is vs v k));
+        items-in = w .items-in ∙ ap (sets oi to) (lends is i n v p q)
+            ∙ filled (part (startOf v) (lenOf v) is) oi (omega (arith, hi, length-part (startOf v) (lenOf v) is (f .items-in)))
+            ∙ ap (λ (l : List ℕ). fill to l oi) items-are;
+        values-in = w .values-in ∙ ap (sets ov to) (lends vs i n v p q)
+            ∙ filled (part (startOf v) (lenOf v) vs) ov (omega (arith, hv, length-part (startOf v) (lenOf v) vs (f .values-in)))
+            ∙ ap (λ (l : List ℤ). fill to l ov) values-are;
+        rising = rising-in (format1 .limit) is vs v f;
+      }
+
+-- ---- pushes
+
+module _ (n : ℕ) (x : Val) (wi wi′ : List ℕ) (wv wv′ : List ℤ) where
+  pub push-put : (v : Value) → n < stackLimit → Put x (startAt n) v wi wi′ wv wv′ → Answered (pushed n x) n (St.Put n v) wi wi′ wv wv′
+  push-put v h w = record { by = record { value = x; given = rw (lt-ltb n stackLimit h); at-place = refl; depth = h; put = w } }
+
+  pub push-no : stackLimit ≤ n → Answered (pushed n x) n (St.No 9) wi wi wv wv
+  push-no h = record { by = record { refused = rw (le-ltb n stackLimit h); items-same = refl; values-same = refl } }
+
+-- ---- results
+
+-- an answer that is no List
+abbrev pub Plain : Answer Val → Type 0
+Plain (gives (bool b)) = Unit {0}
+Plain (gives (int z)) = Unit {0}
+Plain (gives (float x)) = Unit {0}
+Plain (gives (list o es)) = ⊥
+Plain (gives void) = Unit {0}
+Plain (refuses r) = Unit {0}
+
+module _ (place : ℕ) (h : place < stackLimit) (wi : List ℕ) (wv : List ℤ) where
+  plain-put : (x : Val) → Plain (gives x) → (v : Value) → v ≡ placedVal x → Put x (startAt place) v wi wi wv wv
+  plain-put (bool b) g v e = put-none (bool b) (startAt place) v wi wv refl e
+  plain-put (int z) g v e = put-none (int z) (startAt place) v wi wv refl e
+  plain-put (float x) g v e = put-none (float x) (startAt place) v wi wv refl e
+  plain-put (list o es) g v e = absurd g
+  plain-put void g v e = put-none void (startAt place) v wi wv refl e
+
+  pub plain-value : (a : Answer Val) (r : Outcome) → r ≡ placed a → Plain a → (v : Value) → r ≡ Out.Value v → Answered a place (St.Put place v) wi wi wv wv
+  plain-value (gives x) r e g v q =
+      record { by = record { value = x; given = refl; at-place = refl; depth = h; put = plain-put x g v (let s : Out.Value v ≡ Out.Value (placedVal x) = sym q ∙ e in cc) } }
+  plain-value (refuses n) r e g v q = let z : _≡_ {A = ℕ} 0 1 = cc in absurd (omega arith)
+
+pub refusal : (a : Answer Val) (r : Outcome) (place : ℕ) (wi : List ℕ) (wv : List ℤ) → r ≡ placed a → (q : ℕ) → r ≡ Out.Refused q → Answered a place (St.No q) wi wi wv wv
+refusal (gives x) r place wi wv e q s = let z : _≡_ {A = ℕ} 0 1 = cc in absurd (omega arith)
+refusal (refuses n) r place wi wv e q s = record { by = record { refused = cc; items-same = refl; values-same = refl } }
+
+-- ---- a List's result, in the slices lent for it
+
+pub formed-none : (is : List ℕ) (vs : List ℤ) (v : Value) → startOf v ≡ 0 → lenOf v ≡ 0 → Formed (format1 .limit) is vs v
+formed-none is vs v s n = record { items-in = omega arith; values-in = omega arith; lent = rw (s, n) (record { long = refl; rising = tt }) }
+
+module _ (oi oi′ : List ℕ) (ov ov′ : List ℤ) (hi : format1 .limit ≤ length oi) (hv : format1 .limit ≤ length ov) (r : Outcome) where
+  formed-val : (x : Val) → Gave (gives x) r oi oi′ ov ov′ → Rising (format1 .limit) (entriesOf x) → Formed (format1 .limit) oi′ ov′ (placedVal x)
+  formed-val (bool b) g up = formed-none oi′ ov′ (Is.Bool b) refl refl
+  formed-val (int z) g up = formed-none oi′ ov′ (Is.Int z) refl refl
+  formed-val (float x) g up = formed-none oi′ ov′ (Is.Float x) refl refl
+  formed-val (list o es) g up = formed-back (format1 .limit) o es r oi oi′ ov ov′ g up hi hv
+  formed-val void g up = formed-none oi′ ov′ Is.Void refl refl
+
+  pub formed-result : (a : Answer Val) → Gave a r oi oi′ ov ov′ → Rising (format1 .limit) (written a) → (v : Value) → r ≡ Out.Value v → Formed (format1 .limit) oi′ ov′ v
+  formed-result (gives x) g up v q =
+      let s : placedVal x ≡ v = cc in
+      subst (Formed (format1 .limit) oi′ ov′) s (formed-val x g up)
+  formed-result (refuses n) g up v q = let z : _≡_ {A = ℕ} 0 1 = cc in absurd (omega arith)
+
+  pub result-read : (a : Answer Val) → Gave a r oi oi′ ov ov′ → (v : Value) → r ≡ Out.Value v → a ≡ gives (valOf oi′ ov′ v)
+  result-read a g v q = sym (read-back a r oi oi′ ov ov′ g) ∙ ap (outcomeOf oi′ ov′) q
+
+pub result-put : (a : Answer Val) (x : Val) (place : ℕ) (v : Value) (wi wi′ : List ℕ) (wv wv′ : List ℤ) → place < stackLimit → a ≡ gives x
+    → Put x (startAt place) v wi wi′ wv wv′ → Answered a place (St.Put place v) wi wi′ wv wv′
+result-put a x place v wi wi′ wv wv′ h e w = record { by = record { value = x; given = e; at-place = refl; depth = h; put = w } }

@@ -1,0 +1,69 @@
+use Rattle.pack.specs.Bodies.{decoded}
+use Rattle.pack.specs.Read.{literalOf}
+use mathlib.Core.List.{[]}
+use mathlib.Core.Path.{_≡_, refl, sym, ap, _∙_, subst}
+use Prim.Native.Nat.{ℕ, _+_, _*_, _-_, _≤_, _<_}
+use native.Mathlib.Omega.{arith}
+use Rattle.pack.specs.Contents.{literalCount}
+use Rattle.pack.specs.Format.{format1}
+use Rattle.pack.proofs.Listed.{literal-formed}
+use Rattle.pack.proofs.Values.{pack-tables}
+use Rattle.ink_list.proofs.Laws.{rising-limit}
+use Rattle.ink_value.specs.declared.Value.the-variants as Is
+use Rattle.running.proofs.Putting.{place-fits, put-literal, push-put, push-no}
+use borrow.Author.Needs.{needs}
+use Rattle.running.proofs.push_literal.Statement.{statement}
+use Rattle.running.proofs.push_literal.Tie as tie
+use Rattle.running.proofs.push_literal.Reads as reads
+use Rattle.running.proofs.push_literal.Lts as lts
+use Rattle.pack.proofs.read.literal_origins.Reads as literal-origins-reads
+use Rattle.pack.proofs.read.read_literal.Reads as read-literal-reads
+
+-- src/lib.rt:122:9
+returns : tie.Need-returns
+returns c =
+    push-no _ _ _ [] _ [] (c .if1 .taken)
+
+-- src/lib.rt:124:14
+mul-to : tie.Need-mul-to
+mul-to c = search needs
+
+-- src/lib.rt:125:9
+literal-origins-requires : tie.Need-literal-origins-requires
+literal-origins-requires c κs = search needs
+
+-- src/lib.rt:126:9
+read-literal-requires : tie.Need-read-literal-requires
+read-literal-requires c κs =
+    let s = c .before .before .before .before .before .before in
+    let f = literal-formed (s .args .pack .now) (s .pre .0) (s .args .l) (s .pre .1 .0) in
+    let g = place-fits (s .args .n) _ (omega (arith, c .before .before .before .if1 .left)) (f .few) in
+    (s .pre .0, (s .pre .1 .0, (omega (arith, g, s .pre .1 .1 .items-room), omega (arith, g, s .pre .1 .1 .values-room))))
+
+-- src/lib.rt:108:1
+same-length : tie.Need-same-length
+same-length c = search needs
+
+-- src/lib.rt:108:1
+same-length-2 : tie.Need-same-length-2
+same-length-2 c = search needs
+
+-- src/lib.rt:108:1
+returns-2 : tie.Need-returns-2
+returns-2 c =
+    let s = c .before .before .before .before .before .before .before .before .before .before in
+    let f = literal-formed (s .args .pack .now) (s .pre .0) (s .args .l) (s .pre .1 .0) in
+    let t = pack-tables (s .args .pack .now) (s .pre .0) in
+    push-put _ _ _ _ _ _ _ (omega (arith, c .before .before .before .before .before .before .before .if1 .left)) (put-literal _ _ _ _ _ _ _ _ _ (c .before .before .before .read-literal .ensures) (rising-limit 0 _ _ (literalOf (decoded format1 (s .args .pack .now)) (s .args .l) .entries) (t .defined-few) (f .rising)) (ap (λ (o : ℕ). Is.List o (s .args .n * format1 .limit) (c .before .before .before .read-literal .result)) (c .before .before .before .before .before .before .literal-origins .ensures)))
+
+pub push-literal-spec : {M : Type 1} → statement M
+push-literal-spec =
+    tie.close
+    (tie.spec
+    returns
+    mul-to
+    literal-origins-requires
+    read-literal-requires
+    same-length
+    same-length-2
+    returns-2)

@@ -1,0 +1,135 @@
+use mathlib.Core.Path.{_≡_, refl, sym, ap, _∙_, subst}
+use Prim.Native.Nat.{ℕ, _+_, _*_, _-_, _≤_, _<_}
+use native.Mathlib.Omega.{arith}
+use mathlib.Core.List.{map}
+use lib.IntN.{pos}
+use lib.ListN.{length}
+use Rattle.ink_value.specs.Value.{valOf, lenOf}
+use Rattle.ink_value.proofs.Reading.{few-in}
+use Rattle.native_function_call.specs.Lists.{definitions}
+use Rattle.pack.specs.Bodies.{decoded}
+use Rattle.pack.specs.Format.{format1}
+use Rattle.pack.specs.Read.{literalOf, program}
+use Rattle.sheet.specs.Machine.{run}
+use Rattle.running.specs.Steps.{endOf, EndFormed, Roomy}
+use Rattle.running.specs.declared.Ran.{Ran}
+use Rattle.running.proofs.Ending.{ran-value, ran-stopped, same-run, roomy-after, items-back, values-back}
+use borrow.Author.Needs.{needs}
+use Rattle.running.proofs.run_checked.Statement.{statement}
+use Rattle.running.proofs.run_checked.Tie as tie
+use Rattle.running.proofs.run_checked.Reads as reads
+use Rattle.running.proofs.run_checked.Lts as lts
+use Rattle.running.proofs.clear.Reads as clear-reads
+use Rattle.running.proofs.store.Reads as store-reads
+use Rattle.running.proofs.work.Reads as work-reads
+
+-- src/lib.rt:520:9
+slice-aggregate-work : tie.Need-slice-aggregate-work
+slice-aggregate-work c = search needs
+
+-- src/lib.rt:512:9
+work-requires : tie.Need-work-requires
+work-requires c κs =
+    let s = c .before .before .before .before .before .before .before .before in
+    (s .pre .0 .0, ((s .pre .0 .1, refl), record { items-room = s .pre .1 .items-room; values-room = s .pre .1 .values-room }))
+
+-- src/lib.rt:525:20
+enum-known-ran : tie.Need-enum-known-ran
+enum-known-ran c = search needs
+
+-- src/lib.rt:526:17
+store-requires : tie.Need-store-requires
+store-requires c κs =
+    let s = c .before .before .before .before .before .before .before .before .before .before .before .before .before .before .before .before .before .before .before .before in
+    let w = c .before .before .before .before .before .before .before .before .before .before .before .work .ensures in
+    let f = rw (c .before .before .before .before .before .ran .given .1) at (w .end-formed) in
+    let n = few-in (format1 .limit) _ _ _ f in
+    (f, (omega (arith, n, s .pre .1 .result-items), omega (arith, n, s .pre .1 .result-values)))
+
+-- src/lib.rt:534:19
+slice-aggregate-clear : tie.Need-slice-aggregate-clear
+slice-aggregate-clear c = search needs
+
+-- src/lib.rt:534:13
+clear-requires : tie.Need-clear-requires
+clear-requires c κs =
+    let s = c .before .before .before .before .before .before .before .before .before .before .before .before .before .before .before .before .before .before .before .before .before .before .before .before .before .before .before in
+    let w = c .before .before .before .before .before .before .before .before .before .before .before .before .before .before .before .before .before .before .work .ensures in
+    ((omega (arith, c .before .before .before .before .before .before .before .before .before .before .before .before .before .before .before .before .before .before .work .kept .1 .1 .1 .1 .1 .1 .1 .0), w .few), roomy-after _ _ _ _ _ _ _ _ _ (s .pre .1) w)
+
+-- src/lib.rt:537:24
+enum-known-ran-2 : tie.Need-enum-known-ran-2
+enum-known-ran-2 c = search needs
+
+-- src/lib.rt:538:19
+slice-aggregate-clear-2 : tie.Need-slice-aggregate-clear-2
+slice-aggregate-clear-2 c = search needs
+
+-- src/lib.rt:538:13
+clear-requires-2 : tie.Need-clear-requires-2
+clear-requires-2 c κs =
+    let s = c .before .before .before .before .before .before .before .before .before .before .before .before .before .before .before .before .before .before .before in
+    let w = c .before .before .before .before .before .before .before .before .before .before .work .ensures in
+    ((omega arith, w .few), roomy-after _ _ _ _ _ _ _ _ _ (s .pre .1) w)
+
+-- src/lib.rt:492:1
+same-length : tie.Need-same-length
+same-length c = search needs
+
+-- src/lib.rt:492:1
+same-length-2 : tie.Need-same-length-2
+same-length-2 c = search needs
+
+-- src/lib.rt:492:1
+same-length-3 : tie.Need-same-length-3
+same-length-3 c = search needs
+
+-- src/lib.rt:492:1
+same-length-4 : tie.Need-same-length-4
+same-length-4 c = search needs
+
+-- src/lib.rt:492:1
+returns : tie.Need-returns
+returns c =
+    let s = c .before .before .before .before .before .before .before .before .before .before .before .before .before .before .before .before .before .before .before .before .before .before .before .before .before .before .before .before .before .before .before in
+    let w = c .before .before .before .before .before .before .before .before .before .before .before .before .before .before .before .before .before .before .before .before .before .before .work .ensures in
+    let e = rw (c .before .before .before .before .before .before .before .before .before .before .before .before .before .before .before .before .ran .given .1) at (w .end-is) in
+    (ran-value _ _ _ _ _ _ _ (e ∙ same-run _ _ _ _ _ _ (s .pre .0 .0) (s .args .sheet) _) (c .before .before .before .before .before .before .before .before .before .before .store .ensures), (c .before .before .before .clear .ensures .0 ∙ items-back _ _ _ _ _ _ _ _ _ (s .pre .1) w, c .before .before .before .clear .ensures .1 ∙ values-back _ _ _ _ _ _ _ _ _ (s .pre .1) w))
+
+-- src/lib.rt:492:1
+same-length-5 : tie.Need-same-length-5
+same-length-5 c = search needs
+
+-- src/lib.rt:492:1
+same-length-6 : tie.Need-same-length-6
+same-length-6 c = search needs
+
+-- src/lib.rt:492:1
+returns-2 : tie.Need-returns-2
+returns-2 c =
+    let s = c .before .before .before .before .before .before .before .before .before .before .before .before .before .before .before .before .before .before .before .before .before .before .before in
+    let w = c .before .before .before .before .before .before .before .before .before .before .before .before .before .before .work .ensures in
+    let e = rw (c .before .before .before .before .before .before .before .before .ran2 .given .1) at (w .end-is) in
+    (ran-stopped _ _ _ _ _ (e ∙ same-run _ _ _ _ _ _ (s .pre .0 .0) (s .args .sheet) _), (c .before .before .before .clear2 .ensures .0 ∙ items-back _ _ _ _ _ _ _ _ _ (s .pre .1) w, c .before .before .before .clear2 .ensures .1 ∙ values-back _ _ _ _ _ _ _ _ _ (s .pre .1) w))
+
+pub run-checked-spec : {M : Type 1} → statement M
+run-checked-spec =
+    tie.close
+    (tie.spec
+    slice-aggregate-work
+    work-requires
+    enum-known-ran
+    store-requires
+    slice-aggregate-clear
+    clear-requires
+    enum-known-ran-2
+    slice-aggregate-clear-2
+    clear-requires-2
+    same-length
+    same-length-2
+    same-length-3
+    same-length-4
+    returns
+    same-length-5
+    same-length-6
+    returns-2)

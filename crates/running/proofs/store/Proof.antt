@@ -1,0 +1,112 @@
+use mathlib.Core.Path.{_≡_, refl, sym, ap, _∙_, subst}
+use Prim.Native.Nat.{ℕ, _+_, _*_, _-_, _≤_, _<_}
+use native.Mathlib.Omega.{arith}
+use Rattle.running.proofs.Putting.{put-plain, put-copied}
+use borrow.Author.Needs.{needs}
+use Rattle.running.proofs.store.Statement.{statement}
+use Rattle.running.proofs.store.Tie as tie
+use Rattle.running.proofs.store.Reads as reads
+use Rattle.running.proofs.store.Lts as lts
+use Rattle.ink_list.proofs.entries.copy_rest.Reads as copy-rest-reads
+use Rattle.ink_value.proofs.kind.Reads as kind-reads
+use Rattle.ink_value.proofs.len_of.Reads as len-of-reads
+use Rattle.ink_value.proofs.origins_in.Reads as origins-in-reads
+use Rattle.ink_value.proofs.start_of.Reads as start-of-reads
+
+-- src/lib.rt:59:8
+kind-requires : tie.Need-kind-requires
+kind-requires c κs = search needs
+
+-- src/lib.rt:60:9
+returns : tie.Need-returns
+returns c =
+    put-plain _ _ _ _ _ _ (λ e. c .if1 .taken (c .before .kind .ensures .0 ∙ e))
+
+-- src/lib.rt:62:9
+start-of-requires : tie.Need-start-of-requires
+start-of-requires c κs = search needs
+
+-- src/lib.rt:63:9
+len-of-requires : tie.Need-len-of-requires
+len-of-requires c κs = search needs
+
+-- src/lib.rt:64:9
+origins-in-requires : tie.Need-origins-in-requires
+origins-in-requires c κs = search needs
+
+-- src/lib.rt:65:15
+add-end : tie.Need-add-end
+add-end c = search needs
+
+-- src/lib.rt:66:34
+mul-copy-rest : tie.Need-mul-copy-rest
+mul-copy-rest c = search needs
+
+-- src/lib.rt:66:34
+sub-copy-rest : tie.Need-sub-copy-rest
+sub-copy-rest c = search needs
+
+-- src/lib.rt:66:34
+part-copy-rest-start : tie.Need-part-copy-rest-start
+part-copy-rest-start c = search needs
+
+-- src/lib.rt:66:34
+part-copy-rest-end : tie.Need-part-copy-rest-end
+part-copy-rest-end c = search needs
+
+-- src/lib.rt:66:54
+mul-copy-rest-2 : tie.Need-mul-copy-rest-2
+mul-copy-rest-2 c = search needs
+
+-- src/lib.rt:66:54
+sub-copy-rest-2 : tie.Need-sub-copy-rest-2
+sub-copy-rest-2 c = search needs
+
+-- src/lib.rt:66:54
+part-copy-rest-start-2 : tie.Need-part-copy-rest-start-2
+part-copy-rest-start-2 c = search needs
+
+-- src/lib.rt:66:54
+part-copy-rest-end-2 : tie.Need-part-copy-rest-end-2
+part-copy-rest-end-2 c = search needs
+
+-- src/lib.rt:66:5
+copy-rest-requires : tie.Need-copy-rest-requires
+copy-rest-requires c κs = search needs
+
+-- src/lib.rt:47:1
+same-length : tie.Need-same-length
+same-length c = search needs
+
+-- src/lib.rt:47:1
+same-length-2 : tie.Need-same-length-2
+same-length-2 c = search needs
+
+-- src/lib.rt:47:1
+returns-2 : tie.Need-returns-2
+returns-2 c =
+    let s = c .before .before .before .before .before .before .before .before .before .before .before .before .before .before .before in
+    put-copied (s .args .items .now) (s .args .values .now) (s .args .v) (s .pre .0) (c .before .before .before .before .before .before .before .before .before .before .start-of .result) (c .before .before .before .before .before .before .before .before .before .len-of .result) (s .args .to) (c .before .before .before .before .before .before .before .before .before .before .start-of .ensures) (c .before .before .before .before .before .before .before .before .before .len-of .ensures) _ _ _ _ (s .pre .1 .0) (s .pre .1 .1) _ (c .before .before .before .copy-rest .ensures) (c .before .before .before .before .before .before .before .before .origins-in .result) _ (c .before .before .before .before .before .before .before .before .origins-in .ensures) (sym (c .before .before .before .before .before .before .before .before .before .before .before .before .kind .ensures .0) ∙ c .before .before .before .before .before .before .before .before .before .before .before .if1 .left) refl
+
+pub store-spec : {M : Type 1} → statement M
+store-spec =
+    tie.close
+    (tie.spec
+    kind-requires
+    returns
+    start-of-requires
+    len-of-requires
+    origins-in-requires
+    add-end
+    mul-copy-rest
+    sub-copy-rest
+    part-copy-rest-start
+    part-copy-rest-end
+    mul-copy-rest-2
+    sub-copy-rest-2
+    part-copy-rest-start-2
+    part-copy-rest-end-2
+    copy-rest-requires
+    same-length
+    same-length-2
+    returns-2)

@@ -1,0 +1,79 @@
+-- What a run asks of lent memory, what it answers, and what it leaves in the slices. Assumes nothing.
+use mathlib.Core.Path.{_≡_}
+use mathlib.Core.Bool.{Bool, false, _&&_}
+use mathlib.Core.List.{List, []}
+use Prim.Native.Nat.{ℕ, _*_, _≤_, _<_}
+use lib.Dec.{leb, eqb}
+use lib.IntN.{ℤ, pos}
+use lib.ListN.{length, getD, replicate}
+use Rattle.ink_number.specs.Answer.{Answer, gives, refuses}
+use Rattle.ink_list.specs.Entries.{Entry, items, values}
+use Rattle.ink_list.specs.Filled.{over}
+use Rattle.ink_value.specs.Val.{Val}
+use Rattle.ink_value.specs.Convert.{entriesOf}
+use Rattle.ink_value.specs.Value.{placedVal, allFormed, Formed}
+use Rattle.ink_value.specs.declared.Value.{Value}
+use Rattle.ink_value.specs.declared.Value.the-variants as Is
+use Rattle.pack.specs.Bodies.{Pack, decoded}
+use Rattle.pack.specs.Format.{format1}
+use Rattle.pack.specs.Judge.{Sound}
+use Rattle.pack.specs.Read.{endsOf, definedOf, literalOf, program}
+use Rattle.pack.specs.declared.format.Format.{Format}
+use Rattle.sheet.specs.Machine.{End, ended, stopped, stackLimit, run}
+use Rattle.sheet.specs.Whole.{definitionsOf}
+use Rattle.running.specs.declared.Ran.{Ran}
+use Rattle.running.specs.declared.Ran.the-variants as Rn
+
+-- "work slices 16,384": the entries of the list at each place of the stack
+abbrev pub workLimit : Format → ℕ
+workLimit F = stackLimit * F .limit
+
+-- 7, of a run: "Are .. slot .. lists formed as literals with their two slices equally long, result slices at least 256 entries, work slices 16,384"
+unfoldable pub memory : Format → List Value → List ℕ → List ℤ → List ℕ → List ℤ → List ℕ → List ℤ → Pack → Bool
+memory F slots si sv wi wv ri rv d =
+    allFormed (length (definedOf d)) (length (d .definitions)) si sv slots
+    && leb (F .limit) (length ri) && leb (F .limit) (length rv) && leb (workLimit F) (length wi) && leb (workLimit F) (length wv)
+
+-- the answer of each end: a List's entries stand from the start of the result slices
+abbrev pub ranTo : End Val → Ran
+ranTo (ended v) = Rn.Ended (placedVal v)
+ranTo (stopped r k) = Rn.Stopped r k
+
+-- the entries that an end writes
+abbrev pub left : End Val → List Entry
+left (ended v) = entriesOf v
+left (stopped r k) = []
+
+-- "From 8 on, ended or refused, a run leaves the first 16,384 places of its work slices zero and later ones unchanged; before that, all are
+-- untouched."
+abbrev pub workAfter {ℓ} : {A : Type ℓ} → ℕ → A → Answer Pack → List A → List A
+workAfter n zero (gives d) old = over (replicate n zero) old
+workAfter n zero (refuses r) old = old
+
+-- an end is answered, and its entries are written from the start of the two result slices, which are else as they were
+pub record RanTo (e : End Val) (r : Ran) (ri ri′ : List ℕ) (rv rv′ : List ℤ) : Type 0 where
+  pub answered : r ≡ ranTo e
+  pub items-out : ri′ ≡ over (items (left e)) ri
+  pub values-out : rv′ ≡ over (values (left e)) rv
+
+-- ---- a run whose questions 1 to 7 say yes
+
+-- what a run goes by: a pack that passed, its definitions' tables, and slots whose lists stand well formed in their slices
+pub record Inputs (p : List ℕ) (ends : List ℕ) (defined : List ℤ) (slots : List Value) (si : List ℕ) (sv : List ℤ) : Type 0 where
+  pub sound : Sound format1 p
+  pub ends-are : ends ≡ endsOf (decoded format1 p)
+  pub defined-are : defined ≡ definedOf (decoded format1 p)
+  pub slots-formed : (k : ℕ) → k < length slots → Formed (format1 .limit) si sv (getD slots k (Is.Bool false))
+
+-- memory lent for it: work slices long enough and zero where it works, result slices long enough for a List
+pub record Memory (wi : List ℕ) (wv : List ℤ) (ri : List ℕ) (rv : List ℤ) : Type 0 where
+  pub items-room : workLimit format1 ≤ length wi
+  pub values-room : workLimit format1 ≤ length wv
+  pub items-zero : (j : ℕ) → j < workLimit format1 → getD wi j 0 ≡ 0
+  pub values-zero : (j : ℕ) → j < workLimit format1 → getD wv j (pos 0) ≡ pos 0
+  pub result-items : format1 .limit ≤ length ri
+  pub result-values : format1 .limit ≤ length rv
+
+-- the run of a sheet of a pack that passed
+abbrev pub runOf : List ℕ → ℕ → List Val → End Val
+runOf p s slots = run (definitionsOf format1 (decoded format1 p)) (program p s) (literalOf (decoded format1 p)) slots .end
