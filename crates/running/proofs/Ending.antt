@@ -11,7 +11,8 @@ use Rattle.ink_value.specs.Val.{Val, bool, int, float, list, void}
 use Rattle.ink_value.specs.Convert.{entriesOf}
 use Rattle.ink_value.specs.Value.{valOf, placedVal}
 use Rattle.ink_value.specs.declared.Value.{Value}
-use Rattle.native_function_call.specs.Lists.{ListDefinitions, definitions}
+use Rattle.list_definitions.specs.Defs.{ListDefinitions}
+use Rattle.native_function_call.specs.Lists.{definitions}
 use Rattle.pack.specs.Bodies.{decoded}
 use Rattle.pack.specs.Format.{format1}
 use Rattle.pack.specs.Read.{endsOf, literalOf, program}

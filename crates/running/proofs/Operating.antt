@@ -18,7 +18,7 @@ use Rattle.ink_value.specs.declared.Value.the-variants as Is
 use Rattle.ink_value.proofs.Reading.{rising-in}
 use Rattle.native_function_call.specs.Kinds.{isList, known, arity, operandCount, kindCall, kindAnswer, KindsGiven}
 use Rattle.native_function_call.specs.Numbers.{arithZ}
-use Rattle.native_function_call.specs.Lists.{ListDefinitions}
+use Rattle.list_definitions.specs.Defs.{ListDefinitions}
 use Rattle.native_function_call.specs.Apply.{ofInt, whole, compute, applyOp, call}
 use Rattle.native_function_call.specs.declared.KindAnswer.{KindAnswer}
 use Rattle.native_function_call.specs.declared.KindAnswer.the-variants as Ans

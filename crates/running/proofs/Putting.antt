@@ -6,12 +6,11 @@ use native.Mathlib.Omega.{arith}
 use borrow.Author.Tests.{lt-ltb, le-ltb}
 use lib.IntN.{ℤ}
 use lib.ListN.{length, take, drop}
-use lib.Seq.{sets, sets-eq}
 use Rattle.ink_number.specs.Answer.{Answer, gives, refuses}
-use Rattle.ink_list.specs.Entries.{Entry, entries, items, values, Rising, Copied}
+use Rattle.ink_list.specs.Entries as E
+use Rattle.ink_list.specs.Entries.{Entry, entries, items, values, Rising}
 use Rattle.ink_list.specs.Filled.{fill}
 use Rattle.ink_list.proofs.Filled.{fill-nothing}
-use Rattle.ink_list.proofs.Rests.{items-entries, values-entries}
 use Rattle.ink_value.specs.Val.{Val, bool, int, float, list, void}
 use Rattle.ink_value.specs.Convert.{entriesOf}
 use Rattle.ink_value.specs.Value.{valOf, part, codeOfValue, startOf, lenOf, setIn, held, placed, placedVal, written, outcomeOf, Formed, Gave}
@@ -19,7 +18,7 @@ use Rattle.ink_value.specs.declared.Value.{Value}
 use Rattle.ink_value.specs.declared.Value.the-variants as Is
 use Rattle.ink_value.specs.declared.Outcome.{Outcome}
 use Rattle.ink_value.specs.declared.Outcome.the-variants as Out
-use Rattle.ink_value.proofs.Reading.{length-part, lends, list-in, len-in, entries-in, rising-in}
+use Rattle.ink_value.proofs.Reading.{lends-held, list-in, len-in, entries-in, rising-in}
 use Rattle.ink_value.proofs.Results.{read-back, formed-back}
 use Rattle.pack.specs.Format.{format1}
 use Rattle.pack.specs.Read.{Stored}
@@ -60,28 +59,17 @@ put-literal o to count es r oi oi′ ov ov′ w up q =
 -- a list that is copied from its slices
 module _ (is : List ℕ) (vs : List ℤ) (v : Value) (f : Formed (format1 .limit) is vs v) (i n to : ℕ) (p : i ≡ startOf v) (q : n ≡ lenOf v)
     (oi oi′ : List ℕ) (ov ov′ : List ℤ) (hi : to + lenOf v ≤ length oi) (hv : to + lenOf v ≤ length ov) (m : ℕ)
-    (w : Copied (take (i + n - i) (drop i is)) (take (i + n - i) (drop i vs)) to m oi oi′ ov ov′) where
-  items-are : part (startOf v) (lenOf v) is ≡ items (entriesOf (valOf is vs v))
-  items-are = sym (ap items (entries-in is vs v) ∙ items-entries (part (startOf v) (lenOf v) is) (part (startOf v) (lenOf v) vs) (f .lent .long))
-
-  values-are : part (startOf v) (lenOf v) vs ≡ values (entriesOf (valOf is vs v))
-  values-are = sym (ap values (entries-in is vs v) ∙ values-entries (part (startOf v) (lenOf v) is) (part (startOf v) (lenOf v) vs) (f .lent .long))
-
-  filled : {A : Type 0} (xs o : List A) → to + length xs ≤ length o → sets o to xs ≡ fill to xs o
-  unfolding fill
-  filled xs o h = sets-eq xs o to h
+    (w : E.Stored to (entries (take (i + n - i) (drop i is)) (take (i + n - i) (drop i vs))) m oi oi′ ov ov′) where
+  entries-are : entries (take (i + n - i) (drop i is)) (take (i + n - i) (drop i vs)) ≡ entriesOf (valOf is vs v)
+  entries-are = lends-held (format1 .limit) is vs i n v p q ∙ sym (entries-in is vs v)
 
   pub put-copied : (o : ℕ) (r : Value) → o ≡ setIn v → codeOfValue v ≡ 3 → r ≡ Is.List o to n → Put (valOf is vs v) to r oi oi′ ov ov′
   put-copied o r s k e =
       record {
         value-is = e ∙ ap (λ (x : ℕ). Is.List x to n) s ∙ ap (Is.List (setIn v) to) (q ∙ sym (len-in (format1 .limit) is vs v f))
             ∙ ap (placedAt to) (sym (list-in is vs v k));
-        items-in = w .items-in ∙ ap (sets oi to) (lends is i n v p q)
-            ∙ filled (part (startOf v) (lenOf v) is) oi (omega (arith, hi, length-part (startOf v) (lenOf v) is (f .items-in)))
-            ∙ ap (λ (l : List ℕ). fill to l oi) items-are;
-        values-in = w .values-in ∙ ap (sets ov to) (lends vs i n v p q)
-            ∙ filled (part (startOf v) (lenOf v) vs) ov (omega (arith, hv, length-part (startOf v) (lenOf v) vs (f .values-in)))
-            ∙ ap (λ (l : List ℤ). fill to l ov) values-are;
+        items-in = w .items-in ∙ ap (λ (es : List Entry). fill to (items es) oi) entries-are;
+        values-in = w .values-in ∙ ap (λ (es : List Entry). fill to (values es) ov) entries-are;
         rising = rising-in (format1 .limit) is vs v f;
       }
 

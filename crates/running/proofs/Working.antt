@@ -22,13 +22,13 @@ use Rattle.ink_value.specs.Convert.{entriesOf}
 use Rattle.ink_value.specs.Value.{valOf, startOf, lenOf, Formed}
 use Rattle.ink_value.specs.declared.Value.{Value}
 use Rattle.ink_value.specs.declared.Value.the-variants as Is
-use Rattle.native_function_call.specs.Lists.{ListDefinitions}
+use Rattle.list_definitions.specs.Defs.{ListDefinitions}
 use Rattle.native_function_call.specs.Apply.{applyOp}
 use Rattle.pack.specs.Bodies.{Literal, decoded}
 use Rattle.pack.specs.Format.{format1}
 use Rattle.pack.specs.Instruction.{Instr, op, push, pushBool, pushInt, pushFloat, pushList, pushSlot, pushVoid, width}
 use Rattle.pack.specs.Read.{program, sheetEnd, literalOf, Standing, Reads}
-use Rattle.pack.proofs.Programs.{next-of, last-of}
+use Rattle.pack.proofs.Programs.{last-of}
 use Rattle.sheet.specs.Machine.{Run, End, ended, stopped, stackLimit, finish, onward, step, runFrom, valuePushed, run}
 use Rattle.sheet.specs.Stack.{stackOf}
 use Rattle.sheet.proofs.Stack.{stack-put, run-more, run-stop, run-done}
@@ -283,14 +283,14 @@ module _ (p : List ℕ) (s : ℕ) (u : ListDefinitions) (slots : List Val) (wi�
     len-is = ap lenOf (w .put .value-is) ∙ placed-long (startAt m) (w .value)
 
     kth : getD (program p s) i (push pushVoid) ≡ instr
-    kth = r .kth s i (g .standing) more
+    kth = r .each s i (g .standing) more .kth
 
     rest-is : runFrom (valuePushed (literalOf (decoded format1 p)) slots) (applyOp u) i (drop i (program p s)) (stackOf (valueOn wi wv stack) n)
         ≡ onward i (gives (w .value ∷ stackOf (valueOn wi wv stack) m))
         (runFrom (valuePushed (literalOf (decoded format1 p)) slots) (applyOp u) (i + 1) (drop (i + 1) (program p s)))
     rest-is =
         run-more (valuePushed (literalOf (decoded format1 p)) slots) (applyOp u) (program p s) i (stackOf (valueOn wi wv stack) n) _
-        (next-of p s i at (g .standing) more .1 .below) (rw kth (w .given))
+        (r .each s i (g .standing) more .below) (rw kth (w .given))
 
     pub advance : Working p s u slots wi₀ wv₀ used′ wi′ wv′ stack′ (m + 1) (at + width instr) (i + 1)
     advance =
@@ -298,7 +298,7 @@ module _ (p : List ℕ) (s : ℕ) (u : ListDefinitions) (slots : List Val) (wi�
           end-same =
               ap (λ (st : List Val). runFrom (valuePushed (literalOf (decoded format1 p)) slots) (applyOp u) (i + 1) (drop (i + 1) (program p s)) st .end) top-is
               ∙ sym (ap (λ (z : Run Val). z .end) rest-is) ∙ g .end-same;
-          standing = r .next s i (g .standing) more;
+          standing = r .each s i (g .standing) more .next;
           depth = omega (arith, w .depth);
           formed = all-formed;
           ends-in = all-end;
@@ -321,7 +321,7 @@ module _ (p : List ℕ) (s : ℕ) (u : ListDefinitions) (slots : List Val) (wi�
       → stopped q i ≡ run u (program p s) (literalOf (decoded format1 p)) slots .end
   refused instr r more q e =
       sym (run-stop (valuePushed (literalOf (decoded format1 p)) slots) (applyOp u) (program p s) i q (stackOf (valueOn wi wv stack) n)
-      (next-of p s i at (g .standing) more .1 .below) (rw (r .kth s i (g .standing) more) e))
+      (r .each s i (g .standing) more .below) (rw (r .each s i (g .standing) more .kth) e))
       ∙ g .end-same
 
   -- after the last

@@ -17,10 +17,9 @@ use Rattle.ink_value.specs.declared.Value.the-variants as Is
 use Rattle.pack.specs.Bodies.{Pack, decoded}
 use Rattle.pack.specs.Format.{format1}
 use Rattle.pack.specs.Judge.{Sound}
-use Rattle.pack.specs.Read.{endsOf, definedOf, literalOf, program}
+use Rattle.pack.specs.Read.{endsOf, definedOf, literalOf, program, definitionsOf}
 use Rattle.pack.specs.declared.format.Format.{Format}
 use Rattle.sheet.specs.Machine.{End, ended, stopped, stackLimit, run}
-use Rattle.sheet.specs.Whole.{definitionsOf}
 use Rattle.running.specs.declared.Ran.{Ran}
 use Rattle.running.specs.declared.Ran.the-variants as Rn
 
@@ -76,4 +75,4 @@ pub record Memory (wi : List ℕ) (wv : List ℤ) (ri : List ℕ) (rv : List ℤ
 
 -- the run of a sheet of a pack that passed
 abbrev pub runOf : List ℕ → ℕ → List Val → End Val
-runOf p s slots = run (definitionsOf format1 (decoded format1 p)) (program p s) (literalOf (decoded format1 p)) slots .end
+runOf p s slots = run (definitionsOf (decoded format1 p) format1) (program p s) (literalOf (decoded format1 p)) slots .end

@@ -8,7 +8,7 @@ use lib.Dec.{ltb}
 use lib.IntN.{ℤ, pos}
 use lib.ListN.{length, getD, replicate}
 use Rattle.ink_number.specs.Answer.{Answer, gives, refuses, ask}
-use Rattle.ink_list.specs.Defs.{Tables}
+use Rattle.list_definitions.specs.Defs.{Tables}
 use Rattle.ink_list.specs.Entries.{items, values, Rising}
 use Rattle.ink_list.specs.Filled.{fill}
 use Rattle.ink_value.specs.Val.{Val, bool, int, float, list, void}

@@ -13,10 +13,6 @@ use Rattle.running.proofs.Clearing.{cleared-none, cleared-more, cleared
 use borrow.Author.Needs.{needs}
 use Rattle.running.proofs.clear.Statement.{statement}
 use Rattle.running.proofs.clear.Tie as tie
-use Rattle.running.proofs.clear.Reads as reads
-use Rattle.running.proofs.clear.Lts as lts
-use Rattle.running.proofs.zero_items.Reads as zero-items-reads
-use Rattle.running.proofs.zero_values.Reads as zero-values-reads
 
 abbrev Inv-loop : tie.InvT-loop
 Inv-loop used work-items₀ work-values₀ q₀ work-items work-values q =
@@ -26,70 +22,58 @@ abbrev μ-loop : tie.MeasureT-loop
 μ-loop used work-items₀ work-values₀ q₀ work-items work-values q =
     stackLimit - q
 
--- src/lib.rt:408:5
 loop-holds : tie.Need-loop-holds Inv-loop μ-loop
 loop-holds c =
     let s = c .before .before in
     (omega arith, sym (cleared-none {X = ℕ} 0 (s .args .used .now) (s .args .work-items .now)), sym (cleared-none {X = ℤ} (pos 0) (s .args .used .now) (s .args .work-values .now)))
 
--- src/lib.rt:409:17
 mul-n : tie.Need-mul-n Inv-loop μ-loop
 mul-n c = search needs
 
--- src/lib.rt:409:17
 shared-slice-read-n : tie.Need-shared-slice-read-n Inv-loop μ-loop
 shared-slice-read-n c =
     omega (arith, c .before .before .before .before .before .pre .0 .0, c .before .loop-test .taken)
 
--- src/lib.rt:410:20
 mul-from : tie.Need-mul-from Inv-loop μ-loop
 mul-from c =
     omega (arith, c .before .loop-test .taken)
 
--- src/lib.rt:411:9
 zero-items-requires : tie.Need-zero-items-requires Inv-loop μ-loop
 zero-items-requires c κs =
     let s = c .before .before .before .before .before .before in
     let l = c .before .before .before .loop in
     omega (arith, place-fits (l .q) _ (c .before .before .loop-test .taken) (s .pre .0 .1 (l .q)), s .pre .1 .items-room, ap length (l .inv .1), cleared-long {X = ℕ} 0 (s .args .used .now) (s .args .work-items .now) (s .pre .0 .1) (s .pre .1 .items-room) (l .q) (l .inv .0))
 
--- src/lib.rt:412:9
 zero-values-requires : tie.Need-zero-values-requires Inv-loop μ-loop
 zero-values-requires c κs =
     let s = c .before .before .before .before .before .before .before .before .before .before in
     let l = c .before .before .before .before .before .before .before .loop in
     omega (arith, place-fits (l .q) _ (c .before .before .before .before .before .before .loop-test .taken) (s .pre .0 .1 (l .q)), s .pre .1 .values-room, ap length (l .inv .2), cleared-long {X = ℤ} (pos 0) (s .args .used .now) (s .args .work-values .now) (s .pre .0 .1) (s .pre .1 .values-room) (l .q) (l .inv .0))
 
--- src/lib.rt:413:9
 add-q : tie.Need-add-q Inv-loop μ-loop
 add-q c = search needs
 
--- src/lib.rt:408:5
 loop-less : tie.Need-loop-less Inv-loop μ-loop
 loop-less c = search needs
 
--- src/lib.rt:408:5
 loop-again : tie.Need-loop-again Inv-loop μ-loop
 loop-again c =
     let s = c .before .before .before .before .before .before .before .before .before .before .before .before in
     let l = c .before .before .before .before .before .before .before .before .before .loop in
     (omega (arith, c .before .before .before .before .before .before .before .before .loop-test .taken), c .before .before .before .before .before .zero-items .ensures ∙ rw (l .inv .1) (sym (cleared-more {X = ℕ} 0 (s .args .used .now) (s .args .work-items .now) (l .q))), c .before .zero-values .ensures ∙ rw (l .inv .2) (sym (cleared-more {X = ℤ} (pos 0) (s .args .used .now) (s .args .work-values .now) (l .q))))
 
--- src/lib.rt:401:1
 same-length : tie.Need-same-length Inv-loop μ-loop
 same-length c =
     let s = c .before .before .before .before in
     let l = c .before .loop in
     ap length (l .inv .1) ∙ cleared-long {X = ℕ} 0 (s .args .used .now) (s .args .work-items .now) (s .pre .0 .1) (s .pre .1 .items-room) (l .q) (l .inv .0)
 
--- src/lib.rt:401:1
 same-length-2 : tie.Need-same-length-2 Inv-loop μ-loop
 same-length-2 c =
     let s = c .before .before .before .before in
     let l = c .before .loop in
     ap length (l .inv .2) ∙ cleared-long {X = ℤ} (pos 0) (s .args .used .now) (s .args .work-values .now) (s .pre .0 .1) (s .pre .1 .values-room) (l .q) (l .inv .0)
 
--- src/lib.rt:401:1
 returns : tie.Need-returns Inv-loop μ-loop
 returns c =
     let s = c .before .before .before .before in

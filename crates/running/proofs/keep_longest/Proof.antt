@@ -5,35 +5,26 @@ use Rattle.running.proofs.Working.{longest-same, longest-set}
 use borrow.Author.Needs.{needs}
 use Rattle.running.proofs.keep_longest.Statement.{statement}
 use Rattle.running.proofs.keep_longest.Tie as tie
-use Rattle.running.proofs.keep_longest.Reads as reads
-use Rattle.running.proofs.keep_longest.Lts as lts
 
--- src/lib.rt:372:8
 mul-if1 : tie.Need-mul-if1
 mul-if1 c = search needs
 
--- src/lib.rt:372:8
 slice-read-if1 : tie.Need-slice-read-if1
 slice-read-if1 c = search needs
 
--- src/lib.rt:373:9
 mul-used : tie.Need-mul-used
 mul-used c = search needs
 
--- src/lib.rt:373:9
 slice-write-used : tie.Need-slice-write-used
 slice-write-used c = search needs
 
--- src/lib.rt:368:1
 same-length : tie.Need-same-length
 same-length c = search needs
 
--- src/lib.rt:368:1
 returns : tie.Need-returns
 returns c =
     longest-set _ _ _ (c .before .before .pre) (c .if1 .taken)
 
--- src/lib.rt:368:1
 returns-2 : tie.Need-returns-2
 returns-2 c =
     longest-same _ _ _ (c .if1 .left)

@@ -8,42 +8,30 @@ use Rattle.running.proofs.Putting.{place-fits, formed-result, result-re
 use borrow.Author.Needs.{needs}
 use Rattle.running.proofs.list_result.Statement.{statement}
 use Rattle.running.proofs.list_result.Tie as tie
-use Rattle.running.proofs.list_result.Reads as reads
-use Rattle.running.proofs.list_result.Lts as lts
-use Rattle.native_function_call.proofs.list.Reads as list-reads
-use Rattle.running.proofs.store.Reads as store-reads
 
--- src/lib.rt:190:9
 slice-aggregate-list : tie.Need-slice-aggregate-list
 slice-aggregate-list c = search needs
 
--- src/lib.rt:191:9
 slice-aggregate-list-2 : tie.Need-slice-aggregate-list-2
 slice-aggregate-list-2 c = search needs
 
--- src/lib.rt:179:9
 list-requires : tie.Need-list-requires
 list-requires c κs =
     let s = c .before .before .before .before .before .before in
     (record { tables = s .pre .0 .0 .tables; few = s .pre .0 .0 .few; within = s .pre .0 .0 .within; some = omega arith; small = omega arith; items-room = omega arith; values-room = omega arith }, (s .pre .1 .0, (s .pre .0 .2, s .pre .0 .3)))
 
--- src/lib.rt:194:24
 enum-known-outcome : tie.Need-enum-known-outcome
 enum-known-outcome c = search needs
 
--- src/lib.rt:195:22
 mul-to : tie.Need-mul-to
 mul-to c = search needs
 
--- src/lib.rt:196:34
 slice-aggregate-store : tie.Need-slice-aggregate-store
 slice-aggregate-store c = search needs
 
--- src/lib.rt:196:42
 slice-aggregate-store-2 : tie.Need-slice-aggregate-store-2
 slice-aggregate-store-2 c = search needs
 
--- src/lib.rt:196:17
 store-requires : tie.Need-store-requires
 store-requires c κs =
     let s = c .before .before .before .before .before .before .before .before .before .before .before .before .before .before .before .before in
@@ -51,33 +39,26 @@ store-requires c κs =
     let g = place-fits (s .args .place) _ (s .pre .0 .4) (few-in (format1 .limit) _ _ _ f) in
     (f, (omega (arith, g, s .pre .0 .1 .items-room), omega (arith, g, s .pre .0 .1 .values-room)))
 
--- src/lib.rt:199:26
 enum-known-outcome-2 : tie.Need-enum-known-outcome-2
 enum-known-outcome-2 c = search needs
 
--- src/lib.rt:159:1
 same-length : tie.Need-same-length
 same-length c = search needs
 
--- src/lib.rt:159:1
 same-length-2 : tie.Need-same-length-2
 same-length-2 c = search needs
 
--- src/lib.rt:159:1
 returns : tie.Need-returns
 returns c =
     let s = c .before .before .before .before .before .before .before .before .before .before .before .before .before .before .before .before .before .before .before .before in
     result-put _ _ _ _ _ _ _ _ (s .pre .0 .4) (result-read _ _ _ _ (omega arith) (omega arith) _ _ (c .before .before .before .before .before .before .before .before .before .before .before .before .before .list .ensures) _ (c .before .before .before .before .before .before .before .before .before .outcome .given .1)) (c .before .before .before .store .ensures)
 
--- src/lib.rt:159:1
 same-length-3 : tie.Need-same-length-3
 same-length-3 c = search needs
 
--- src/lib.rt:159:1
 same-length-4 : tie.Need-same-length-4
 same-length-4 c = search needs
 
--- src/lib.rt:159:1
 returns-2 : tie.Need-returns-2
 returns-2 c =
     refusal _ _ _ _ _ (c .before .before .before .before .before .list .ensures .answered) _ (c .before .outcome2 .given .1)

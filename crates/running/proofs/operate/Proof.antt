@@ -16,21 +16,13 @@ use Rattle.running.proofs.Operating.{operandsOf, call-rises, call-compu
 use borrow.Author.Needs.{needs}
 use Rattle.running.proofs.operate.Statement.{statement}
 use Rattle.running.proofs.operate.Tie as tie
-use Rattle.running.proofs.operate.Reads as reads
-use Rattle.running.proofs.operate.Lts as lts
-use Rattle.native_function_call.proofs.kinds.Reads as kinds-reads
-use Rattle.running.proofs.list_result.Reads as list-result-reads
-use Rattle.running.proofs.scalar_result.Reads as scalar-result-reads
 
--- src/lib.rt:221:9
 kinds-requires : tie.Need-kinds-requires
 kinds-requires c κs = search needs
 
--- src/lib.rt:223:26
 enum-known-answer : tie.Need-enum-known-answer
 enum-known-answer c = search needs
 
--- src/lib.rt:225:17
 list-result-requires : tie.Need-list-result-requires
 list-result-requires c κs =
     let s = c .before .before .before .before .before .before .before .before .before in
@@ -40,22 +32,18 @@ list-result-requires c κs =
     let up = call-rises (s .args .work-items .now) (s .args .work-values .now) (s .args .a) (s .args .b) (s .args .c) (definitions (s .args .ends .now) (s .args .defined .now) (format1 .limit)) (s .args .op) (s .args .count) (s .pre .1 .0) (s .pre .1 .1) (s .pre .1 .2) refl (s .pre .0 .0 .within) in
     ((s .pre .0 .0, s .pre .0 .1, g .0, g .1, s .pre .0 .2), (s .pre .1, subst (λ (x : Answer Val). Rising (format1 .limit) (written x)) e up))
 
--- src/lib.rt:225:17
 same-length : tie.Need-same-length
 same-length c = search needs
 
--- src/lib.rt:225:17
 same-length-2 : tie.Need-same-length-2
 same-length-2 c = search needs
 
--- src/lib.rt:225:17
 returns : tie.Need-returns
 returns c =
     let s = c .before .before .before .before .before .before .before .before .before .before .before .before .before in
     let k = c .before .before .before .before .before .before .before .before .before .before .kinds .ensures in
     answered-is _ _ _ _ _ _ _ _ (call-computes (s .args .work-items .now) (s .args .work-values .now) (s .args .a) (s .args .b) (s .args .c) (definitions (s .args .ends .now) (s .args .defined .now) (format1 .limit)) (s .args .op) (s .args .count) _ k _ (c .before .before .before .before .before .before .before .before .answer .given .1) ∙ ap (λ (j : ℕ). compute (definitions (s .args .ends .now) (s .args .defined .now) (format1 .limit)) (s .args .op) (operandsOf (s .args .work-items .now) (s .args .work-values .now) (s .args .a) (s .args .b) (s .args .c) (s .args .count)) (kindAt j)) (c .before .before .before .before .before .before .if1 .taken)) (c .before .before .before .list-result .ensures)
 
--- src/lib.rt:238:13
 scalar-result-requires : tie.Need-scalar-result-requires
 scalar-result-requires c κs =
     let s = c .before .before .before .before .before .before .before .before .before in
@@ -64,26 +52,21 @@ scalar-result-requires c κs =
     let n3 : s .args .count ≡ 3 → ⊥ = λ e. c .before .before .if1 .left (g .2 e) in
     ((c .before .before .if1 .left, g .0, omega (arith, n3, g .1), s .pre .0 .2), (s .pre .1 .0, s .pre .1 .1))
 
--- src/lib.rt:249:29
 enum-known-answer-2 : tie.Need-enum-known-answer-2
 enum-known-answer-2 c = search needs
 
--- src/lib.rt:204:1
 same-length-3 : tie.Need-same-length-3
 same-length-3 c = search needs
 
--- src/lib.rt:204:1
 same-length-4 : tie.Need-same-length-4
 same-length-4 c = search needs
 
--- src/lib.rt:204:1
 returns-2 : tie.Need-returns-2
 returns-2 c =
     let s = c .before .before .before .before .before .before .before .before .before .before in
     let k = c .before .before .before .before .before .before .before .kinds .ensures in
     answered-is _ _ _ _ _ _ _ _ (call-computes (s .args .work-items .now) (s .args .work-values .now) (s .args .a) (s .args .b) (s .args .c) (definitions (s .args .ends .now) (s .args .defined .now) (format1 .limit)) (s .args .op) (s .args .count) _ k _ (c .before .before .before .before .before .answer .given .1)) (c .scalar-result .ensures (definitions (s .args .ends .now) (s .args .defined .now) (format1 .limit)) (valOf (s .args .work-items .now) (s .args .work-values .now) (s .args .c)))
 
--- src/lib.rt:204:1
 returns-3 : tie.Need-returns-3
 returns-3 c =
     let s = c .before .before .before .before .before .before in

@@ -4,22 +4,17 @@ use native.Mathlib.Omega.{arith}
 use borrow.Author.Needs.{needs}
 use Rattle.running.proofs.pick.Statement.{statement}
 use Rattle.running.proofs.pick.Tie as tie
-use Rattle.running.proofs.pick.Reads as reads
-use Rattle.running.proofs.pick.Lts as lts
 
--- src/lib.rt:258:9
 returns : tie.Need-returns
 returns c =
     let e = c .if1 .taken in
     record { at-one = λ q. refl; at-two = λ q. absurd (omega arith); at-three = λ q. absurd (omega arith) }
 
--- src/lib.rt:261:9
 returns-2 : tie.Need-returns-2
 returns-2 c =
     let e = c .if2 .taken in
     record { at-one = λ q. absurd (omega arith); at-two = λ q. refl; at-three = λ q. absurd (omega arith) }
 
--- src/lib.rt:254:1
 returns-3 : tie.Need-returns-3
 returns-3 c =
     record { at-one = λ q. absurd (c .before .if1 .left q); at-two = λ q. absurd (c .if2 .left q); at-three = λ q. refl }

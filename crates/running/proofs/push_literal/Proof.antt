@@ -14,25 +14,17 @@ use Rattle.running.proofs.Putting.{place-fits, put-literal, push-put, p
 use borrow.Author.Needs.{needs}
 use Rattle.running.proofs.push_literal.Statement.{statement}
 use Rattle.running.proofs.push_literal.Tie as tie
-use Rattle.running.proofs.push_literal.Reads as reads
-use Rattle.running.proofs.push_literal.Lts as lts
-use Rattle.pack.proofs.read.literal_origins.Reads as literal-origins-reads
-use Rattle.pack.proofs.read.read_literal.Reads as read-literal-reads
 
--- src/lib.rt:122:9
 returns : tie.Need-returns
 returns c =
     push-no _ _ _ [] _ [] (c .if1 .taken)
 
--- src/lib.rt:124:14
 mul-to : tie.Need-mul-to
 mul-to c = search needs
 
--- src/lib.rt:125:9
 literal-origins-requires : tie.Need-literal-origins-requires
 literal-origins-requires c κs = search needs
 
--- src/lib.rt:126:9
 read-literal-requires : tie.Need-read-literal-requires
 read-literal-requires c κs =
     let s = c .before .before .before .before .before .before in
@@ -40,15 +32,12 @@ read-literal-requires c κs =
     let g = place-fits (s .args .n) _ (omega (arith, c .before .before .before .if1 .left)) (f .few) in
     (s .pre .0, (s .pre .1 .0, (omega (arith, g, s .pre .1 .1 .items-room), omega (arith, g, s .pre .1 .1 .values-room))))
 
--- src/lib.rt:108:1
 same-length : tie.Need-same-length
 same-length c = search needs
 
--- src/lib.rt:108:1
 same-length-2 : tie.Need-same-length-2
 same-length-2 c = search needs
 
--- src/lib.rt:108:1
 returns-2 : tie.Need-returns-2
 returns-2 c =
     let s = c .before .before .before .before .before .before .before .before .before .before in

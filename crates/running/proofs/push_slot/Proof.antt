@@ -8,20 +8,14 @@ use Rattle.running.proofs.Putting.{place-fits, push-put, push-no}
 use borrow.Author.Needs.{needs}
 use Rattle.running.proofs.push_slot.Statement.{statement}
 use Rattle.running.proofs.push_slot.Tie as tie
-use Rattle.running.proofs.push_slot.Reads as reads
-use Rattle.running.proofs.push_slot.Lts as lts
-use Rattle.running.proofs.store.Reads as store-reads
 
--- src/lib.rt:100:9
 returns : tie.Need-returns
 returns c =
     push-no _ _ _ [] _ [] (c .if1 .taken)
 
--- src/lib.rt:102:14
 mul-to : tie.Need-mul-to
 mul-to c = search needs
 
--- src/lib.rt:103:9
 store-requires : tie.Need-store-requires
 store-requires c κs =
     let s = c .before .before .before .before .before in
@@ -29,15 +23,12 @@ store-requires c κs =
     let g = place-fits (s .args .n) _ (omega (arith, c .before .before .if1 .left)) f in
     (s .pre .0, (omega (arith, g, s .pre .1 .items-room), omega (arith, g, s .pre .1 .values-room)))
 
--- src/lib.rt:87:1
 same-length : tie.Need-same-length
 same-length c = search needs
 
--- src/lib.rt:87:1
 same-length-2 : tie.Need-same-length-2
 same-length-2 c = search needs
 
--- src/lib.rt:87:1
 returns-2 : tie.Need-returns-2
 returns-2 c =
     push-put _ _ _ _ _ _ _ (omega (arith, c .before .before .before .before .before .before .if1 .left)) (c .before .before .before .store .ensures)

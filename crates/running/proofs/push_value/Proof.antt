@@ -5,15 +5,11 @@ use Rattle.running.proofs.Putting.{put-plain, push-put, push-no}
 use borrow.Author.Needs.{needs}
 use Rattle.running.proofs.push_value.Statement.{statement}
 use Rattle.running.proofs.push_value.Tie as tie
-use Rattle.running.proofs.push_value.Reads as reads
-use Rattle.running.proofs.push_value.Lts as lts
 
--- src/lib.rt:75:1
 returns : tie.Need-returns
 returns c =
     λ is vs wi wv. push-put _ _ wi wi wv wv _ (c .if1 .taken) (put-plain _ is vs _ wi wv (c .before .pre))
 
--- src/lib.rt:75:1
 returns-2 : tie.Need-returns-2
 returns-2 c =
     λ is vs wi wv. push-no _ _ wi wi wv wv (c .if1 .left)

@@ -17,27 +17,18 @@ use Rattle.running.proofs.Ending.{ran-value, ran-stopped, same-run, roo
 use borrow.Author.Needs.{needs}
 use Rattle.running.proofs.run_checked.Statement.{statement}
 use Rattle.running.proofs.run_checked.Tie as tie
-use Rattle.running.proofs.run_checked.Reads as reads
-use Rattle.running.proofs.run_checked.Lts as lts
-use Rattle.running.proofs.clear.Reads as clear-reads
-use Rattle.running.proofs.store.Reads as store-reads
-use Rattle.running.proofs.work.Reads as work-reads
 
--- src/lib.rt:520:9
 slice-aggregate-work : tie.Need-slice-aggregate-work
 slice-aggregate-work c = search needs
 
--- src/lib.rt:512:9
 work-requires : tie.Need-work-requires
 work-requires c κs =
     let s = c .before .before .before .before .before .before .before .before in
     (s .pre .0 .0, ((s .pre .0 .1, refl), record { items-room = s .pre .1 .items-room; values-room = s .pre .1 .values-room }))
 
--- src/lib.rt:525:20
 enum-known-ran : tie.Need-enum-known-ran
 enum-known-ran c = search needs
 
--- src/lib.rt:526:17
 store-requires : tie.Need-store-requires
 store-requires c κs =
     let s = c .before .before .before .before .before .before .before .before .before .before .before .before .before .before .before .before .before .before .before .before in
@@ -46,49 +37,39 @@ store-requires c κs =
     let n = few-in (format1 .limit) _ _ _ f in
     (f, (omega (arith, n, s .pre .1 .result-items), omega (arith, n, s .pre .1 .result-values)))
 
--- src/lib.rt:534:19
 slice-aggregate-clear : tie.Need-slice-aggregate-clear
 slice-aggregate-clear c = search needs
 
--- src/lib.rt:534:13
 clear-requires : tie.Need-clear-requires
 clear-requires c κs =
     let s = c .before .before .before .before .before .before .before .before .before .before .before .before .before .before .before .before .before .before .before .before .before .before .before .before .before .before .before in
     let w = c .before .before .before .before .before .before .before .before .before .before .before .before .before .before .before .before .before .before .work .ensures in
     ((omega (arith, c .before .before .before .before .before .before .before .before .before .before .before .before .before .before .before .before .before .before .work .kept .1 .1 .1 .1 .1 .1 .1 .0), w .few), roomy-after _ _ _ _ _ _ _ _ _ (s .pre .1) w)
 
--- src/lib.rt:537:24
 enum-known-ran-2 : tie.Need-enum-known-ran-2
 enum-known-ran-2 c = search needs
 
--- src/lib.rt:538:19
 slice-aggregate-clear-2 : tie.Need-slice-aggregate-clear-2
 slice-aggregate-clear-2 c = search needs
 
--- src/lib.rt:538:13
 clear-requires-2 : tie.Need-clear-requires-2
 clear-requires-2 c κs =
     let s = c .before .before .before .before .before .before .before .before .before .before .before .before .before .before .before .before .before .before .before in
     let w = c .before .before .before .before .before .before .before .before .before .before .work .ensures in
     ((omega arith, w .few), roomy-after _ _ _ _ _ _ _ _ _ (s .pre .1) w)
 
--- src/lib.rt:492:1
 same-length : tie.Need-same-length
 same-length c = search needs
 
--- src/lib.rt:492:1
 same-length-2 : tie.Need-same-length-2
 same-length-2 c = search needs
 
--- src/lib.rt:492:1
 same-length-3 : tie.Need-same-length-3
 same-length-3 c = search needs
 
--- src/lib.rt:492:1
 same-length-4 : tie.Need-same-length-4
 same-length-4 c = search needs
 
--- src/lib.rt:492:1
 returns : tie.Need-returns
 returns c =
     let s = c .before .before .before .before .before .before .before .before .before .before .before .before .before .before .before .before .before .before .before .before .before .before .before .before .before .before .before .before .before .before .before in
@@ -96,15 +77,12 @@ returns c =
     let e = rw (c .before .before .before .before .before .before .before .before .before .before .before .before .before .before .before .before .ran .given .1) at (w .end-is) in
     (ran-value _ _ _ _ _ _ _ (e ∙ same-run _ _ _ _ _ _ (s .pre .0 .0) (s .args .sheet) _) (c .before .before .before .before .before .before .before .before .before .before .store .ensures), (c .before .before .before .clear .ensures .0 ∙ items-back _ _ _ _ _ _ _ _ _ (s .pre .1) w, c .before .before .before .clear .ensures .1 ∙ values-back _ _ _ _ _ _ _ _ _ (s .pre .1) w))
 
--- src/lib.rt:492:1
 same-length-5 : tie.Need-same-length-5
 same-length-5 c = search needs
 
--- src/lib.rt:492:1
 same-length-6 : tie.Need-same-length-6
 same-length-6 c = search needs
 
--- src/lib.rt:492:1
 returns-2 : tie.Need-returns-2
 returns-2 c =
     let s = c .before .before .before .before .before .before .before .before .before .before .before .before .before .before .before .before .before .before .before .before .before .before .before in

@@ -8,52 +8,38 @@ use Rattle.running.proofs.Operating.{no-operator, no-operands, operands
 use borrow.Author.Needs.{needs}
 use Rattle.running.proofs.run_op.Statement.{statement}
 use Rattle.running.proofs.run_op.Tie as tie
-use Rattle.running.proofs.run_op.Reads as reads
-use Rattle.running.proofs.run_op.Lts as lts
-use Rattle.native_function_call.proofs.operands.Reads as operands-reads
-use Rattle.running.proofs.operate.Reads as operate-reads
-use Rattle.running.proofs.pick.Reads as pick-reads
 
--- src/lib.rt:284:9
 operands-requires : tie.Need-operands-requires
 operands-requires c κs = search needs
 
--- src/lib.rt:286:9
 returns : tie.Need-returns
 returns c =
     let s = c .before .before .before .before in
     λ f t. no-operator (definitions (s .args .ends .now) (s .args .defined .now) (format1 .limit)) (s .args .op) (s .args .n) f _ _ (sym (c .before .operands .ensures) ∙ c .if1 .taken)
 
--- src/lib.rt:289:9
 returns-2 : tie.Need-returns-2
 returns-2 c =
     let s = c .before .before .before .before .before in
     λ f t. no-operands (definitions (s .args .ends .now) (s .args .defined .now) (format1 .limit)) (s .args .op) (s .args .n) f _ _ (c .before .before .operands .result) (omega (arith, c .before .if1 .left)) (sym (c .before .before .operands .ensures)) (c .if2 .taken)
 
--- src/lib.rt:291:9
 pick-requires : tie.Need-pick-requires
 pick-requires c κs = search needs
 
--- src/lib.rt:292:9
 pick-requires-2 : tie.Need-pick-requires-2
 pick-requires-2 c κs = search needs
 
--- src/lib.rt:293:5
 operate-requires : tie.Need-operate-requires
 operate-requires c κs =
     let s = c .before .before .before .before .before .before .before .before .before in
     let f = operands-formed (s .args .work-items .now) (s .args .work-values .now) (s .args .third) (s .args .second) (s .args .top) (c .before .before .before .pick .result) (c .before .before .pick2 .result) (s .args .n) (s .args .op) (s .pre .1 .1) (c .before .before .before .before .before .before .operands .result) (c .before .before .before .pick .ensures) (c .before .before .pick2 .ensures) (sym (c .before .before .before .before .before .before .operands .ensures)) (omega (arith, c .before .before .before .before .before .if1 .left)) (omega (arith, c .before .before .before .before .if2 .left)) in
     ((s .pre .0 .2, s .pre .1 .0, omega (arith, c .before .before .before .before .before .if1 .left, c .before .before .before .before .if2 .left, s .pre .0 .1)), f)
 
--- src/lib.rt:267:1
 same-length : tie.Need-same-length
 same-length c = search needs
 
--- src/lib.rt:267:1
 same-length-2 : tie.Need-same-length-2
 same-length-2 c = search needs
 
--- src/lib.rt:267:1
 returns-3 : tie.Need-returns-3
 returns-3 c =
     let s = c .before .before .before .before .before .before .before .before .before .before .before .before .before in

@@ -23,87 +23,63 @@ use Rattle.running.proofs.Operating.{push-steps, op-steps, slot-value, 
 use borrow.Author.Needs.{needs}
 use Rattle.running.proofs.run_step.Statement.{statement}
 use Rattle.running.proofs.run_step.Tie as tie
-use Rattle.running.proofs.run_step.Reads as reads
-use Rattle.running.proofs.run_step.Lts as lts
-use Rattle.ink_number.proofs.convert.float_from_bits.Reads as float-from-bits-reads
-use Rattle.running.proofs.push_literal.Reads as push-literal-reads
-use Rattle.running.proofs.push_slot.Reads as push-slot-reads
-use Rattle.running.proofs.push_value.Reads as push-value-reads
-use Rattle.running.proofs.run_op.Reads as run-op-reads
 
--- src/lib.rt:332:25
 enum-known-i : tie.Need-enum-known-i
 enum-known-i c = search needs
 
--- src/lib.rt:332:32
 run-op-requires : tie.Need-run-op-requires
 run-op-requires c κs =
     let s = c .before .before .before .before .before .before .before .before .before in
     let a = subst (λ (x : Instruction). Allowed (literalCount (s .args .pack .now)) (instrOf x)) (c .before .before .before .i .given .1) (s .pre .1 .0 .0) in
     ((a, s .pre .1 .0 .1, known-of _ _ _ _ _ _ (s .pre .0)), s .pre .1 .1)
 
--- src/lib.rt:343:27
 enum-known-i-2 : tie.Need-enum-known-i-2
 enum-known-i-2 c = search needs
 
--- src/lib.rt:343:33
 push-value-requires : tie.Need-push-value-requires
 push-value-requires c κs = search needs
 
--- src/lib.rt:344:26
 enum-known-i-3 : tie.Need-enum-known-i-3
 enum-known-i-3 c = search needs
 
--- src/lib.rt:344:32
 push-value-requires-2 : tie.Need-push-value-requires-2
 push-value-requires-2 c κs = search needs
 
--- src/lib.rt:345:28
 enum-known-i-4 : tie.Need-enum-known-i-4
 enum-known-i-4 c = search needs
 
--- src/lib.rt:346:26
 float-from-bits-requires : tie.Need-float-from-bits-requires
 float-from-bits-requires c κs = search needs
 
--- src/lib.rt:345:34
 push-value-requires-3 : tie.Need-push-value-requires-3
 push-value-requires-3 c κs = search needs
 
--- src/lib.rt:349:27
 enum-known-i-5 : tie.Need-enum-known-i-5
 enum-known-i-5 c = search needs
 
--- src/lib.rt:349:52
 cast-push-literal : tie.Need-cast-push-literal
 cast-push-literal c = search needs
 
--- src/lib.rt:349:33
 push-literal-requires : tie.Need-push-literal-requires
 push-literal-requires c κs =
     let s = c .before .before .before .before .before .before .before .before .before in
     let a = subst (λ (x : Instruction). Allowed (literalCount (s .args .pack .now)) (instrOf x)) (c .before .before .before .i5 .given .1) (s .pre .1 .0 .0) in
     (s .pre .0 .sound, (a, s .pre .1 .1 .0))
 
--- src/lib.rt:350:27
 enum-known-i-6 : tie.Need-enum-known-i-6
 enum-known-i-6 c = search needs
 
--- src/lib.rt:351:21
 cast-k : tie.Need-cast-k
 cast-k c = search needs
 
--- src/lib.rt:352:21
 mul-v : tie.Need-mul-v
 mul-v c = search needs
 
--- src/lib.rt:352:21
 array-copy-out-v : tie.Need-array-copy-out-v
 array-copy-out-v c =
     let s = c .before .before .before .before .before .before .before in
     subst (λ (x : Instruction). Allowed (literalCount (s .args .pack .now)) (instrOf x)) (c .before .i6 .given .1) (s .pre .1 .0 .0)
 
--- src/lib.rt:353:13
 push-slot-requires : tie.Need-push-slot-requires
 push-slot-requires c κs =
     let s = c .before .before .before .before .before .before .before .before .before .before in
@@ -111,75 +87,60 @@ push-slot-requires c κs =
     let l : length (s .args .t4) ≡ 16 = s .good .1 .1 .1 .0 .1 .0 .1 in
     (s .pre .0 .slots-formed _ (omega arith), s .pre .1 .1 .0)
 
--- src/lib.rt:355:41
 enum-told : tie.Need-enum-told
 enum-told c = search needs
 
--- src/lib.rt:355:30
 push-value-requires-4 : tie.Need-push-value-requires-4
 push-value-requires-4 c κs = search needs
 
--- src/lib.rt:308:1
 same-length : tie.Need-same-length
 same-length c = search needs
 
--- src/lib.rt:308:1
 same-length-2 : tie.Need-same-length-2
 same-length-2 c = search needs
 
--- src/lib.rt:308:1
 returns : tie.Need-returns
 returns c =
     let s = c .before .before .before .before .before .before .before .before .before .before .before .before .before in
     λ f t. op-steps (valuePushed (literalOf (decoded format1 (s .args .pack .now))) (map (valOf (s .args .slot-items .now) (s .args .slot-values .now)) (s .args .t4))) (applyOp (definitions (s .args .ends .now) (s .args .defined .now) (format1 .limit))) (s .args .n) f _ _ _ _ _ (instrOf (s .args .i)) _ (ap instrOf (c .before .before .before .before .before .before .before .i .given .1)) (c .before .before .before .run-op .ensures f t)
 
--- src/lib.rt:308:1
 returns-2 : tie.Need-returns-2
 returns-2 c =
     let s = c .before .before .before .before .before .before .before .before in
     λ f t. push-steps (valuePushed (literalOf (decoded format1 (s .args .pack .now))) (map (valOf (s .args .slot-items .now) (s .args .slot-values .now)) (s .args .t4))) (applyOp (definitions (s .args .ends .now) (s .args .defined .now) (format1 .limit))) (s .args .n) f _ _ _ _ _ (instrOf (s .args .i)) (pushBool (c .before .before .i2 .given .0 .0)) (ap instrOf (c .before .before .i2 .given .1)) (bool (c .before .before .i2 .given .0 .0)) (refl) (c .push-value .ensures [] [] (s .args .work-items .now) (s .args .work-values .now))
 
--- src/lib.rt:308:1
 returns-3 : tie.Need-returns-3
 returns-3 c =
     let s = c .before .before .before .before .before .before .before .before in
     λ f t. push-steps (valuePushed (literalOf (decoded format1 (s .args .pack .now))) (map (valOf (s .args .slot-items .now) (s .args .slot-values .now)) (s .args .t4))) (applyOp (definitions (s .args .ends .now) (s .args .defined .now) (format1 .limit))) (s .args .n) f _ _ _ _ _ (instrOf (s .args .i)) (pushInt (c .before .before .i3 .given .0 .0)) (ap instrOf (c .before .before .i3 .given .1)) (_) (ap int (toZ-ofZ w32 (c .before .before .i3 .given .0 .0) (record { sfits = c .before .known-told3 .given .0 .1 }))) (c .push-value2 .ensures [] [] (s .args .work-items .now) (s .args .work-values .now))
 
--- src/lib.rt:308:1
 returns-4 : tie.Need-returns-4
 returns-4 c =
     let s = c .before .before .before .before .before .before .before .before .before in
     λ f t. push-steps (valuePushed (literalOf (decoded format1 (s .args .pack .now))) (map (valOf (s .args .slot-items .now) (s .args .slot-values .now)) (s .args .t4))) (applyOp (definitions (s .args .ends .now) (s .args .defined .now) (format1 .limit))) (s .args .n) f _ _ _ _ _ (instrOf (s .args .i)) (pushFloat (c .before .before .before .i4 .given .0 .0)) (ap instrOf (c .before .before .before .i4 .given .1)) (_) (ap float (c .before .float-from-bits .ensures)) (c .push-value3 .ensures [] [] (s .args .work-items .now) (s .args .work-values .now))
 
--- src/lib.rt:308:1
 same-length-3 : tie.Need-same-length-3
 same-length-3 c = search needs
 
--- src/lib.rt:308:1
 same-length-4 : tie.Need-same-length-4
 same-length-4 c = search needs
 
--- src/lib.rt:308:1
 returns-5 : tie.Need-returns-5
 returns-5 c =
     let s = c .before .before .before .before .before .before .before .before .before .before .before .before .before in
     λ f t. push-steps (valuePushed (literalOf (decoded format1 (s .args .pack .now))) (map (valOf (s .args .slot-items .now) (s .args .slot-values .now)) (s .args .t4))) (applyOp (definitions (s .args .ends .now) (s .args .defined .now) (format1 .limit))) (s .args .n) f _ _ _ _ _ (instrOf (s .args .i)) (pushList (c .before .before .before .before .before .before .before .i5 .given .0 .0)) (ap instrOf (c .before .before .before .before .before .before .before .i5 .given .1)) (_) (refl) (c .before .before .before .push-literal .ensures)
 
--- src/lib.rt:308:1
 same-length-5 : tie.Need-same-length-5
 same-length-5 c = search needs
 
--- src/lib.rt:308:1
 same-length-6 : tie.Need-same-length-6
 same-length-6 c = search needs
 
--- src/lib.rt:308:1
 returns-6 : tie.Need-returns-6
 returns-6 c =
     let s = c .before .before .before .before .before .before .before .before .before .before .before .before .before .before in
     λ f t. push-steps (valuePushed (literalOf (decoded format1 (s .args .pack .now))) (map (valOf (s .args .slot-items .now) (s .args .slot-values .now)) (s .args .t4))) (applyOp (definitions (s .args .ends .now) (s .args .defined .now) (format1 .limit))) (s .args .n) f _ _ _ _ _ (instrOf (s .args .i)) (pushSlot (c .before .before .before .before .before .before .before .before .i6 .given .0 .0)) (ap instrOf (c .before .before .before .before .before .before .before .before .i6 .given .1)) (_) (slot-value (s .args .slot-items .now) (s .args .slot-values .now) (s .args .t4) (c .before .before .before .before .before .before .before .before .i6 .given .0 .0) (let l : length (s .args .t4) ≡ 16 = s .good .1 .1 .1 .0 .1 .0 .1 in let a = subst (λ (x : Instruction). Allowed (literalCount (s .args .pack .now)) (instrOf x)) (c .before .before .before .before .before .before .before .before .i6 .given .1) (s .pre .1 .0 .0) in omega arith)) (c .before .before .before .push-slot .ensures)
 
--- src/lib.rt:308:1
 returns-7 : tie.Need-returns-7
 returns-7 c =
     let s = c .before .before .before .before .before .before .before in

@@ -14,25 +14,18 @@ use Rattle.running.proofs.Operating.{scalar-plain}
 use borrow.Author.Needs.{needs}
 use Rattle.running.proofs.scalar_result.Statement.{statement}
 use Rattle.running.proofs.scalar_result.Tie as tie
-use Rattle.running.proofs.scalar_result.Reads as reads
-use Rattle.running.proofs.scalar_result.Lts as lts
-use Rattle.native_function_call.proofs.scalar.Reads as scalar-reads
 
--- src/lib.rt:151:9
 scalar-requires : tie.Need-scalar-requires
 scalar-requires c κs =
     let s = c .before in
-    ((s .pre .0 .0, s .pre .0 .1, s .pre .0 .2), (formed-limit (format1 .limit) _ _ 65535 _ (omega arith) (s .pre .1 .0), formed-limit (format1 .limit) _ _ 65535 _ (omega arith) (s .pre .1 .1)))
+    ((s .pre .0 .0, s .pre .0 .1, s .pre .0 .2), (formed-limit (format1 .limit) _ _ 65536 _ (omega arith) (s .pre .1 .0), formed-limit (format1 .limit) _ _ 65536 _ (omega arith) (s .pre .1 .1)))
 
--- src/lib.rt:153:24
 enum-known-outcome : tie.Need-enum-known-outcome
 enum-known-outcome c = search needs
 
--- src/lib.rt:154:26
 enum-known-outcome-2 : tie.Need-enum-known-outcome-2
 enum-known-outcome-2 c = search needs
 
--- src/lib.rt:136:1
 returns : tie.Need-returns
 returns c =
     let s = c .before .before .before .before .before in
@@ -40,7 +33,6 @@ returns c =
     let g = scalar-gave u (s .args .op) (s .args .kind) (s .args .count) (valOf (s .args .items .now) (s .args .values .now) (s .args .a)) (valOf (s .args .items .now) (s .args .values .now) (s .args .b)) x {oi = []} {ov = []} (s .pre .0 .0) (s .pre .0 .1) (s .pre .0 .2) (c .before .before .before .scalar .ensures u) in
     plain-value (s .args .place) (s .pre .0 .3) (s .args .items .now) (s .args .values .now) _ _ (g .answered) (scalar-plain u (s .args .op) _ (s .args .kind) (s .pre .0 .0)) _ (c .before .outcome .given .1)
 
--- src/lib.rt:136:1
 returns-2 : tie.Need-returns-2
 returns-2 c =
     let s = c .before .before .before .before .before in

@@ -5,84 +5,59 @@ use Rattle.running.proofs.Putting.{put-plain, put-copied}
 use borrow.Author.Needs.{needs}
 use Rattle.running.proofs.store.Statement.{statement}
 use Rattle.running.proofs.store.Tie as tie
-use Rattle.running.proofs.store.Reads as reads
-use Rattle.running.proofs.store.Lts as lts
-use Rattle.ink_list.proofs.entries.copy_rest.Reads as copy-rest-reads
-use Rattle.ink_value.proofs.kind.Reads as kind-reads
-use Rattle.ink_value.proofs.len_of.Reads as len-of-reads
-use Rattle.ink_value.proofs.origins_in.Reads as origins-in-reads
-use Rattle.ink_value.proofs.start_of.Reads as start-of-reads
 
--- src/lib.rt:59:8
 kind-requires : tie.Need-kind-requires
 kind-requires c κs = search needs
 
--- src/lib.rt:60:9
 returns : tie.Need-returns
 returns c =
     put-plain _ _ _ _ _ _ (λ e. c .if1 .taken (c .before .kind .ensures .0 ∙ e))
 
--- src/lib.rt:62:9
 start-of-requires : tie.Need-start-of-requires
 start-of-requires c κs = search needs
 
--- src/lib.rt:63:9
 len-of-requires : tie.Need-len-of-requires
 len-of-requires c κs = search needs
 
--- src/lib.rt:64:9
 origins-in-requires : tie.Need-origins-in-requires
 origins-in-requires c κs = search needs
 
--- src/lib.rt:65:15
 add-end : tie.Need-add-end
 add-end c = search needs
 
--- src/lib.rt:66:34
 mul-copy-rest : tie.Need-mul-copy-rest
 mul-copy-rest c = search needs
 
--- src/lib.rt:66:34
 sub-copy-rest : tie.Need-sub-copy-rest
 sub-copy-rest c = search needs
 
--- src/lib.rt:66:34
 part-copy-rest-start : tie.Need-part-copy-rest-start
 part-copy-rest-start c = search needs
 
--- src/lib.rt:66:34
 part-copy-rest-end : tie.Need-part-copy-rest-end
 part-copy-rest-end c = search needs
 
--- src/lib.rt:66:54
 mul-copy-rest-2 : tie.Need-mul-copy-rest-2
 mul-copy-rest-2 c = search needs
 
--- src/lib.rt:66:54
 sub-copy-rest-2 : tie.Need-sub-copy-rest-2
 sub-copy-rest-2 c = search needs
 
--- src/lib.rt:66:54
 part-copy-rest-start-2 : tie.Need-part-copy-rest-start-2
 part-copy-rest-start-2 c = search needs
 
--- src/lib.rt:66:54
 part-copy-rest-end-2 : tie.Need-part-copy-rest-end-2
 part-copy-rest-end-2 c = search needs
 
--- src/lib.rt:66:5
 copy-rest-requires : tie.Need-copy-rest-requires
 copy-rest-requires c κs = search needs
 
--- src/lib.rt:47:1
 same-length : tie.Need-same-length
 same-length c = search needs
 
--- src/lib.rt:47:1
 same-length-2 : tie.Need-same-length-2
 same-length-2 c = search needs
 
--- src/lib.rt:47:1
 returns-2 : tie.Need-returns-2
 returns-2 c =
     let s = c .before .before .before .before .before .before .before .before .before .before .before .before .before .before .before in

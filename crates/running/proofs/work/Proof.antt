@@ -11,22 +11,13 @@ use Rattle.pack.specs.Format.{format1}
 use Rattle.pack.specs.Instruction.{instrOf, width}
 use Rattle.pack.specs.Read.{sheetEnd}
 use Rattle.pack.proofs.Allowed.{allowed}
-use Rattle.pack.proofs.Programs.{next-of, whole}
+use Rattle.pack.proofs.Programs.{whole}
 use Rattle.sheet.specs.Machine.{stackLimit}
 use Rattle.running.specs.Steps.{Longest, Touched}
 use Rattle.running.proofs.Working.{Working, begin, valueOn, tops, tops-formed, roomy, advance, refused, one-left, not-one, width-some}
 use borrow.Author.Needs.{needs}
 use Rattle.running.proofs.work.Statement.{statement}
 use Rattle.running.proofs.work.Tie as tie
-use Rattle.running.proofs.work.Reads as reads
-use Rattle.running.proofs.work.Lts as lts
-use Rattle.ink_value.proofs.len_of.Reads as len-of-reads
-use Rattle.pack.proofs.instruction.instruction_width.Reads as instruction-width-reads
-use Rattle.pack.proofs.instruction.read_instruction.Reads as read-instruction-reads
-use Rattle.pack.proofs.read.sheet_span.Reads as sheet-span-reads
-use Rattle.running.proofs.below.Reads as below-reads
-use Rattle.running.proofs.keep_longest.Reads as keep-longest-reads
-use Rattle.running.proofs.run_step.Reads as run-step-reads
 
 abbrev Inv-loop : tie.InvT-loop
 Inv-loop pack ends defined sheet slots slot-items slot-values used₀ work-items₀ work-values₀ end at₀ stack₀ n₀ i₀ used work-items work-values at stack n i =
@@ -36,17 +27,14 @@ abbrev μ-loop : tie.MeasureT-loop
 μ-loop pack ends defined sheet slots slot-items slot-values used₀ work-items₀ work-values₀ end at₀ stack₀ n₀ i₀ used work-items work-values at stack n i =
     end - at
 
--- src/lib.rt:436:9
 sheet-span-requires : tie.Need-sheet-span-requires Inv-loop μ-loop
 sheet-span-requires c κs = search needs
 
--- src/lib.rt:443:5
 loop-holds : tie.Need-loop-holds Inv-loop μ-loop
 loop-holds c =
     let s = c .before .before .before .before .before .before in
     begin (s .args .pack .now) (s .args .sheet) (definitions (s .args .ends .now) (s .args .defined .now) (format1 .limit)) (map (valOf (s .args .slot-items .now) (s .args .slot-values .now)) (s .args .slots)) (s .args .work-items .now) (s .args .work-values .now) (s .args .used .now) _ _ (c .sheet-span .ensures .starts) refl (s .pre .1 .0 .1)
 
--- src/lib.rt:444:13
 read-instruction-requires : tie.Need-read-instruction-requires Inv-loop μ-loop
 read-instruction-requires c κs =
     let s = c .before .before .before .before .before .before .before .before in
@@ -55,56 +43,45 @@ read-instruction-requires c κs =
     let more : l .at < sheetEnd (s .args .pack .now) (s .args .sheet) = omega (arith, sp .ends, c .loop-test .taken) in
     whole (s .args .pack .now) (s .args .sheet) (l .i) (l .at) (l .inv .standing) more (omega (arith, sp .ends, sp .within))
 
--- src/lib.rt:445:13
 instruction-width-requires : tie.Need-instruction-width-requires Inv-loop μ-loop
 instruction-width-requires c κs = search needs
 
--- src/lib.rt:446:13
 below-requires : tie.Need-below-requires Inv-loop μ-loop
 below-requires c κs =
     (c .before .before .before .loop .inv .depth, omega arith)
 
--- src/lib.rt:447:13
 below-requires-2 : tie.Need-below-requires-2 Inv-loop μ-loop
 below-requires-2 c κs =
     (c .before .before .before .before .loop .inv .depth, omega arith)
 
--- src/lib.rt:448:13
 below-requires-3 : tie.Need-below-requires-3 Inv-loop μ-loop
 below-requires-3 c κs =
     (c .before .before .before .before .before .loop .inv .depth, omega arith)
 
--- src/lib.rt:449:19
 mul-top : tie.Need-mul-top Inv-loop μ-loop
 mul-top c =
     omega (arith, c .before .before .below .ensures .1)
 
--- src/lib.rt:449:19
 array-copy-out-top : tie.Need-array-copy-out-top Inv-loop μ-loop
 array-copy-out-top c =
     c .before .before .below .ensures .1
 
--- src/lib.rt:450:22
 mul-second : tie.Need-mul-second Inv-loop μ-loop
 mul-second c =
     omega (arith, c .before .before .below2 .ensures .1)
 
--- src/lib.rt:450:22
 array-copy-out-second : tie.Need-array-copy-out-second Inv-loop μ-loop
 array-copy-out-second c =
     c .before .before .below2 .ensures .1
 
--- src/lib.rt:451:21
 mul-third : tie.Need-mul-third Inv-loop μ-loop
 mul-third c =
     omega (arith, c .before .before .below3 .ensures .1)
 
--- src/lib.rt:451:21
 array-copy-out-third : tie.Need-array-copy-out-third Inv-loop μ-loop
 array-copy-out-third c =
     c .before .before .below3 .ensures .1
 
--- src/lib.rt:452:13
 run-step-requires : tie.Need-run-step-requires Inv-loop μ-loop
 run-step-requires c κs =
     let s = c .before .before .before .before .before .before .before .before .before .before .before .before .before .before .before .before .before .before in
@@ -113,15 +90,12 @@ run-step-requires c κs =
     let more : l .at < sheetEnd (s .args .pack .now) (s .args .sheet) = omega (arith, sp .ends, c .before .before .before .before .before .before .before .before .before .before .loop-test .taken) in
     (s .pre .0, ((allowed (literalCount (s .args .pack .now)) (s .args .pack .now) (l .at) _ (c .before .before .before .before .before .before .before .before .before .read-instruction .ensures .stands), l .inv .depth), (roomy (s .args .pack .now) (s .args .sheet) (definitions (s .args .ends .now) (s .args .defined .now) (format1 .limit)) (map (valOf (s .args .slot-items .now) (s .args .slot-values .now)) (s .args .slots)) (s .args .work-items .now) (s .args .work-values .now) (l .used) (l .work-items) (l .work-values) (l .stack) (l .n) (l .at) (l .i) (l .inv) (s .pre .1 .1), tops-formed (s .args .pack .now) (s .args .sheet) (definitions (s .args .ends .now) (s .args .defined .now) (format1 .limit)) (map (valOf (s .args .slot-items .now) (s .args .slot-values .now)) (s .args .slots)) (s .args .work-items .now) (s .args .work-values .now) (l .used) (l .work-items) (l .work-values) (l .stack) (l .n) (l .at) (l .i) (l .inv) (c .before .before .before .before .before .before .before .below .result) (c .before .before .before .before .before .before .below2 .result) (c .before .before .before .before .before .below3 .result) (c .before .before .before .before .before .before .before .below .ensures .0) (c .before .before .before .before .before .before .below2 .ensures .0) (c .before .before .before .before .before .below3 .ensures .0))))
 
--- src/lib.rt:468:25
 enum-known-step : tie.Need-enum-known-step Inv-loop μ-loop
 enum-known-step c = search needs
 
--- src/lib.rt:469:43
 len-of-requires : tie.Need-len-of-requires Inv-loop μ-loop
 len-of-requires c κs = search needs
 
--- src/lib.rt:469:17
 keep-longest-requires : tie.Need-keep-longest-requires Inv-loop μ-loop
 keep-longest-requires c κs =
     let l = c .before .before .before .before .before .before .before .before .before .before .before .before .before .before .before .before .before .before .before .before .loop in
@@ -129,7 +103,6 @@ keep-longest-requires c κs =
     let w = rw (c .before .before .before .step .given .1) at (c .before .before .before .before .before .before .before .before .run-step .ensures (valueOn (l .work-items) (l .work-values) (l .stack)) (tops (s .args .pack .now) (s .args .sheet) (definitions (s .args .ends .now) (s .args .defined .now) (format1 .limit)) (map (valOf (s .args .slot-items .now) (s .args .slot-values .now)) (s .args .slots)) (s .args .work-items .now) (s .args .work-values .now) (l .used) (l .work-items) (l .work-values) (l .stack) (l .n) (l .at) (l .i) (l .inv) (c .before .before .before .before .before .before .before .before .before .before .before .before .before .before .before .before .below .result) (c .before .before .before .before .before .before .before .before .before .before .before .before .before .before .before .below2 .result) (c .before .before .before .before .before .before .before .before .before .before .before .before .before .before .below3 .result) (c .before .before .before .before .before .before .before .before .before .before .before .before .before .before .before .before .below .ensures .0) (c .before .before .before .before .before .before .before .before .before .before .before .before .before .before .before .below2 .ensures .0) (c .before .before .before .before .before .before .before .before .before .before .before .before .before .before .below3 .ensures .0)) .by) in
     omega (arith, w .depth, l .inv .used-is)
 
--- src/lib.rt:470:17
 mul-stack : tie.Need-mul-stack Inv-loop μ-loop
 mul-stack c =
     let l = c .before .before .before .before .before .before .before .before .before .before .before .before .before .before .before .before .before .before .before .before .before .before .before .loop in
@@ -137,7 +110,6 @@ mul-stack c =
     let w = rw (c .before .before .before .before .before .before .step .given .1) at (c .before .before .before .before .before .before .before .before .before .before .before .run-step .ensures (valueOn (l .work-items) (l .work-values) (l .stack)) (tops (s .args .pack .now) (s .args .sheet) (definitions (s .args .ends .now) (s .args .defined .now) (format1 .limit)) (map (valOf (s .args .slot-items .now) (s .args .slot-values .now)) (s .args .slots)) (s .args .work-items .now) (s .args .work-values .now) (l .used) (l .work-items) (l .work-values) (l .stack) (l .n) (l .at) (l .i) (l .inv) (c .before .before .before .before .before .before .before .before .before .before .before .before .before .before .before .before .before .before .before .below .result) (c .before .before .before .before .before .before .before .before .before .before .before .before .before .before .before .before .before .before .below2 .result) (c .before .before .before .before .before .before .before .before .before .before .before .before .before .before .before .before .before .below3 .result) (c .before .before .before .before .before .before .before .before .before .before .before .before .before .before .before .before .before .before .before .below .ensures .0) (c .before .before .before .before .before .before .before .before .before .before .before .before .before .before .before .before .before .before .below2 .ensures .0) (c .before .before .before .before .before .before .before .before .before .before .before .before .before .before .before .before .before .below3 .ensures .0)) .by) in
     omega (arith, w .depth)
 
--- src/lib.rt:470:17
 array-set-from-stack : tie.Need-array-set-from-stack Inv-loop μ-loop
 array-set-from-stack c =
     let l = c .before .before .before .before .before .before .before .before .before .before .before .before .before .before .before .before .before .before .before .before .before .before .before .loop in
@@ -145,7 +117,6 @@ array-set-from-stack c =
     let w = rw (c .before .before .before .before .before .before .step .given .1) at (c .before .before .before .before .before .before .before .before .before .before .before .run-step .ensures (valueOn (l .work-items) (l .work-values) (l .stack)) (tops (s .args .pack .now) (s .args .sheet) (definitions (s .args .ends .now) (s .args .defined .now) (format1 .limit)) (map (valOf (s .args .slot-items .now) (s .args .slot-values .now)) (s .args .slots)) (s .args .work-items .now) (s .args .work-values .now) (l .used) (l .work-items) (l .work-values) (l .stack) (l .n) (l .at) (l .i) (l .inv) (c .before .before .before .before .before .before .before .before .before .before .before .before .before .before .before .before .before .before .before .below .result) (c .before .before .before .before .before .before .before .before .before .before .before .before .before .before .before .before .before .before .below2 .result) (c .before .before .before .before .before .before .before .before .before .before .before .before .before .before .before .before .before .below3 .result) (c .before .before .before .before .before .before .before .before .before .before .before .before .before .before .before .before .before .before .before .below .ensures .0) (c .before .before .before .before .before .before .before .before .before .before .before .before .before .before .before .before .before .before .below2 .ensures .0) (c .before .before .before .before .before .before .before .before .before .before .before .before .before .before .before .before .before .below3 .ensures .0)) .by) in
     w .depth
 
--- src/lib.rt:471:21
 add-n : tie.Need-add-n Inv-loop μ-loop
 add-n c =
     let l = c .before .before .before .before .before .before .before .before .before .before .before .before .before .before .before .before .before .before .before .before .before .before .before .loop in
@@ -153,31 +124,27 @@ add-n c =
     let w = rw (c .before .before .before .before .before .before .step .given .1) at (c .before .before .before .before .before .before .before .before .before .before .before .run-step .ensures (valueOn (l .work-items) (l .work-values) (l .stack)) (tops (s .args .pack .now) (s .args .sheet) (definitions (s .args .ends .now) (s .args .defined .now) (format1 .limit)) (map (valOf (s .args .slot-items .now) (s .args .slot-values .now)) (s .args .slots)) (s .args .work-items .now) (s .args .work-values .now) (l .used) (l .work-items) (l .work-values) (l .stack) (l .n) (l .at) (l .i) (l .inv) (c .before .before .before .before .before .before .before .before .before .before .before .before .before .before .before .before .before .before .before .below .result) (c .before .before .before .before .before .before .before .before .before .before .before .before .before .before .before .before .before .before .below2 .result) (c .before .before .before .before .before .before .before .before .before .before .before .before .before .before .before .before .before .below3 .result) (c .before .before .before .before .before .before .before .before .before .before .before .before .before .before .before .before .before .before .before .below .ensures .0) (c .before .before .before .before .before .before .before .before .before .before .before .before .before .before .before .before .before .before .below2 .ensures .0) (c .before .before .before .before .before .before .before .before .before .before .before .before .before .before .before .before .before .below3 .ensures .0)) .by) in
     omega (arith, w .depth)
 
--- src/lib.rt:472:17
 add-at : tie.Need-add-at Inv-loop μ-loop
 add-at c =
     let s = c .before .before .before .before .before .before .before .before .before .before .before .before .before .before .before .before .before .before .before .before .before .before .before .before .before .before .before .before .before .before in
     let l = c .before .before .before .before .before .before .before .before .before .before .before .before .before .before .before .before .before .before .before .before .before .before .before .loop in
     let sp = c .before .before .before .before .before .before .before .before .before .before .before .before .before .before .before .before .before .before .before .before .before .before .before .before .sheet-span .ensures in
     let more : l .at < sheetEnd (s .args .pack .now) (s .args .sheet) = omega (arith, sp .ends, c .before .before .before .before .before .before .before .before .before .before .before .before .before .before .before .before .before .before .before .before .before .before .loop-test .taken) in
-    let nx = c .before .before .before .before .before .before .before .before .before .before .before .before .before .before .before .before .before .before .before .before .before .read-instruction .ensures .next (s .args .sheet) (l .i) (l .inv .standing) more in
-    omega (arith, nx .reach, sp .ends, sp .within, c .before .before .before .before .before .before .before .before .before .before .before .before .before .before .before .before .before .before .before .before .instruction-width .ensures, s .pre .0 .sound .contents .frame .short)
+    let nx = c .before .before .before .before .before .before .before .before .before .before .before .before .before .before .before .before .before .before .before .before .before .read-instruction .ensures .each (s .args .sheet) (l .i) (l .inv .standing) more in
+    omega (arith, nx .within, sp .ends, sp .within, c .before .before .before .before .before .before .before .before .before .before .before .before .before .before .before .before .before .before .before .before .instruction-width .ensures, s .pre .0 .sound .contents .frame .short)
 
--- src/lib.rt:473:17
 add-i : tie.Need-add-i Inv-loop μ-loop
 add-i c =
     let s = c .before .before .before .before .before .before .before .before .before .before .before .before .before .before .before .before .before .before .before .before .before .before .before .before .before .before .before .before .before .before in
     let l = c .before .before .before .before .before .before .before .before .before .before .before .before .before .before .before .before .before .before .before .before .before .before .before .loop in
     let sp = c .before .before .before .before .before .before .before .before .before .before .before .before .before .before .before .before .before .before .before .before .before .before .before .before .sheet-span .ensures in
     let more : l .at < sheetEnd (s .args .pack .now) (s .args .sheet) = omega (arith, sp .ends, c .before .before .before .before .before .before .before .before .before .before .before .before .before .before .before .before .before .before .before .before .before .before .loop-test .taken) in
-    omega (arith, next-of (s .args .pack .now) (s .args .sheet) (l .i) (l .at) (l .inv .standing) more .1 .few)
+    omega (arith, c .before .before .before .before .before .before .before .before .before .before .before .before .before .before .before .before .before .before .before .before .before .read-instruction .ensures .each (s .args .sheet) (l .i) (l .inv .standing) more .few)
 
--- src/lib.rt:443:5
 loop-less : tie.Need-loop-less Inv-loop μ-loop
 loop-less c =
     omega (arith, c .before .before .before .before .before .before .before .before .before .before .before .before .before .before .before .before .before .before .before .before .before .before .loop-test .taken, c .before .before .before .before .before .before .before .before .before .before .before .before .before .before .before .before .before .before .before .before .instruction-width .ensures, width-some (instrOf (c .before .before .before .before .before .before .before .before .before .before .before .before .before .before .before .before .before .before .before .before .before .read-instruction .result)))
 
--- src/lib.rt:443:5
 loop-again : tie.Need-loop-again Inv-loop μ-loop
 loop-again c =
     let s = c .before .before .before .before .before .before .before .before .before .before .before .before .before .before .before .before .before .before .before .before .before .before .before .before .before .before .before .before .before .before in
@@ -188,18 +155,15 @@ loop-again c =
     let k = subst (λ (x : ℕ). Longest (l .used) (c .before .before .keep-longest .last .0) (c .before .before .before .before .before .before .step .given .0 .0) x) (c .before .before .before .len-of .ensures) (c .before .before .keep-longest .ensures) in
     rw (c .before .before .before .before .before .before .before .before .before .before .before .before .before .before .before .before .before .before .before .before .instruction-width .ensures) (advance (s .args .pack .now) (s .args .sheet) (definitions (s .args .ends .now) (s .args .defined .now) (format1 .limit)) (map (valOf (s .args .slot-items .now) (s .args .slot-values .now)) (s .args .slots)) (s .args .work-items .now) (s .args .work-values .now) (l .used) (l .work-items) (l .work-values) (l .stack) (l .n) (l .at) (l .i) (l .inv) (instrOf (c .before .before .before .before .before .before .before .before .before .before .before .before .before .before .before .before .before .before .before .before .before .read-instruction .result)) (c .before .before .before .before .before .before .before .before .before .before .before .before .before .before .before .before .before .before .before .before .before .read-instruction .ensures) more _ _ _ _ _ (s .pre .1 .1) w k)
 
--- src/lib.rt:475:22
 enum-known-step-2 : tie.Need-enum-known-step-2 Inv-loop μ-loop
 enum-known-step-2 c = search needs
 
--- src/lib.rt:476:17
 same-length : tie.Need-same-length Inv-loop μ-loop
 same-length c =
     let l = c .before .before .before .before .before .before .before .before .before .before .before .before .before .before .before .before .before .before .loop in
     let s = c .before .before .before .before .before .before .before .before .before .before .before .before .before .before .before .before .before .before .before .before .before .before .before .before .before in
     l .inv .used-is ∙ sym (ap length (s .pre .1 .0 .1) ∙ length-replicate {A = ℕ} stackLimit 0)
 
--- src/lib.rt:476:17
 same-length-2 : tie.Need-same-length-2 Inv-loop μ-loop
 same-length-2 c =
     let l = c .before .before .before .before .before .before .before .before .before .before .before .before .before .before .before .before .before .before .loop in
@@ -207,7 +171,6 @@ same-length-2 c =
     let w = rw (c .before .step2 .given .1) at (c .before .before .before .before .before .before .run-step .ensures (valueOn (l .work-items) (l .work-values) (l .stack)) (tops (s .args .pack .now) (s .args .sheet) (definitions (s .args .ends .now) (s .args .defined .now) (format1 .limit)) (map (valOf (s .args .slot-items .now) (s .args .slot-values .now)) (s .args .slots)) (s .args .work-items .now) (s .args .work-values .now) (l .used) (l .work-items) (l .work-values) (l .stack) (l .n) (l .at) (l .i) (l .inv) (c .before .before .before .before .before .before .before .before .before .before .before .before .before .before .below .result) (c .before .before .before .before .before .before .before .before .before .before .before .before .before .below2 .result) (c .before .before .before .before .before .before .before .before .before .before .before .before .below3 .result) (c .before .before .before .before .before .before .before .before .before .before .before .before .before .before .below .ensures .0) (c .before .before .before .before .before .before .before .before .before .before .before .before .before .below2 .ensures .0) (c .before .before .before .before .before .before .before .before .before .before .before .before .below3 .ensures .0)) .by) in
     ap length (w .items-same) ∙ l .inv .items-touched .long
 
--- src/lib.rt:476:17
 same-length-3 : tie.Need-same-length-3 Inv-loop μ-loop
 same-length-3 c =
     let l = c .before .before .before .before .before .before .before .before .before .before .before .before .before .before .before .before .before .before .loop in
@@ -215,7 +178,6 @@ same-length-3 c =
     let w = rw (c .before .step2 .given .1) at (c .before .before .before .before .before .before .run-step .ensures (valueOn (l .work-items) (l .work-values) (l .stack)) (tops (s .args .pack .now) (s .args .sheet) (definitions (s .args .ends .now) (s .args .defined .now) (format1 .limit)) (map (valOf (s .args .slot-items .now) (s .args .slot-values .now)) (s .args .slots)) (s .args .work-items .now) (s .args .work-values .now) (l .used) (l .work-items) (l .work-values) (l .stack) (l .n) (l .at) (l .i) (l .inv) (c .before .before .before .before .before .before .before .before .before .before .before .before .before .before .below .result) (c .before .before .before .before .before .before .before .before .before .before .before .before .before .below2 .result) (c .before .before .before .before .before .before .before .before .before .before .before .before .below3 .result) (c .before .before .before .before .before .before .before .before .before .before .before .before .before .before .below .ensures .0) (c .before .before .before .before .before .before .before .before .before .before .before .before .before .below2 .ensures .0) (c .before .before .before .before .before .before .before .before .before .before .before .before .below3 .ensures .0)) .by) in
     ap length (w .values-same) ∙ l .inv .values-touched .long
 
--- src/lib.rt:476:17
 returns : tie.Need-returns Inv-loop μ-loop
 returns c =
     let s = c .before .before .before .before .before .before .before .before .before .before .before .before .before .before .before .before .before .before .before .before .before .before .before .before .before in
@@ -231,32 +193,27 @@ returns c =
       few = l .inv .few;
     }
 
--- src/lib.rt:481:20
 array-copy-out-last : tie.Need-array-copy-out-last Inv-loop μ-loop
 array-copy-out-last c = search needs
 
--- src/lib.rt:418:1
 same-length-4 : tie.Need-same-length-4 Inv-loop μ-loop
 same-length-4 c =
     let l = c .before .before .before .loop in
     let s = c .before .before .before .before .before .before .before .before .before .before in
     l .inv .used-is ∙ sym (ap length (s .pre .1 .0 .1) ∙ length-replicate {A = ℕ} stackLimit 0)
 
--- src/lib.rt:418:1
 same-length-5 : tie.Need-same-length-5 Inv-loop μ-loop
 same-length-5 c =
     let l = c .before .before .before .loop in
     let s = c .before .before .before .before .before .before .before .before .before .before in
     l .inv .items-touched .long
 
--- src/lib.rt:418:1
 same-length-6 : tie.Need-same-length-6 Inv-loop μ-loop
 same-length-6 c =
     let l = c .before .before .before .loop in
     let s = c .before .before .before .before .before .before .before .before .before .before in
     l .inv .values-touched .long
 
--- src/lib.rt:418:1
 returns-2 : tie.Need-returns-2 Inv-loop μ-loop
 returns-2 c =
     let l = c .before .before .before .loop in
@@ -264,28 +221,24 @@ returns-2 c =
     let sp = c .before .before .before .before .sheet-span .ensures in
     record { end-is = one-left (s .args .pack .now) (s .args .sheet) (definitions (s .args .ends .now) (s .args .defined .now) (format1 .limit)) (map (valOf (s .args .slot-items .now) (s .args .slot-values .now)) (s .args .slots)) (s .args .work-items .now) (s .args .work-values .now) (l .used) (l .work-items) (l .work-values) (l .stack) (l .n) (l .at) (l .i) (l .inv) (omega (arith, sp .ends, c .before .before .loop-test .left)) (c .before .if1 .taken); end-formed = l .inv .formed 0 (omega (arith, c .before .if1 .taken)); items-touched = l .inv .items-touched; values-touched = l .inv .values-touched; few = l .inv .few }
 
--- src/lib.rt:418:1
 same-length-7 : tie.Need-same-length-7 Inv-loop μ-loop
 same-length-7 c =
     let l = c .before .before .loop in
     let s = c .before .before .before .before .before .before .before .before .before in
     l .inv .used-is ∙ sym (ap length (s .pre .1 .0 .1) ∙ length-replicate {A = ℕ} stackLimit 0)
 
--- src/lib.rt:418:1
 same-length-8 : tie.Need-same-length-8 Inv-loop μ-loop
 same-length-8 c =
     let l = c .before .before .loop in
     let s = c .before .before .before .before .before .before .before .before .before in
     l .inv .items-touched .long
 
--- src/lib.rt:418:1
 same-length-9 : tie.Need-same-length-9 Inv-loop μ-loop
 same-length-9 c =
     let l = c .before .before .loop in
     let s = c .before .before .before .before .before .before .before .before .before in
     l .inv .values-touched .long
 
--- src/lib.rt:418:1
 returns-3 : tie.Need-returns-3 Inv-loop μ-loop
 returns-3 c =
     let l = c .before .before .loop in

@@ -8,8 +8,6 @@ use Rattle.running.proofs.Filling.{same-none, same-long, same-more}
 use borrow.Author.Needs.{needs}
 use Rattle.running.proofs.zero_items.Statement.{statement}
 use Rattle.running.proofs.zero_items.Tie as tie
-use Rattle.running.proofs.zero_items.Reads as reads
-use Rattle.running.proofs.zero_items.Lts as lts
 
 abbrev Inv-loop : tie.InvT-loop
 Inv-loop s₀ from n k₀ s k =
@@ -19,49 +17,40 @@ abbrev μ-loop : tie.MeasureT-loop
 μ-loop s₀ from n k₀ s k =
     n - k
 
--- src/lib.rt:383:5
 loop-holds : tie.Need-loop-holds Inv-loop μ-loop
 loop-holds c =
     (omega arith, same-none {A = ℕ} (c .args .from) 0 (c .args .s .now))
 
--- src/lib.rt:384:11
 add-s : tie.Need-add-s Inv-loop μ-loop
 add-s c = search needs
 
--- src/lib.rt:384:9
 mul-s : tie.Need-mul-s Inv-loop μ-loop
 mul-s c = search needs
 
--- src/lib.rt:384:9
 slice-write-s : tie.Need-slice-write-s Inv-loop μ-loop
 slice-write-s c =
     let s = c .before .before in
     let l = c .before .loop in
     omega (arith, same-long (s .args .from) 0 (s .args .s .now) (l .k) (l .s) (l .inv .1) (omega (arith, s .pre)), s .pre)
 
--- src/lib.rt:385:9
 add-k : tie.Need-add-k Inv-loop μ-loop
 add-k c = search needs
 
--- src/lib.rt:383:5
 loop-less : tie.Need-loop-less Inv-loop μ-loop
 loop-less c = search needs
 
--- src/lib.rt:383:5
 loop-again : tie.Need-loop-again Inv-loop μ-loop
 loop-again c =
     let s = c .before .before in
     let l = c .before .loop in
     (omega arith, same-more (s .args .from) 0 (s .args .s .now) (l .k) (l .s) (l .inv .1) (omega (arith, s .pre)))
 
--- src/lib.rt:378:1
 same-length : tie.Need-same-length Inv-loop μ-loop
 same-length c =
     let s = c .before .before in
     let l = c .before .loop in
     same-long (s .args .from) 0 (s .args .s .now) (l .k) (l .s) (l .inv .1) (omega (arith, s .pre))
 
--- src/lib.rt:378:1
 returns : tie.Need-returns Inv-loop μ-loop
 returns c =
     let s = c .before .before in
