@@ -1,13 +1,14 @@
 -- What a run asks of lent memory, what it answers, and what it leaves in the slices. Assumes nothing.
 use mathlib.Core.Path.{_≡_}
-use mathlib.Core.Bool.{Bool, false, _&&_}
+use mathlib.Core.Bool.{Bool, false}
 use mathlib.Core.List.{List, []}
 use Prim.Native.Nat.{ℕ, _*_, _≤_, _<_}
-use lib.Dec.{leb, eqb}
+use lib.Dec.{leb}
 use lib.IntN.{ℤ, pos}
 use lib.ListN.{length, getD, replicate}
 use Rattle.ink_number.specs.Answer.{Answer, gives, refuses}
 use Rattle.ink_list.specs.Entries.{Entry, items, values}
+use Rattle.ink_list.specs.Every.{_and_}
 use Rattle.ink_list.specs.Filled.{over}
 use Rattle.ink_value.specs.Val.{Val}
 use Rattle.ink_value.specs.Convert.{entriesOf}
@@ -17,9 +18,10 @@ use Rattle.ink_value.specs.declared.Value.the-variants as Is
 use Rattle.pack.specs.Bodies.{Pack, decoded}
 use Rattle.pack.specs.Format.{format1}
 use Rattle.pack.specs.Judge.{Sound}
-use Rattle.pack.specs.Read.{endsOf, definedOf, literalOf, program, definitionsOf}
+use Rattle.pack.specs.Read.{endsOf, definedOf, definitionsOf, literalOf, sheetOf, program}
 use Rattle.pack.specs.declared.format.Format.{Format}
 use Rattle.sheet.specs.Machine.{End, ended, stopped, stackLimit, run}
+use Rattle.sheet.specs.Whole.{started}
 use Rattle.running.specs.declared.Ran.{Ran}
 use Rattle.running.specs.declared.Ran.the-variants as Rn
 
@@ -27,11 +29,14 @@ use Rattle.running.specs.declared.Ran.the-variants as Rn
 abbrev pub workLimit : Format → ℕ
 workLimit F = stackLimit * F .limit
 
--- 7, of a run: "Are .. slot .. lists formed as literals with their two slices equally long, result slices at least 256 entries, work slices 16,384"
+-- 7, of the slices that a run writes: "result slices at least 256 entries, work slices 16,384"
+abbrev pub longEnough : Format → List ℕ → List ℤ → List ℕ → List ℤ → Bool
+longEnough F wi wv ri rv =
+    leb (F .limit) (length ri) and leb (F .limit) (length rv) and leb (workLimit F) (length wi) and leb (workLimit F) (length wv)
+
+-- 7, of a run: "Are .. slot .. lists formed as literals with their two slices equally long", and those slices long enough
 unfoldable pub memory : Format → List Value → List ℕ → List ℤ → List ℕ → List ℤ → List ℕ → List ℤ → Pack → Bool
-memory F slots si sv wi wv ri rv d =
-    allFormed (length (definedOf d)) (length (d .definitions)) si sv slots
-    && leb (F .limit) (length ri) && leb (F .limit) (length rv) && leb (workLimit F) (length wi) && leb (workLimit F) (length wv)
+memory F slots si sv wi wv ri rv d = allFormed (length (definedOf d)) (length (endsOf d)) si sv slots and longEnough F wi wv ri rv
 
 -- the answer of each end: a List's entries stand from the start of the result slices
 abbrev pub ranTo : End Val → Ran
@@ -76,3 +81,15 @@ pub record Memory (wi : List ℕ) (wv : List ℤ) (ri : List ℕ) (rv : List ℤ
 -- the run of a sheet of a pack that passed
 abbrev pub runOf : List ℕ → ℕ → List Val → End Val
 runOf p s slots = run (definitionsOf (decoded format1 p) format1) (program p s) (literalOf (decoded format1 p)) slots .end
+
+-- ---- a run of any bytes
+
+-- a run's end, from the answer of questions 1 to 7
+abbrev pub endAfter : ℕ → List Val → Answer Pack → End Val
+endAfter s slots a = started a (λ d. run (definitionsOf d format1) (sheetOf d s) (literalOf d) slots) .end
+
+-- what a run comes to, from that answer: its end, and what it leaves in the result and the work slices
+pub record Runs (a : Answer Pack) (s : ℕ) (slots : List Val) (r : Ran) (wi wi′ : List ℕ) (wv wv′ : List ℤ) (ri ri′ : List ℕ) (rv rv′ : List ℤ) : Type 0 where
+  pub ran : RanTo (endAfter s slots a) r ri ri′ rv rv′
+  pub items-left : wi′ ≡ workAfter (workLimit format1) 0 a wi
+  pub values-left : wv′ ≡ workAfter (workLimit format1) (pos 0) a wv
