@@ -4,12 +4,14 @@ use mathlib.Core.Bool.{true}
 use lib.Ieee.{ofInt, toBits}
 use Rattle.ink_number.specs.Int.{quotient, remainder, residue, signed, wrap}
 use Rattle.ink_number.specs.Known.{allHold}
-use Rattle.ink_number.specs.Known as Below
+use Rattle.ink_list.specs.Known as Below
+use Rattle.ink_list.specs.Known.{listPoints}
+use Rattle.ink_number.specs.Known as Numbers
 use Rattle.native_function_call.specs.Kinds.{unary, arity, kindUnary, kindBinary, kindApply}
 use Rattle.native_function_call.specs.Numbers.{arithZ}
 use Rattle.native_function_call.specs.Apply.{wholeUnary, compute, applyOp}
 use Rattle.native_function_call.specs.Known.{points}
 
 pub points-hold : allHold points ≡ true
-unfolding points Below.points quotient remainder residue signed wrap ofInt toBits unary arity kindUnary kindBinary kindApply arithZ wholeUnary compute applyOp
+unfolding points Below.points listPoints Numbers.points quotient remainder residue signed wrap ofInt toBits unary arity kindUnary kindBinary kindApply arithZ wholeUnary compute applyOp
 points-hold = refl

@@ -4,7 +4,7 @@ use mathlib.Core.List.{List, [], _∷_, _++_}
 use lib.IntN.{ℤ, pos}
 use Rattle.ink_number.specs.Int.{eqZ}
 use Rattle.ink_number.specs.Known.{answers}
-use Rattle.ink_number.specs.Known as Below
+use Rattle.ink_list.specs.Known as Below
 use Rattle.ink_value.specs.Val.{Val, bool, int, float, list, void}
 use Rattle.native_function_call.specs.Op.{opAdd, opNot}
 use Rattle.list_definitions.specs.Defs.{ListDefinitions}
