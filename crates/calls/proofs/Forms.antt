@@ -1,4 +1,4 @@
--- Operands that are not used, question 7 of those that are, and slices read from the start. Assumes nothing.
+-- Operands that are not used, and question 7 of those that are. Assumes nothing.
 use mathlib.Core.Path.{_≡_, refl, sym, ap, _∙_}
 use mathlib.Core.Bool.{Bool, true, false, cond}
 use mathlib.Core.List.{List, [], _∷_, map}
@@ -6,13 +6,11 @@ use Prim.Native.Nat.{ℕ, zero, suc, _^_, _≤_}
 use native.Mathlib.Omega.{arith}
 use lib.Dec.{ltb, eqb}
 use lib.IntN.{ℤ}
-use lib.ListN.{length, take, drop, length-append}
+use lib.ListN.{length, take}
 use lib.Pow.{pow-pos}
-use lib.Seq.{take-at}
 use borrow.Author.Tests.{lt-ltb, le-leb, eq-eqb, ne-eqb}
 use Rattle.ink_list.specs.Every.{_and_}
 use Rattle.ink_list.specs.Entries.{bitsBelow, formed}
-use Rattle.ink_list.specs.Filled.{over}
 use Rattle.ink_list.proofs.Every.{and-left, and-right, and-both, and-no-left, and-no-right}
 use Rattle.ink_value.specs.Val.{Val}
 use Rattle.ink_value.specs.Value.{valOf, Formed, formedIn, eachFormed, allFormed}
@@ -23,10 +21,10 @@ use Rattle.list_definitions.specs.Defs.{ListDefinitions}
 use Rattle.native_function_call.specs.Apply.{call}
 use Rattle.calls.specs.Call.{operandsOk, resultsOk, called, castTo, coerced, onPack}
 use Rattle.ink_value.specs.Convert.{cast}
-use Rattle.pack.specs.Bodies.{Pack, decoded}
+use Rattle.pack.specs.Bodies.{decoded}
 use Rattle.pack.specs.Format.{format1}
 use Rattle.pack.specs.Judge.{judge}
-use Rattle.pack.specs.Read.{endsOf, definedOf, definitionsOf, Tabled}
+use Rattle.pack.specs.Read.{definitionsOf}
 use Rattle.ink_value.specs.declared.Value.the-variants as Is
 
 -- Void is always formed
@@ -59,33 +57,6 @@ pub map-take : {A B : Type 0} (f : A → B) (n : ℕ) (l : List A) → map f (ta
 map-take f zero l = refl
 map-take f (suc n) [] = refl
 map-take {A} {B} f (suc n) (x ∷ l) = ap {B = List B} (λ r. f x ∷ r) (map-take f n l)
-
--- what was written over the start is read back
-front : {A : Type 0} (xs old new : List A) (n : ℕ) → n ≡ length xs → new ≡ over xs old → take n new ≡ xs
-front xs old new n h e = rw (e, h) (take-at xs _ (length xs) refl)
-
-front-long : {A : Type 0} (xs old new : List A) (n : ℕ) → n ≡ length xs → new ≡ over xs old → n ≤ length new
-front-long xs old new n h e = omega (arith, ap length e, length-append xs (drop (length xs) old))
-
--- the tables of a pack, read into two arrays
-module _ {d : Pack} {n m : ℕ} {oe oe′ : List ℕ} {od od′ : List ℤ} (t : Tabled d n m oe oe′ od od′) where
-  pub ends-front : take n oe′ ≡ endsOf d
-  ends-front = front (endsOf d) oe oe′ n (t .ends-long) (t .ends-in)
-
-  pub ends-fit : n ≤ length oe′
-  ends-fit = front-long (endsOf d) oe oe′ n (t .ends-long) (t .ends-in)
-
-  pub ends-count : n ≡ length (take n oe′)
-  ends-count = t .ends-long ∙ sym (ap length ends-front)
-
-  pub defined-front : take m od′ ≡ definedOf d
-  defined-front = front (definedOf d) od od′ m (t .defined-long) (t .defined-in)
-
-  pub defined-fit : m ≤ length od′
-  defined-fit = front-long (definedOf d) od od′ m (t .defined-long) (t .defined-in)
-
-  pub defined-count : m ≡ length (take m od′)
-  defined-count = t .defined-long ∙ sym (ap length defined-front)
 
 -- questions 1 to 5
 

@@ -5,3 +5,5 @@ pub mod Operating
 pub mod Working
 pub mod Clearing
 pub mod Ending
+pub mod Forming
+pub mod Opening

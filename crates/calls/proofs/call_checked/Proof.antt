@@ -8,7 +8,7 @@ use Rattle.pack.specs.Bodies.{decoded}
 use Rattle.pack.specs.Read.{endsOf, definedOf, definitionsOf}
 use Rattle.pack.proofs.Values.{pack-tables}
 use Rattle.calls.specs.Call.{called}
-use Rattle.calls.proofs.Forms.{ends-front, ends-fit, ends-count, defined-front, defined-fit, defined-count}
+use Rattle.pack.proofs.Tabled.{ends-front, ends-fit, ends-count, defined-front, defined-fit, defined-count}
 use native.Mathlib.Omega.{arith}
 use Rattle.ink_value.proofs.Given.{gave-is}
 use Rattle.native_function_call.specs.Lists.{definitions}

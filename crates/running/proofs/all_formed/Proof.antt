@@ -1,55 +1,77 @@
+use mathlib.Core.Path.{_≡_, refl, sym, _∙_}
+use Prim.Native.Nat.{_-_, _≤_}
+use native.Mathlib.Omega.{arith}
+use mathlib.Core.Bool.{false}
+use lib.ListN.{length, drop}
+use borrow.Author.Tests.{not-true, not-false}
+use Rattle.pack.specs.Format.{slotLimit}
+use Rattle.ink_value.specs.Value.{eachFormed}
+use Rattle.ink_value.specs.declared.Value.the-variants as Is
+use Rattle.running.proofs.Forming.{slot-no, slot-yes, slots-end, uneven, even}
 use borrow.Author.Needs.{needs}
 use Rattle.running.proofs.all_formed.Statement.{statement}
 use Rattle.running.proofs.all_formed.Tie as tie
-use Rattle.running.proofs.all_formed.Reads as reads
-use Rattle.running.proofs.all_formed.Lts as lts
-use Rattle.ink_value.proofs.is_formed.Reads as is-formed-reads
 
 abbrev Inv-loop : tie.InvT-loop
-Inv-loop items values total definitions slots k₀ k = ?
+Inv-loop items values total definitions slots k₀ k =
+    (k ≤ slotLimit) × (length slots ≡ slotLimit) × (eachFormed total definitions items values slots ≡ eachFormed total definitions items values (drop k slots))
 
 abbrev μ-loop : tie.MeasureT-loop
-μ-loop items values total definitions slots k₀ k = ?
+μ-loop items values total definitions slots k₀ k =
+    slotLimit - k
 
--- src/lib.rt:566:9
+-- src/lib.rt:567:9
 returns : tie.Need-returns Inv-loop μ-loop
-returns c = search needs
+returns c =
+    let s = c .before .before in
+    sym (uneven (s .args .total) (s .args .definitions) (s .args .items .now) (s .args .values .now) (s .args .t1) (c .if1 .taken))
 
--- src/lib.rt:569:5
+-- src/lib.rt:570:5
 loop-holds : tie.Need-loop-holds Inv-loop μ-loop
-loop-holds c = search needs
+loop-holds c =
+    let s = c .before .before in
+    (omega arith, s .good .0 .1 .0 .1, refl)
 
--- src/lib.rt:570:17
+-- src/lib.rt:571:17
 mul-v : tie.Need-mul-v Inv-loop μ-loop
 mul-v c = search needs
 
--- src/lib.rt:570:17
+-- src/lib.rt:571:17
 array-copy-out-v : tie.Need-array-copy-out-v Inv-loop μ-loop
 array-copy-out-v c = search needs
 
--- src/lib.rt:571:13
+-- src/lib.rt:572:13
 is-formed-requires : tie.Need-is-formed-requires Inv-loop μ-loop
 is-formed-requires c κs = search needs
 
--- src/lib.rt:572:13
+-- src/lib.rt:573:13
 returns-2 : tie.Need-returns-2 Inv-loop μ-loop
-returns-2 c = search needs
+returns-2 c =
+    let s = c .before .before .before .before .before .before .before in
+    let l = c .before .before .before .before .loop in
+    sym (even (s .args .total) (s .args .definitions) (s .args .items .now) (s .args .values .now) (s .args .t1) (c .before .before .before .before .before .if1 .left) ∙ l .inv .2 ∙ slot-no (s .args .total) (s .args .definitions) (s .args .items .now) (s .args .values .now) (s .args .t1) (l .k) (Is.Bool false) (omega (arith, c .before .before .before .loop-test .taken, l .inv .1)) (sym (c .before .is-formed .ensures) ∙ not-true _ (c .if2 .taken)))
 
--- src/lib.rt:574:9
+-- src/lib.rt:575:9
 add-k : tie.Need-add-k Inv-loop μ-loop
 add-k c = search needs
 
--- src/lib.rt:569:5
+-- src/lib.rt:570:5
 loop-less : tie.Need-loop-less Inv-loop μ-loop
 loop-less c = search needs
 
--- src/lib.rt:569:5
+-- src/lib.rt:570:5
 loop-again : tie.Need-loop-again Inv-loop μ-loop
-loop-again c = search needs
+loop-again c =
+    let s = c .before .before .before .before .before .before .before in
+    let l = c .before .before .before .before .loop in
+    (omega (arith, c .before .before .before .loop-test .taken), l .inv .1, l .inv .2 ∙ slot-yes (s .args .total) (s .args .definitions) (s .args .items .now) (s .args .values .now) (s .args .t1) (l .k) (Is.Bool false) (omega (arith, c .before .before .before .loop-test .taken, l .inv .1)) (sym (c .before .is-formed .ensures) ∙ not-false _ (c .if2 .left)))
 
--- src/lib.rt:556:1
+-- src/lib.rt:557:1
 returns-3 : tie.Need-returns-3 Inv-loop μ-loop
-returns-3 c = search needs
+returns-3 c =
+    let s = c .before .before .before .before in
+    let l = c .before .loop in
+    sym (even (s .args .total) (s .args .definitions) (s .args .items .now) (s .args .values .now) (s .args .t1) (c .before .before .if1 .left) ∙ l .inv .2 ∙ slots-end (s .args .total) (s .args .definitions) (s .args .items .now) (s .args .values .now) (s .args .t1) (l .k) (omega (arith, c .loop-test .left, l .inv .1)))
 
 pub all-formed-spec : {M : Type 1} → statement M
 all-formed-spec =

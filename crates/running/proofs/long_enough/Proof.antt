@@ -1,24 +1,31 @@
-use borrow.Author.Needs.{needs}
+use borrow.Author.Tests.{lt-leb, le-leb}
+use Rattle.ink_list.specs.Every.{_and_}
 use Rattle.running.proofs.long_enough.Statement.{statement}
 use Rattle.running.proofs.long_enough.Tie as tie
-use Rattle.running.proofs.long_enough.Reads as reads
-use Rattle.running.proofs.long_enough.Lts as lts
 
--- src/lib.rt:589:9
+-- src/lib.rt:590:9
 returns : tie.Need-returns
-returns c = search needs
+unfolding _and_
+returns c =
+    rw (lt-leb _ _ (c .if1 .taken))
 
--- src/lib.rt:592:9
+-- src/lib.rt:593:9
 returns-2 : tie.Need-returns-2
-returns-2 c = search needs
+unfolding _and_
+returns-2 c =
+    rw (le-leb _ _ (c .before .if1 .left), lt-leb _ _ (c .if2 .taken))
 
--- src/lib.rt:595:9
+-- src/lib.rt:596:9
 returns-3 : tie.Need-returns-3
-returns-3 c = search needs
+unfolding _and_
+returns-3 c =
+    rw (le-leb _ _ (c .before .before .if1 .left), le-leb _ _ (c .before .if2 .left), lt-leb _ _ (c .if3 .taken))
 
--- src/lib.rt:580:1
+-- src/lib.rt:581:1
 returns-4 : tie.Need-returns-4
-returns-4 c = search needs
+unfolding _and_
+returns-4 c =
+    rw (le-leb _ _ (c .before .before .if1 .left), le-leb _ _ (c .before .if2 .left), le-leb _ _ (c .if3 .left))
 
 pub long-enough-spec : {M : Type 1} → statement M
 long-enough-spec = tie.close (tie.spec returns returns-2 returns-3 returns-4)

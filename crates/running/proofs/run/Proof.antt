@@ -1,0 +1,71 @@
+use mathlib.Core.Path.{sym, ap, _∙_}
+use Rattle.pack.specs.Bodies.{decoded}
+use Rattle.pack.specs.Format.{format1}
+use Rattle.pack.specs.Judge.{checked}
+use Rattle.pack.specs.declared.Checked.{Checked}
+use Rattle.pack.proofs.Judged.{passed, turned}
+use Rattle.running.proofs.Opening.{runs-stopped, runs-is, opened-no, opened-yes}
+use borrow.Author.Needs.{needs}
+use Rattle.running.proofs.run.Statement.{statement}
+use Rattle.running.proofs.run.Tie as tie
+
+-- src/lib.rt:724:9
+check-requires : tie.Need-check-requires
+check-requires c κs = search needs
+
+-- src/lib.rt:732:13
+enum-told : tie.Need-enum-told
+enum-told c = search needs
+
+-- src/lib.rt:726:28
+run-passed-requires : tie.Need-run-passed-requires
+run-passed-requires c κs =
+    let s = c .before .before .before .before .before .before .before .before .before .before .before in
+    passed format1 (s .args .pack .now) (c .before .before .before .before .before .before .check .result) (c .before .before .before .before .enum-told .given .1) (c .before .before .before .before .before .before .check .ensures)
+
+-- src/lib.rt:737:26
+enum-known-checked : tie.Need-enum-known-checked
+enum-known-checked c = search needs
+
+-- src/lib.rt:709:1
+same-length : tie.Need-same-length
+same-length c = search needs
+
+-- src/lib.rt:709:1
+same-length-2 : tie.Need-same-length-2
+same-length-2 c = search needs
+
+-- src/lib.rt:709:1
+same-length-3 : tie.Need-same-length-3
+same-length-3 c = search needs
+
+-- src/lib.rt:709:1
+same-length-4 : tie.Need-same-length-4
+same-length-4 c = search needs
+
+-- src/lib.rt:709:1
+returns : tie.Need-returns
+returns c =
+    let s = c .before .before .before .before .before .before .before .before .before .before .before .before .before .before .before .before .before .before in
+    runs-is _ _ _ _ _ _ _ _ _ _ _ _ _ (opened-yes (s .args .pack .now) (s .args .sheet) _ (sym (c .before .before .before .before .before .before .before .before .before .before .before .before .before .check .ensures) ∙ ap (λ (x : Checked). checked x (decoded format1 (s .args .pack .now))) (c .before .before .before .before .before .before .before .before .before .before .before .enum-told .given .1))) (c .before .before .before .before .before .before .run-passed .ensures)
+
+-- src/lib.rt:709:1
+returns-2 : tie.Need-returns-2
+returns-2 c =
+    let s = c .before .before .before .before .before .before .before .before in
+    runs-stopped _ _ _ _ _ _ _ _ (opened-no (s .args .pack .now) (s .args .sheet) _ _ (turned format1 (s .args .pack .now) (c .before .before .before .check .result) _ (c .before .checked .given .1) (c .before .before .before .check .ensures)))
+
+pub run-spec : {M : Type 1} → statement M
+run-spec =
+    tie.close
+    (tie.spec
+    check-requires
+    enum-told
+    run-passed-requires
+    enum-known-checked
+    same-length
+    same-length-2
+    same-length-3
+    same-length-4
+    returns
+    returns-2)
