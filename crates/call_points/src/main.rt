@@ -1,0 +1,694 @@
+// Direct calls and conversions, a line for each: its name, then B and 0 or 1, I and a decimal number, F and eight hexadecimal digits, L and
+// its entries, V, or R and the number of the question that said no. Behind "then" stands the first place of the two result slices after
+// the entries, which held 9999 before.
+use ink_value::Outcome;
+use ink_value::Value;
+
+const STDOUT: i32 = 1;
+
+// A pack of two definitions, of the values 1, 2, 3 and of 10, 20.
+const PACK: [u8; 34] = [
+    1,
+    2,
+    0,
+    0,
+    12,
+    0,
+    13,
+    0,
+    25,
+    0,
+    9,
+    0,
+    3,
+    1,
+    0,
+    0,
+    0,
+    2,
+    0,
+    0,
+    0,
+    3,
+    0,
+    0,
+    0,
+    2,
+    10,
+    0,
+    0,
+    0,
+    20,
+    0,
+    0,
+    0,
+];
+
+// The entries of the operands.
+const ITEMS: [u16; 7] = [0, 2, 2, 0, 1, 2, 5];
+
+const VALUES: [i32; 7] = [1, 3, 30, -5, 1, 3, 4];
+
+// What the places of the result slices hold before a call.
+const UNWRITTEN_ITEM: u16 = 9999;
+
+const UNWRITTEN_VALUE: i32 = 9999;
+
+const ADD: u8 = 0;
+
+const SUBTRACT: u8 = 1;
+
+const DIVIDE: u8 = 2;
+
+const MULTIPLY: u8 = 3;
+
+const MOD: u8 = 4;
+
+const NEGATE: u8 = 5;
+
+const EQUAL: u8 = 6;
+
+const LESS: u8 = 8;
+
+const NOT_EQUALS: u8 = 11;
+
+const NOT: u8 = 12;
+
+const AND: u8 = 13;
+
+const OR: u8 = 14;
+
+const MIN: u8 = 15;
+
+const MAX: u8 = 16;
+
+const INT: u8 = 20;
+
+const FLOAT: u8 = 21;
+
+const HAS: u8 = 22;
+
+const HASNT: u8 = 23;
+
+const ALL: u8 = 27;
+
+const VALUE_OF_LIST: u8 = 29;
+
+const INVERT: u8 = 30;
+
+const RANGE: u8 = 31;
+
+fn text(s: &[u8]) {
+    io::write_all(STDOUT, s);
+}
+
+fn natural(n: u64) {
+    io::print_decimal(STDOUT, n);
+}
+
+fn wide(n: u16) -> u64 {
+    n as u64
+}
+
+fn wide_byte(n: u8) -> u64 {
+    n as u64
+}
+
+fn decimal(v: i32) {
+    let n = ink_number::int::pattern(v) as u64;
+    if n < 2147483648 {
+        natural(n);
+        return;
+    }
+    text(b"-");
+    natural(4294967296 - n);
+}
+
+fn entry(item: u16, value: i32) {
+    text(b" ");
+    natural(wide(item));
+    text(b"=");
+    decimal(value);
+}
+
+// The first n entries.
+fn entries(n: usize, items: &[u16], values: &[i32]) {
+    let mut i = 0;
+    while i < n {
+        if items.len() <= i {
+            return;
+        }
+        if values.len() <= i {
+            return;
+        }
+        entry(items[i], values[i]);
+        i += 1;
+    }
+}
+
+// The place after the first n entries.
+fn place_after(n: usize, items: &[u16], values: &[i32]) {
+    if items.len() <= n {
+        return;
+    }
+    if values.len() <= n {
+        return;
+    }
+    text(b" then");
+    entry(items[n], values[n]);
+}
+
+fn truth(b: bool) {
+    if b {
+        text(b" B 1");
+        return;
+    }
+    text(b" B 0");
+}
+
+fn show_value(v: Value, items: &[u16], values: &[i32]) {
+    match v {
+        Value::Bool(b) => {
+            truth(b);
+        }
+        Value::Int(z) => {
+            text(b" I ");
+            decimal(z);
+        }
+        Value::Float(x) => {
+            text(b" F ");
+            io::print_hex(STDOUT, ink_number::convert::float_to_bits(x) as u64, 8);
+        }
+        Value::List {
+            origins: _,
+            start: _,
+            len,
+        } => {
+            text(b" L ");
+            natural(len as u64);
+            entries(len, items, values);
+        }
+        Value::Void => {
+            text(b" V");
+        }
+    }
+}
+
+fn refused(number: u8) {
+    text(b" R ");
+    natural(wide_byte(number));
+}
+
+fn written(r: Outcome) -> usize {
+    match r {
+        Outcome::Value(v) => ink_value::len_of(v),
+        Outcome::Refused(_) => 0,
+    }
+}
+
+fn show(r: Outcome, items: &[u16], values: &[i32]) {
+    match r {
+        Outcome::Value(v) => {
+            show_value(v, items, values);
+        }
+        Outcome::Refused(number) => {
+            refused(number);
+        }
+    }
+}
+
+// The answer of a call that has result slices.
+fn report(r: Outcome, items: &[u16], values: &[i32]) {
+    show(r, items, values);
+    place_after(written(r), items, values);
+    text(b"\n");
+}
+
+fn list(origins: u64, start: usize, len: usize) -> Value {
+    Value::List {
+        origins,
+        start,
+        len,
+    }
+}
+
+fn float(bits: u32) -> Value {
+    Value::Float(ink_number::convert::float_from_bits(bits))
+}
+
+fn call(name: &[u8], op: u8, count: usize, a: Value, b: Value, c: Value) {
+    let mut oi = [UNWRITTEN_ITEM; 257];
+    let mut ov = [UNWRITTEN_VALUE; 257];
+    text(name);
+    text(b":");
+    let r = calls::call(&PACK, op, count, a, b, c, &ITEMS, &VALUES, &mut oi, &mut ov);
+    report(r, &oi, &ov);
+}
+
+fn one(name: &[u8], op: u8, a: Value) {
+    call(name, op, 1, a, Value::Void, Value::Void);
+}
+
+fn two(name: &[u8], op: u8, a: Value, b: Value) {
+    call(name, op, 2, a, b, Value::Void);
+}
+
+fn cast(name: &[u8], to: u8, v: Value) {
+    let mut oi = [UNWRITTEN_ITEM; 257];
+    let mut ov = [UNWRITTEN_VALUE; 257];
+    text(b"cast of ");
+    text(name);
+    text(b":");
+    let r = calls::cast(&PACK, to, v, &ITEMS, &VALUES, &mut oi, &mut ov);
+    report(r, &oi, &ov);
+}
+
+// The answer of a conversion that has no result slices.
+fn plain(r: Outcome) {
+    show(r, &ITEMS, &VALUES);
+    text(b"\n");
+}
+
+fn coerce(name: &[u8], v: Value) {
+    text(b"coerce_to_bool of ");
+    text(name);
+    text(b":");
+    plain(calls::coerce_to_bool(&PACK, v, &ITEMS, &VALUES));
+    text(b"coerce_to_int of ");
+    text(name);
+    text(b":");
+    plain(calls::coerce_to_int(&PACK, v, &ITEMS, &VALUES));
+    text(b"coerce_to_float of ");
+    text(name);
+    text(b":");
+    plain(calls::coerce_to_float(&PACK, v, &ITEMS, &VALUES));
+}
+
+// Result slices of lengths at and below 256.
+fn short_results() {
+    let mut i255 = [UNWRITTEN_ITEM; 255];
+    let mut v255 = [UNWRITTEN_VALUE; 255];
+    let mut i256 = [UNWRITTEN_ITEM; 256];
+    let mut v256 = [UNWRITTEN_VALUE; 256];
+    let a = list(3, 0, 2);
+    text(b"result slices of 255 items:");
+    let r = calls::call(
+        &PACK,
+        ADD,
+        2,
+        a,
+        a,
+        a,
+        &ITEMS,
+        &VALUES,
+        &mut i255,
+        &mut v256,
+    );
+    report(r, &i255, &v256);
+    text(b"result slices of 255 values:");
+    let s = calls::call(
+        &PACK,
+        ADD,
+        2,
+        a,
+        a,
+        a,
+        &ITEMS,
+        &VALUES,
+        &mut i256,
+        &mut v255,
+    );
+    report(s, &i256, &v255);
+    text(b"result slices of 256:");
+    let t = calls::call(
+        &PACK,
+        ADD,
+        2,
+        a,
+        a,
+        a,
+        &ITEMS,
+        &VALUES,
+        &mut i256,
+        &mut v256,
+    );
+    report(t, &i256, &v256);
+}
+
+// Operand slices that are not equally long.
+fn unequal_slices() {
+    let mut oi = [UNWRITTEN_ITEM; 257];
+    let mut ov = [UNWRITTEN_VALUE; 257];
+    text(b"operand slices of 7 items and 6 values:");
+    let a = Value::Int(1);
+    let r = calls::call(
+        &PACK,
+        ADD,
+        2,
+        a,
+        a,
+        a,
+        &ITEMS,
+        &VALUES[..6],
+        &mut oi,
+        &mut ov,
+    );
+    report(r, &oi, &ov);
+}
+
+// 1 + 1 on other bytes.
+fn on_pack(name: &[u8], pack: &[u8]) {
+    let mut oi = [UNWRITTEN_ITEM; 257];
+    let mut ov = [UNWRITTEN_VALUE; 257];
+    text(name);
+    text(b":");
+    let a = Value::Int(1);
+    let r = calls::call(pack, ADD, 2, a, a, a, &ITEMS, &VALUES, &mut oi, &mut ov);
+    report(r, &oi, &ov);
+}
+
+fn packs() {
+    on_pack(b"1 + 1 on an empty pack", &[1, 0, 0, 0]);
+    on_pack(b"format 2", &[2, 0, 0, 0]);
+    on_pack(b"a byte after the contents", &[1, 0, 0, 0, 0]);
+    on_pack(b"a definition of no item", &[1, 1, 0, 0, 8, 0, 1, 0, 0]);
+    on_pack(b"a literal of one byte", &[1, 0, 1, 0, 8, 0, 1, 0, 0]);
+    on_pack(b"instruction byte 38", &[1, 0, 0, 1, 8, 0, 1, 0, 38]);
+}
+
+fn casts() {
+    cast(b"2 to Bool", 0, Value::Int(2));
+    cast(b"a List to Bool", 0, list(3, 0, 2));
+    cast(b"a List to Int", 1, list(3, 0, 2));
+    cast(b"an empty List to Int", 1, list(3, 0, 0));
+    cast(b"a List to Float", 2, list(3, 0, 2));
+    cast(b"a List to List", 3, list(3, 0, 2));
+    cast(b"2 to List", 3, Value::Int(2));
+}
+
+fn refused_casts() {
+    cast(b"2 to Void", 4, Value::Int(2));
+    cast(b"Void to Int", 1, Value::Void);
+    cast(b"an item twice to Int", 1, list(3, 1, 2));
+}
+
+fn coercions() {
+    coerce(b"true", Value::Bool(true));
+    coerce(b"1", Value::Int(1));
+    coerce(b"2", Value::Int(2));
+    coerce(b"16777217", Value::Int(16777217));
+    coerce(b"2147483648.0", float(0x4f00_0000));
+    coerce(b"a List", list(3, 0, 2));
+    coerce(b"an item twice", list(3, 1, 2));
+    coerce(b"Void", Value::Void);
+}
+
+// Two Bools become Ints.
+fn bools() {
+    two(b"true + true", ADD, Value::Bool(true), Value::Bool(true));
+    two(
+        b"true - true",
+        SUBTRACT,
+        Value::Bool(true),
+        Value::Bool(true),
+    );
+    two(
+        b"Min of true and false",
+        MIN,
+        Value::Bool(true),
+        Value::Bool(false),
+    );
+    two(
+        b"Max of true and false",
+        MAX,
+        Value::Bool(true),
+        Value::Bool(false),
+    );
+    two(b"true == true", EQUAL, Value::Bool(true), Value::Bool(true));
+    one(b"Negate of true", NEGATE, Value::Bool(true));
+}
+
+// Division, and what the Rust panics at.
+fn ints() {
+    two(b"-7 / 2", DIVIDE, Value::Int(-7), Value::Int(2));
+    two(b"-7 % 2", MOD, Value::Int(-7), Value::Int(2));
+    two(
+        b"-2147483648 / -1",
+        DIVIDE,
+        Value::Int(-2147483648),
+        Value::Int(-1),
+    );
+    two(
+        b"-2147483648 % -1",
+        MOD,
+        Value::Int(-2147483648),
+        Value::Int(-1),
+    );
+    two(b"7 / 0", DIVIDE, Value::Int(7), Value::Int(0));
+    two(b"7 % 0", MOD, Value::Int(7), Value::Int(0));
+    two(
+        b"2147483647 + 1",
+        ADD,
+        Value::Int(2147483647),
+        Value::Int(1),
+    );
+    one(b"Not of 0", NOT, Value::Int(0));
+}
+
+// Floats, and Ints beside them.
+fn floats() {
+    one(b"Float of 16777216", FLOAT, Value::Int(16777216));
+    one(b"Float of 16777217", FLOAT, Value::Int(16777217));
+    one(b"Float of 16777219", FLOAT, Value::Int(16777219));
+    one(b"Int of 2147483648.0", INT, float(0x4f00_0000));
+    one(b"Int of -2.5", INT, float(0xc020_0000));
+    one(b"Int of NaN", INT, float(0x7fc0_0000));
+    two(b"7.0 / 0", DIVIDE, float(0x40e0_0000), Value::Int(0));
+    two(
+        b"16777217 + 0.0",
+        ADD,
+        Value::Int(16777217),
+        float(0x0000_0000),
+    );
+}
+
+// Empty lists.
+fn empties() {
+    one(b"Not of an empty List", NOT, list(3, 0, 0));
+    one(b"Not of a List", NOT, list(3, 0, 2));
+    two(
+        b"Has of an empty right side",
+        HAS,
+        list(3, 0, 2),
+        list(3, 0, 0),
+    );
+    two(b"Has of two empties", HAS, list(3, 0, 0), list(3, 0, 0));
+    two(b"Has of an item", HAS, list(3, 0, 2), list(3, 2, 1));
+    two(b"Hasnt of two empties", HASNT, list(3, 0, 0), list(3, 0, 0));
+    two(b"empty < empty", LESS, list(3, 0, 0), list(3, 0, 0));
+    two(b"empty < {0=1}", LESS, list(3, 0, 0), list(3, 0, 1));
+}
+
+// Range of {0=-5 1=1 2=3}: a bound that is neither Int nor List is 0 or 2147483647.
+fn ranges() {
+    call(
+        b"range from 2.5 to 3",
+        RANGE,
+        3,
+        list(3, 3, 3),
+        float(0x4020_0000),
+        Value::Int(3),
+    );
+    call(
+        b"range from -9 to 0.5",
+        RANGE,
+        3,
+        list(3, 3, 3),
+        Value::Int(-9),
+        float(0x3f00_0000),
+    );
+    call(
+        b"range from true to true",
+        RANGE,
+        3,
+        list(3, 3, 3),
+        Value::Bool(true),
+        Value::Bool(true),
+    );
+    call(
+        b"range from {0=1 2=3} to {0=1}",
+        RANGE,
+        3,
+        list(3, 3, 3),
+        list(3, 0, 2),
+        list(3, 0, 1),
+    );
+    call(
+        b"range from empty to empty",
+        RANGE,
+        3,
+        list(3, 3, 3),
+        list(3, 0, 0),
+        list(3, 0, 0),
+    );
+    call(
+        b"range of an Int",
+        RANGE,
+        3,
+        Value::Int(1),
+        Value::Int(1),
+        Value::Int(1),
+    );
+}
+
+// Lists with results of every kind.
+fn lists() {
+    two(b"{0=1 2=3} + {2=30}", ADD, list(3, 0, 2), list(3, 2, 1));
+    two(
+        b"{0=1 2=3} - {2=30}",
+        SUBTRACT,
+        list(3, 0, 2),
+        list(3, 2, 1),
+    );
+    two(b"{0=1 2=3} + 1", ADD, list(3, 0, 2), Value::Int(1));
+    two(b"{0=1 2=3} - 1", SUBTRACT, list(3, 0, 2), Value::Int(1));
+    one(b"All of both origins", ALL, list(3, 0, 0));
+    one(b"All of origin 1", ALL, list(2, 0, 0));
+    one(b"Invert of {0=1 2=3}", INVERT, list(3, 0, 2));
+    one(b"ValueOfList of {0=1 2=3}", VALUE_OF_LIST, list(3, 0, 2));
+}
+
+// One List: question 12.
+fn mixed() {
+    two(b"List + true", ADD, list(3, 0, 2), Value::Bool(true));
+    two(b"List + 2.0", ADD, list(3, 0, 2), float(0x4000_0000));
+    two(b"1 + List", ADD, Value::Int(1), list(3, 0, 2));
+    two(b"List Min 1", MIN, list(3, 0, 2), Value::Int(1));
+    two(b"List And 0.0", AND, list(3, 0, 2), float(0x0000_0000));
+    two(b"0 Or List", OR, Value::Int(0), list(3, 0, 2));
+}
+
+// Questions 11, 13 and 14.
+fn unavailable() {
+    two(b"List == List", EQUAL, list(3, 0, 2), list(3, 0, 2));
+    two(b"List != List", NOT_EQUALS, list(3, 0, 2), list(3, 0, 2));
+    two(b"List * List", MULTIPLY, list(3, 0, 2), list(3, 0, 2));
+    two(b"1 Has 1", HAS, Value::Int(1), Value::Int(1));
+    two(b"Void + 1", ADD, Value::Void, Value::Int(1));
+    two(b"List + Void", ADD, list(3, 0, 2), Value::Void);
+    one(b"Not of Void", NOT, Value::Void);
+    call(
+        b"range to Void",
+        RANGE,
+        3,
+        list(3, 0, 2),
+        Value::Int(1),
+        Value::Void,
+    );
+}
+
+// Questions 8 and 10.
+fn counts() {
+    call(b"POW", 17, 2, Value::Int(2), Value::Int(2), Value::Void);
+    call(
+        b"FLOOR",
+        18,
+        1,
+        float(0x4020_0000),
+        Value::Void,
+        Value::Void,
+    );
+    call(
+        b"CEILING",
+        19,
+        1,
+        float(0x4020_0000),
+        Value::Void,
+        Value::Void,
+    );
+    call(
+        b"operator 32",
+        32,
+        2,
+        Value::Int(1),
+        Value::Int(1),
+        Value::Void,
+    );
+    call(b"POW of none", 17, 0, Value::Void, Value::Void, Value::Void);
+    call(
+        b"Add of one",
+        ADD,
+        1,
+        Value::Int(1),
+        Value::Void,
+        Value::Void,
+    );
+    call(
+        b"Add of three",
+        ADD,
+        3,
+        Value::Int(1),
+        Value::Int(1),
+        Value::Int(1),
+    );
+    call(
+        b"Not of none",
+        NOT,
+        0,
+        Value::Void,
+        Value::Void,
+        Value::Void,
+    );
+    call(
+        b"range of two",
+        RANGE,
+        2,
+        list(3, 0, 2),
+        Value::Int(1),
+        Value::Void,
+    );
+}
+
+// Question 7 of operands.
+fn ill_formed() {
+    one(b"an item twice", NOT, list(3, 1, 2));
+    one(b"an item that is not in the pack", NOT, list(3, 6, 1));
+    one(b"an origin bit at D", NOT, list(4, 0, 1));
+    one(b"entries past the end", NOT, list(3, 6, 2));
+    two(b"the second ill-formed", ADD, list(3, 0, 2), list(3, 1, 2));
+    call(
+        b"ill-formed, operator POW",
+        17,
+        2,
+        list(3, 0, 2),
+        list(3, 1, 2),
+        Value::Void,
+    );
+    call(
+        b"ill-formed and not used",
+        NOT,
+        1,
+        Value::Int(0),
+        list(3, 1, 2),
+        Value::Void,
+    );
+}
+
+fn main() {
+    bools();
+    ints();
+    floats();
+    empties();
+    ranges();
+    lists();
+    mixed();
+    unavailable();
+    counts();
+    ill_formed();
+    short_results();
+    unequal_slices();
+    packs();
+    casts();
+    refused_casts();
+    coercions();
+}
