@@ -3,8 +3,10 @@
 // the entries, which held 9999 before.
 use ink_value::Outcome;
 use ink_value::Value;
-
-const STDOUT: i32 = 1;
+use printing::entry;
+use printing::refused;
+use printing::text;
+use printing::value;
 
 // A pack of two definitions, of the values 1, 2, 3 and of 10, 20.
 const PACK: [u8; 34] = [
@@ -98,54 +100,6 @@ const INVERT: u8 = 30;
 
 const RANGE: u8 = 31;
 
-fn text(s: &[u8]) {
-    io::write_all(STDOUT, s);
-}
-
-fn natural(n: u64) {
-    io::print_decimal(STDOUT, n);
-}
-
-fn wide(n: u16) -> u64 {
-    n as u64
-}
-
-fn wide_byte(n: u8) -> u64 {
-    n as u64
-}
-
-fn decimal(v: i32) {
-    let n = ink_number::int::pattern(v) as u64;
-    if n < 2147483648 {
-        natural(n);
-        return;
-    }
-    text(b"-");
-    natural(4294967296 - n);
-}
-
-fn entry(item: u16, value: i32) {
-    text(b" ");
-    natural(wide(item));
-    text(b"=");
-    decimal(value);
-}
-
-// The first n entries.
-fn entries(n: usize, items: &[u16], values: &[i32]) {
-    let mut i = 0;
-    while i < n {
-        if items.len() <= i {
-            return;
-        }
-        if values.len() <= i {
-            return;
-        }
-        entry(items[i], values[i]);
-        i += 1;
-    }
-}
-
 // The place after the first n entries.
 fn place_after(n: usize, items: &[u16], values: &[i32]) {
     if items.len() <= n {
@@ -158,47 +112,6 @@ fn place_after(n: usize, items: &[u16], values: &[i32]) {
     entry(items[n], values[n]);
 }
 
-fn truth(b: bool) {
-    if b {
-        text(b" B 1");
-        return;
-    }
-    text(b" B 0");
-}
-
-fn show_value(v: Value, items: &[u16], values: &[i32]) {
-    match v {
-        Value::Bool(b) => {
-            truth(b);
-        }
-        Value::Int(z) => {
-            text(b" I ");
-            decimal(z);
-        }
-        Value::Float(x) => {
-            text(b" F ");
-            io::print_hex(STDOUT, ink_number::convert::float_to_bits(x) as u64, 8);
-        }
-        Value::List {
-            origins: _,
-            start: _,
-            len,
-        } => {
-            text(b" L ");
-            natural(len as u64);
-            entries(len, items, values);
-        }
-        Value::Void => {
-            text(b" V");
-        }
-    }
-}
-
-fn refused(number: u8) {
-    text(b" R ");
-    natural(wide_byte(number));
-}
-
 fn written(r: Outcome) -> usize {
     match r {
         Outcome::Value(v) => ink_value::len_of(v),
@@ -209,7 +122,7 @@ fn written(r: Outcome) -> usize {
 fn show(r: Outcome, items: &[u16], values: &[i32]) {
     match r {
         Outcome::Value(v) => {
-            show_value(v, items, values);
+            value(v, items, values);
         }
         Outcome::Refused(number) => {
             refused(number);

@@ -1,8 +1,8 @@
--- `call_points::entries` is safe and ends. Assumes nothing.
+-- `printing::entries` is safe and ends. Assumes nothing.
 use Prim.Native.Nat.{_-_, _≤_}
 use borrow.Author.Needs.{needs}
-use Rattle.call_points.proofs.entries.Statement.{statement}
-use Rattle.call_points.proofs.entries.Tie as tie
+use Rattle.printing.proofs.entries.Statement.{statement}
+use Rattle.printing.proofs.entries.Tie as tie
 
 abbrev Inv-loop : tie.InvT-loop
 Inv-loop n items values i₀ i = i ≤ n

@@ -1,0 +1,56 @@
+-- `sheet_report::report` is safe: where `check` passes a pack, the pack is sound. Assumes nothing.
+use Rattle.pack.specs.Format.{format1}
+use Rattle.pack.proofs.Judged.{passed}
+use borrow.Author.Needs.{needs}
+use Rattle.sheet_report.proofs.report.Statement.{statement}
+use Rattle.sheet_report.proofs.report.Tie as tie
+
+check-requires : tie.Need-check-requires
+check-requires c κs = search needs
+
+enum-told : tie.Need-enum-told
+enum-told c = search needs
+
+sheet-lines-requires : tie.Need-sheet-lines-requires
+sheet-lines-requires c κs =
+    passed format1 (c .before .before .before .before .args .pack .now) (c .before .before .check .result) (c .enum-told .given .1) (c .before .before .check .ensures)
+
+enum-known-number : tie.Need-enum-known-number
+enum-known-number c = search needs
+
+slice-aggregate-text : tie.Need-slice-aggregate-text
+slice-aggregate-text c = search needs
+
+text-requires : tie.Need-text-requires
+text-requires c κs = search needs
+
+refused-requires : tie.Need-refused-requires
+refused-requires c κs = search needs
+
+slice-aggregate-text-2 : tie.Need-slice-aggregate-text-2
+slice-aggregate-text-2 c = search needs
+
+text-requires-2 : tie.Need-text-requires-2
+text-requires-2 c κs = search needs
+
+returns : tie.Need-returns
+returns c = search needs
+
+returns-2 : tie.Need-returns-2
+returns-2 c = search needs
+
+pub report-spec : {M : Type 1} → statement M
+report-spec =
+    tie.close
+    (tie.spec
+    check-requires
+    enum-told
+    sheet-lines-requires
+    enum-known-number
+    slice-aggregate-text
+    text-requires
+    refused-requires
+    slice-aggregate-text-2
+    text-requires-2
+    returns
+    returns-2)

@@ -1,0 +1,66 @@
+-- `sheet_report::sheet_lines` is safe and ends. Assumes nothing.
+use Prim.Native.Nat.{_-_, _≤_}
+use borrow.Author.Needs.{needs}
+use Rattle.sheet_report.proofs.sheet_lines.Statement.{statement}
+use Rattle.sheet_report.proofs.sheet_lines.Tie as tie
+
+abbrev Inv-loop : tie.InvT-loop
+Inv-loop pack n s₀ s = s ≤ n
+
+abbrev μ-loop : tie.MeasureT-loop
+μ-loop pack n s₀ s = n - s
+
+sheet-count-requires : tie.Need-sheet-count-requires Inv-loop μ-loop
+sheet-count-requires c κs = search needs
+
+slice-aggregate-text : tie.Need-slice-aggregate-text Inv-loop μ-loop
+slice-aggregate-text c = search needs
+
+text-requires : tie.Need-text-requires Inv-loop μ-loop
+text-requires c κs = search needs
+
+natural-requires : tie.Need-natural-requires Inv-loop μ-loop
+natural-requires c κs = search needs
+
+slice-aggregate-text-2 : tie.Need-slice-aggregate-text-2 Inv-loop μ-loop
+slice-aggregate-text-2 c = search needs
+
+text-requires-2 : tie.Need-text-requires-2 Inv-loop μ-loop
+text-requires-2 c κs = search needs
+
+loop-holds : tie.Need-loop-holds Inv-loop μ-loop
+loop-holds c = search needs
+
+sheet-line-requires : tie.Need-sheet-line-requires Inv-loop μ-loop
+sheet-line-requires c κs = search needs
+
+add-s : tie.Need-add-s Inv-loop μ-loop
+add-s c = search needs
+
+loop-less : tie.Need-loop-less Inv-loop μ-loop
+loop-less c = search needs
+
+loop-again : tie.Need-loop-again Inv-loop μ-loop
+loop-again c = search needs
+
+returns : tie.Need-returns Inv-loop μ-loop
+returns c = search needs
+
+pub sheet-lines-spec : {M : Type 1} → statement M
+sheet-lines-spec =
+    tie.close
+    (tie.spec
+    Inv-loop
+    μ-loop
+    sheet-count-requires
+    slice-aggregate-text
+    text-requires
+    natural-requires
+    slice-aggregate-text-2
+    text-requires-2
+    loop-holds
+    sheet-line-requires
+    add-s
+    loop-less
+    loop-again
+    returns)
