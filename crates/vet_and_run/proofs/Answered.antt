@@ -1,0 +1,62 @@
+-- What is foretold of a run holds of its answer, and so of the two calls' answers. Assumes nothing.
+use mathlib.Core.Path.{_≡_, refl, sym, ap, _∙_, subst}
+use mathlib.Core.Logic.{_⊎_, inl, inr}
+use mathlib.Core.List.{List, map}
+use Prim.Native.Nat.{ℕ, _*_, _-_, _<_}
+use lib.IntN.{ℤ}
+use lib.ListN.{length, getD}
+use Rattle.ink_value.specs.Val.{Val, bool, int, float, list, void, kindOf, codeOf}
+use Rattle.ink_value.specs.Value.{valOf, placedVal, codeOfValue}
+use Rattle.ink_value.specs.declared.Value.{Value}
+use Rattle.pack.specs.Format.{format1}
+use Rattle.sheet.specs.Foretold.{StopsByValue, Foretold}
+use Rattle.sheet.specs.Machine.{End, ended, stopped, Run}
+use Rattle.sheet.specs.Whole.{opened, countOf, sheetRun}
+use Rattle.vetting.specs.Vet.{Answers, verdictOf, CountIs, memory as vettingMemory}
+use Rattle.vetting.specs.declared.Vetted.{Vetted}
+use Rattle.vetting.specs.declared.Vetted.the-variants as Vet
+use Rattle.running.specs.Run.{memory, ranTo, Runs}
+use Rattle.running.specs.declared.Ran.{Ran}
+use Rattle.vet_and_run.specs.Both.{StoppedByValue, ForetoldAnswer, Both}
+use Rattle.vet_and_run.specs.declared.VettedRun.{VettedRun}
+
+placed-code : (v : Val) → codeOfValue (placedVal v) ≡ codeOf (kindOf v)
+placed-code (bool b) = refl
+placed-code (int z) = refl
+placed-code (float x) = refl
+placed-code (list o es) = refl
+placed-code void = refl
+
+module _ (e : End Val) (r : Ran) (a : r ≡ ranTo e) where
+  by-value : (P : ℕ → Type 0) (i : ℕ) → P i → (e ≡ stopped 15 i) ⊎ (e ≡ stopped 16 i) → StoppedByValue P r
+  by-value P i h (inl q) = (i, h, inl (a ∙ ap ranTo q))
+  by-value P i h (inr q) = (i, h, inr (a ∙ ap ranTo q))
+
+  ends : (f : List ℕ) (n m : ℕ) (S : Type 0)
+      → ((v : Val) × (e ≡ ended v) × S × (codeOf (kindOf v) ≡ getD f (2 * n - 1) 0)) ⊎ StopsByValue (λ i. i < n) e → ForetoldAnswer (Vet.Passed n) f r
+  ends f n m S (inl w) = inl (placedVal (w .0), a ∙ ap ranTo (w .1), placed-code (w .0) ∙ w .3)
+  ends f n m S (inr w) = inr (by-value (λ i. i < n) (w .0) (w .1) (w .2))
+
+  stops : (f : List ℕ) (q k : ℕ) → StopsByValue (λ i. i < k) e ⊎ (e ≡ stopped q k) → ForetoldAnswer (Vet.Refused q k) f r
+  stops f q k (inl w) = inl (by-value (λ i. i < k) (w .0) (w .1) (w .2))
+  stops f q k (inr w) = inr (a ∙ ap ranTo w)
+
+pub answered : (v : Vetted) (n : ℕ) (f : List ℕ) (b : Run Val) (r : Ran) → CountIs v n → r ≡ ranTo (b .end) → Foretold n (verdictOf v) f b → ForetoldAnswer v f r
+answered (Vet.Passed m) n f b r c a g =
+    subst (λ (k : ℕ). ForetoldAnswer (Vet.Passed k) f r) (sym c) (ends (b .end) r a f n m (length (b .stacks) ≡ n) (g .1))
+answered (Vet.Refused q k) n f b r c a g = stops (b .end) r a f q k g
+
+pub both : (p : List ℕ) (s : ℕ) (codes : List ℕ) (slots : List Value) (si : List ℕ) (sv : List ℤ) (b : VettedRun) (f f′ wi wi′ : List ℕ) (wv wv′ : List ℤ) (ri ri′ : List ℕ) (rv rv′ : List ℤ)
+    → Answers format1 p s codes (b .vetted) f f′
+    → Runs (opened format1 p s (memory format1 slots si sv wi wv ri rv)) s (map (valOf si sv) slots) (b .ran) wi wi′ wv wv′ ri ri′ rv rv′
+    → Both p s codes slots si sv b f f′ wi wi′ wv wv′ ri ri′ rv rv′
+both p s codes slots si sv b f f′ wi wi′ wv wv′ ri ri′ rv rv′ a w =
+    let ready = memory format1 slots si sv wi wv ri rv in
+    let vs = map (valOf si sv) slots in
+    record {
+      vetted = a;
+      ran = w;
+      foretold = λ m n k.
+          let g = a .foretold ready vs m n k in
+          (g, answered (b .vetted) (countOf (opened format1 p s (vettingMemory codes f)) s) f′ (sheetRun format1 p s ready vs) (b .ran) (a .counted) (w .ran .answered) g);
+    }

@@ -1,0 +1,2 @@
+-- The laws of vetting followed by a run.
+pub mod Answered

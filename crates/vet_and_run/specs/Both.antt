@@ -1,0 +1,51 @@
+-- Vetting and a run of one sheet: the two answers, what the calls leave, and demand 3 of them. Assumes nothing.
+use mathlib.Core.Path.{_≡_}
+use mathlib.Core.Bool.{Bool, true}
+use mathlib.Core.Logic.{_⊎_}
+use mathlib.Core.List.{List, map}
+use Prim.Native.Nat.{ℕ, _*_, _-_, _<_}
+use lib.IntN.{ℤ}
+use lib.ListN.{getD}
+use Rattle.ink_number.specs.Answer.{gives}
+use Rattle.ink_value.specs.Val.{kindOf, kindAt}
+use Rattle.ink_value.specs.Value.{valOf, codeOfValue}
+use Rattle.ink_value.specs.declared.Value.{Value}
+use Rattle.pack.specs.Bodies.{Pack}
+use Rattle.pack.specs.Format.{format1}
+use Rattle.pack.specs.Judge.{judge}
+use Rattle.sheet.specs.Foretold.{Foretold}
+use Rattle.sheet.specs.Whole.{opened, countOf, sheetRun}
+use Rattle.vetting.specs.Vet.{Answers, verdictOf, memory as vettingMemory}
+use Rattle.vetting.specs.declared.Vetted.{Vetted}
+use Rattle.vetting.specs.declared.Vetted.the-variants as Vet
+use Rattle.running.specs.Run.{memory, Runs}
+use Rattle.running.specs.declared.Ran.{Ran}
+use Rattle.running.specs.declared.Ran.the-variants as Rn
+use Rattle.vet_and_run.specs.declared.VettedRun.{VettedRun}
+
+-- a run's answer is 15 or 16, at an index of which P holds
+abbrev pub StoppedByValue : (ℕ → Type 0) → Ran → Type 0
+StoppedByValue P r = (i : ℕ) × P i × ((r ≡ Rn.Stopped 15 i) ⊎ (r ≡ Rn.Stopped 16 i))
+
+-- what vetting's answer, with the forecast's bytes f, says of the run's answer. Passed: "the run ends in one value of the kind forecast last or
+-- stops with 15 or 16"; turned back with q at k: "the run stops before k with 15 or 16, or exactly at k with" q
+abbrev pub ForetoldAnswer : Vetted → List ℕ → Ran → Type 0
+ForetoldAnswer (Vet.Passed n) f r = ((v : Value) × (r ≡ Rn.Ended v) × (codeOfValue v ≡ getD f (2 * n - 1) 0)) ⊎ StoppedByValue (λ i. i < n) r
+ForetoldAnswer (Vet.Refused q k) f r = StoppedByValue (λ i. i < k) r ⊎ (r ≡ Rn.Stopped q k)
+
+-- question 7 is answered yes where the pack passed
+abbrev pub Ready : List ℕ → (Pack → Bool) → Type 0
+Ready p m = (d : Pack) → judge format1 p ≡ gives d → m d ≡ true
+
+module _ (p : List ℕ) (s : ℕ) (codes : List ℕ) (slots : List Value) (si : List ℕ) (sv : List ℤ) (b : VettedRun) (f f′ wi wi′ : List ℕ) (wv wv′ : List ℤ) (ri ri′ : List ℕ) (rv rv′ : List ℤ) where
+  -- question 7 of the run
+  abbrev pub runMemory : Pack → Bool
+  runMemory = memory format1 slots si sv wi wv ri rv
+
+  pub record Both : Type 0 where
+    pub vetted : Answers format1 p s codes (b .vetted) f f′
+    pub ran : Runs (opened format1 p s runMemory) s (map (valOf si sv) slots) (b .ran) wi wi′ wv wv′ ri ri′ rv rv′
+    -- demand 3, of the two answers and the forecast's bytes as the calls leave them: "memory long enough", slots of those kinds
+    pub foretold : Ready p (vettingMemory codes f) → Ready p runMemory → map kindOf (map (valOf si sv) slots) ≡ map kindAt codes
+        → Foretold (countOf (opened format1 p s (vettingMemory codes f)) s) (verdictOf (b .vetted)) f′ (sheetRun format1 p s runMemory (map (valOf si sv) slots))
+        × ForetoldAnswer (b .vetted) f′ (b .ran)

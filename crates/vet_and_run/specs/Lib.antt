@@ -1,0 +1,2 @@
+-- What the two calls on one sheet say of each other.
+pub mod Both
