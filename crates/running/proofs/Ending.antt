@@ -1,24 +1,21 @@
 -- The end of a run: the answer, what stands in the result slices, and the work slices as they were. Assumes nothing.
-use mathlib.Core.Path.{_≡_, refl, sym, ap, _∙_, subst}
+use mathlib.Core.Path.{_≡_, refl, ap, _∙_, subst}
 use mathlib.Core.List.{List}
-use Prim.Native.Nat.{ℕ, _*_, _≤_, _<_}
+use Prim.Native.Nat.{ℕ}
 use native.Mathlib.Omega.{arith}
 use lib.IntN.{ℤ, pos}
-use lib.ListN.{length}
 use Rattle.ink_list.specs.Entries.{items, values}
-use Rattle.ink_list.specs.Filled.{over}
 use Rattle.ink_value.specs.Val.{Val, bool, int, float, list, void}
 use Rattle.ink_value.specs.Convert.{entriesOf}
-use Rattle.ink_value.specs.Value.{valOf, placedVal}
+use Rattle.ink_value.specs.Value.{placedVal}
 use Rattle.ink_value.specs.declared.Value.{Value}
-use Rattle.list_definitions.specs.Defs.{ListDefinitions}
 use Rattle.native_function_call.specs.Lists.{definitions}
 use Rattle.pack.specs.Bodies.{decoded}
 use Rattle.pack.specs.Format.{format1}
 use Rattle.pack.specs.Read.{endsOf, literalOf, program}
 use Rattle.pack.proofs.Values.{fill-over}
 use Rattle.sheet.specs.Machine.{End, ended, stopped, stackLimit, run}
-use Rattle.running.specs.Run.{RanTo, Inputs, Memory, runOf, left, ranTo}
+use Rattle.running.specs.Run.{RanTo, Inputs, Memory, runOf}
 use Rattle.running.specs.Steps.{placedAt, Put, Roomy, Worked, cleared}
 use Rattle.running.specs.declared.Ran.{Ran}
 use Rattle.running.specs.declared.Ran.the-variants as Rn

@@ -1,12 +1,11 @@
 -- A slice that was filled from an index on, read by place and by part. Assumes nothing.
 use mathlib.Core.Path.{_≡_, refl, sym, ap, _∙_, subst}
-use mathlib.Core.Logic.{_⊎_, inl, inr, ⊎-elim}
+use mathlib.Core.Logic.{inl, inr}
 use mathlib.Core.List.{List, [], _∷_, _++_, append-assoc}
-use Prim.Native.Nat.{ℕ, zero, suc, _+_, _-_, _≤_, _<_}
-use native.Mathlib.Numerals.{add-one}
+use Prim.Native.Nat.{ℕ, _+_, _-_, _≤_, _<_}
 use native.Mathlib.Omega.{arith}
 use lib.ListN.{length, take, drop, getD, replicate, length-append, length-drop, length-replicate, List·getD-append, take-append-drop, set, replicate-append-replicate}
-use lib.Seq.{length-take-le, take-at, drop-at, take-append-le, drop-append-le, getD-append-add, getD-take, getD-drop, take-take}
+use lib.Seq.{length-take-le, take-at, drop-at, take-append-le, drop-append-le, getD-append-add, getD-take, getD-drop}
 use Rattle.ink_list.specs.Filled.{fill}
 use Rattle.ink_list.proofs.Filled.{fill-nothing, length-fill, fill-set}
 use Rattle.ink_value.specs.Value.{part}

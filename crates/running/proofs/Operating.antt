@@ -2,7 +2,7 @@
 use mathlib.Core.Path.{_≡_, refl, sym, ap, _∙_, subst}
 use mathlib.Core.Bool.{Bool, true, false, cond}
 use mathlib.Core.List.{List, [], _∷_, map}
-use Prim.Native.Nat.{ℕ, zero, suc, _+_, _*_, _-_, _≤_, _<_}
+use Prim.Native.Nat.{ℕ, zero, suc, _-_, _≤_, _<_}
 use native.Mathlib.Omega.{arith}
 use borrow.Author.Tests.{eq-eqb, ne-eqb}
 use lib.Dec.{eqb, ltb}
@@ -11,12 +11,12 @@ use lib.ListN.{length, getD, take, List·getD-map}
 use Rattle.ink_number.specs.Answer.{Answer, gives, refuses, ask}
 use Rattle.ink_list.specs.Entries.{Rising}
 use Rattle.ink_value.specs.Val.{Val, void, Kind, boolK, intK, floatK, listK, voidK, kindAt, kindOf}
-use Rattle.ink_value.specs.Convert.{asInt, entriesOf}
+use Rattle.ink_value.specs.Convert.{asInt}
 use Rattle.ink_value.specs.Value.{valOf, codeOfValue, written, Formed, Wf, AllWf}
 use Rattle.ink_value.specs.declared.Value.{Value}
 use Rattle.ink_value.specs.declared.Value.the-variants as Is
 use Rattle.ink_value.proofs.Reading.{rising-in}
-use Rattle.native_function_call.specs.Kinds.{isList, known, arity, operandCount, kindCall, kindAnswer, KindsGiven}
+use Rattle.native_function_call.specs.Kinds.{known, arity, operandCount, kindCall, kindAnswer, KindsGiven}
 use Rattle.native_function_call.specs.Numbers.{arithZ}
 use Rattle.list_definitions.specs.Defs.{ListDefinitions}
 use Rattle.native_function_call.specs.Apply.{ofInt, whole, compute, applyOp, call}

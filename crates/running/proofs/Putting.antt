@@ -1,7 +1,7 @@
 -- Values put at a place of two slices, and pushes: what each leaves is what the definitions say. Assumes nothing.
 use mathlib.Core.Path.{_≡_, refl, sym, ap, _∙_, subst}
 use mathlib.Core.List.{List, []}
-use Prim.Native.Nat.{ℕ, _+_, _*_, _-_, _≤_, _<_}
+use Prim.Native.Nat.{ℕ, _+_, _-_, _≤_, _<_}
 use native.Mathlib.Omega.{arith}
 use borrow.Author.Tests.{lt-ltb, le-ltb}
 use lib.IntN.{ℤ}
@@ -13,7 +13,7 @@ use Rattle.ink_list.specs.Filled.{fill}
 use Rattle.ink_list.proofs.Filled.{fill-nothing}
 use Rattle.ink_value.specs.Val.{Val, bool, int, float, list, void}
 use Rattle.ink_value.specs.Convert.{entriesOf}
-use Rattle.ink_value.specs.Value.{valOf, part, codeOfValue, startOf, lenOf, setIn, held, placed, placedVal, written, outcomeOf, Formed, Gave}
+use Rattle.ink_value.specs.Value.{valOf, codeOfValue, startOf, lenOf, setIn, placed, placedVal, written, outcomeOf, Formed, Gave}
 use Rattle.ink_value.specs.declared.Value.{Value}
 use Rattle.ink_value.specs.declared.Value.the-variants as Is
 use Rattle.ink_value.specs.declared.Outcome.{Outcome}
@@ -25,7 +25,6 @@ use Rattle.pack.specs.Read.{Stored}
 use Rattle.sheet.specs.Machine.{stackLimit}
 use Rattle.running.specs.Run.{workLimit}
 use Rattle.running.specs.Steps.{placedAt, Put, startAt, Answered, pushed}
-use Rattle.running.specs.declared.Step.{Step}
 use Rattle.running.specs.declared.Step.the-variants as St
 
 -- a place of the stack has room for a list

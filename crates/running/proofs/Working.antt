@@ -1,16 +1,16 @@
 -- A run under way: what is left of the sheet, from the stack as it stands, ends as the whole does; and no places of the work slices have
 -- changed but those that are used. Assumes nothing.
 use mathlib.Core.Path.{_≡_, refl, sym, ap, ap₂, _∙_, subst}
-use mathlib.Core.Logic.{_⊎_, inl, inr, ⊎-elim}
+use mathlib.Core.Logic.{inl, inr, ⊎-elim}
 use mathlib.Core.Bool.{false}
-use mathlib.Core.List.{List, [], _∷_, map}
-use Prim.Native.Nat.{ℕ, zero, suc, _+_, _*_, _-_, _≤_, _<_}
+use mathlib.Core.List.{List, _∷_}
+use Prim.Native.Nat.{ℕ, zero, suc, _+_, _-_, _≤_, _<_}
 use native.Mathlib.Omega.{arith}
 use native.Mathlib.Decide.{ℕ-discrete}
 use lib.IntN.{ℤ, pos}
 use lib.ListN.{length, getD, set, take, drop, replicate, length-set, length-replicate, getD-replicate, List·getD-eq-default}
-use lib.Seq.{getD-set-same, getD-set-other, ext-getD}
-use Rattle.ink_number.specs.Answer.{Answer, gives, refuses}
+use lib.Seq.{getD-set-same, getD-set-other}
+use Rattle.ink_number.specs.Answer.{gives, refuses}
 use Rattle.ink_list.specs.Entries.{Entry, entries, items, values, Rising}
 use Rattle.ink_list.specs.Filled.{fill}
 use Rattle.ink_list.proofs.Filled.{length-fill}
@@ -24,17 +24,16 @@ use Rattle.ink_value.specs.declared.Value.{Value}
 use Rattle.ink_value.specs.declared.Value.the-variants as Is
 use Rattle.list_definitions.specs.Defs.{ListDefinitions}
 use Rattle.native_function_call.specs.Apply.{applyOp}
-use Rattle.pack.specs.Bodies.{Literal, decoded}
+use Rattle.pack.specs.Bodies.{decoded}
 use Rattle.pack.specs.Format.{format1}
 use Rattle.pack.specs.Instruction.{Instr, op, push, pushBool, pushInt, pushFloat, pushList, pushSlot, pushVoid, width}
 use Rattle.pack.specs.Read.{program, sheetEnd, literalOf, Standing, Reads}
 use Rattle.pack.proofs.Programs.{last-of}
-use Rattle.sheet.specs.Machine.{Run, End, ended, stopped, stackLimit, finish, onward, step, runFrom, valuePushed, run}
+use Rattle.sheet.specs.Machine.{Run, ended, stopped, stackLimit, finish, onward, step, runFrom, valuePushed, run}
 use Rattle.sheet.specs.Stack.{stackOf}
 use Rattle.sheet.proofs.Stack.{stack-put, run-more, run-stop, run-done}
-use Rattle.running.specs.Run.{workLimit}
-use Rattle.running.specs.Steps.{placedAt, Put, startAt, Roomy, Refuses, Grown, Tops, TopsFormed, Outside, Touched, Longest, cleared}
-use Rattle.running.proofs.Filling.{part-filled, part-before, getD-outside, getD-inside}
+use Rattle.running.specs.Steps.{placedAt, startAt, Roomy, Grown, Tops, TopsFormed, Outside, Touched, Longest}
+use Rattle.running.proofs.Filling.{part-filled, part-before, getD-outside}
 use Rattle.running.proofs.Putting.{place-fits, formed-none}
 
 -- ---- a value after it is put, and the values below

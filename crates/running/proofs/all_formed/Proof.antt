@@ -20,53 +20,43 @@ abbrev μ-loop : tie.MeasureT-loop
 μ-loop items values total definitions slots k₀ k =
     slotLimit - k
 
--- src/lib.rt:567:9
 returns : tie.Need-returns Inv-loop μ-loop
 returns c =
     let s = c .before .before in
     sym (uneven (s .args .total) (s .args .definitions) (s .args .items .now) (s .args .values .now) (s .args .t1) (c .if1 .taken))
 
--- src/lib.rt:570:5
 loop-holds : tie.Need-loop-holds Inv-loop μ-loop
 loop-holds c =
     let s = c .before .before in
     (omega arith, s .good .0 .1 .0 .1, refl)
 
--- src/lib.rt:571:17
 mul-v : tie.Need-mul-v Inv-loop μ-loop
 mul-v c = search needs
 
--- src/lib.rt:571:17
 array-copy-out-v : tie.Need-array-copy-out-v Inv-loop μ-loop
 array-copy-out-v c = search needs
 
--- src/lib.rt:572:13
 is-formed-requires : tie.Need-is-formed-requires Inv-loop μ-loop
 is-formed-requires c κs = search needs
 
--- src/lib.rt:573:13
 returns-2 : tie.Need-returns-2 Inv-loop μ-loop
 returns-2 c =
     let s = c .before .before .before .before .before .before .before in
     let l = c .before .before .before .before .loop in
     sym (even (s .args .total) (s .args .definitions) (s .args .items .now) (s .args .values .now) (s .args .t1) (c .before .before .before .before .before .if1 .left) ∙ l .inv .2 ∙ slot-no (s .args .total) (s .args .definitions) (s .args .items .now) (s .args .values .now) (s .args .t1) (l .k) (Is.Bool false) (omega (arith, c .before .before .before .loop-test .taken, l .inv .1)) (sym (c .before .is-formed .ensures) ∙ not-true _ (c .if2 .taken)))
 
--- src/lib.rt:575:9
 add-k : tie.Need-add-k Inv-loop μ-loop
 add-k c = search needs
 
--- src/lib.rt:570:5
 loop-less : tie.Need-loop-less Inv-loop μ-loop
 loop-less c = search needs
 
--- src/lib.rt:570:5
 loop-again : tie.Need-loop-again Inv-loop μ-loop
 loop-again c =
     let s = c .before .before .before .before .before .before .before in
     let l = c .before .before .before .before .loop in
     (omega (arith, c .before .before .before .loop-test .taken), l .inv .1, l .inv .2 ∙ slot-yes (s .args .total) (s .args .definitions) (s .args .items .now) (s .args .values .now) (s .args .t1) (l .k) (Is.Bool false) (omega (arith, c .before .before .before .loop-test .taken, l .inv .1)) (sym (c .before .is-formed .ensures) ∙ not-false _ (c .if2 .left)))
 
--- src/lib.rt:557:1
 returns-3 : tie.Need-returns-3 Inv-loop μ-loop
 returns-3 c =
     let s = c .before .before .before .before in

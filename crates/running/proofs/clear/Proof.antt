@@ -1,13 +1,10 @@
-use mathlib.Core.Path.{_≡_, refl, sym, ap, _∙_, subst}
-use Prim.Native.Nat.{ℕ, _+_, _*_, _-_, _≤_, _<_}
+use mathlib.Core.Path.{_≡_, sym, ap, _∙_}
+use Prim.Native.Nat.{ℕ, _-_, _≤_}
 use native.Mathlib.Omega.{arith}
 use lib.IntN.{ℤ, pos}
-use lib.ListN.{length, getD, replicate}
-use Rattle.ink_list.specs.Filled.{fill}
-use Rattle.pack.specs.Format.{format1}
+use lib.ListN.{length}
 use Rattle.sheet.specs.Machine.{stackLimit}
-use Rattle.running.specs.Run.{workLimit}
-use Rattle.running.specs.Steps.{startAt, cleared}
+use Rattle.running.specs.Steps.{cleared}
 use Rattle.running.proofs.Putting.{place-fits}
 use Rattle.running.proofs.Clearing.{cleared-none, cleared-more, cleared-long}
 use borrow.Author.Needs.{needs}

@@ -1,6 +1,3 @@
-use mathlib.Core.Path.{_≡_, refl, sym, ap, _∙_, subst}
-use Prim.Native.Nat.{ℕ, _+_, _*_, _-_, _≤_, _<_}
-use native.Mathlib.Omega.{arith}
 use Rattle.running.proofs.Working.{longest-same, longest-set}
 use borrow.Author.Needs.{needs}
 use Rattle.running.proofs.keep_longest.Statement.{statement}

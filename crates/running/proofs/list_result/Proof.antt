@@ -1,7 +1,4 @@
-use mathlib.Core.Path.{_≡_, refl, sym, ap, _∙_, subst}
-use Prim.Native.Nat.{ℕ, _+_, _*_, _-_, _≤_, _<_}
 use native.Mathlib.Omega.{arith}
-use lib.ListN.{length}
 use Rattle.pack.specs.Format.{format1}
 use Rattle.ink_value.proofs.Reading.{few-in}
 use Rattle.running.proofs.Putting.{place-fits, formed-result, result-read, result-put, refusal}

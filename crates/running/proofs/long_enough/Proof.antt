@@ -3,25 +3,21 @@ use Rattle.ink_list.specs.Every.{_and_}
 use Rattle.running.proofs.long_enough.Statement.{statement}
 use Rattle.running.proofs.long_enough.Tie as tie
 
--- src/lib.rt:590:9
 returns : tie.Need-returns
 unfolding _and_
 returns c =
     rw (lt-leb _ _ (c .if1 .taken))
 
--- src/lib.rt:593:9
 returns-2 : tie.Need-returns-2
 unfolding _and_
 returns-2 c =
     rw (le-leb _ _ (c .before .if1 .left), lt-leb _ _ (c .if2 .taken))
 
--- src/lib.rt:596:9
 returns-3 : tie.Need-returns-3
 unfolding _and_
 returns-3 c =
     rw (le-leb _ _ (c .before .before .if1 .left), le-leb _ _ (c .before .if2 .left), lt-leb _ _ (c .if3 .taken))
 
--- src/lib.rt:581:1
 returns-4 : tie.Need-returns-4
 unfolding _and_
 returns-4 c =

@@ -1,12 +1,10 @@
-use mathlib.Core.Path.{_≡_, refl, sym, ap, _∙_, subst}
-use Prim.Native.Nat.{ℕ, _+_, _*_, _-_, _≤_, _<_}
+use mathlib.Core.Path.{_≡_, refl, ap, _∙_, subst}
+use Prim.Native.Nat.{ℕ}
 use native.Mathlib.Omega.{arith}
-use mathlib.Core.List.{[], _∷_}
-use lib.ListN.{take}
 use Rattle.ink_list.specs.Entries.{Rising}
-use Rattle.ink_number.specs.Answer.{Answer, refuses}
+use Rattle.ink_number.specs.Answer.{Answer}
 use Rattle.pack.specs.Format.{format1}
-use Rattle.ink_value.specs.Val.{Val, listK, kindAt}
+use Rattle.ink_value.specs.Val.{Val, kindAt}
 use Rattle.ink_value.specs.Value.{valOf, written}
 use Rattle.native_function_call.specs.Kinds.{Counted}
 use Rattle.native_function_call.specs.Lists.{definitions}

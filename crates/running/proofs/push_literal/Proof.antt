@@ -1,10 +1,9 @@
 use Rattle.pack.specs.Bodies.{decoded}
 use Rattle.pack.specs.Read.{literalOf}
 use mathlib.Core.List.{[]}
-use mathlib.Core.Path.{_≡_, refl, sym, ap, _∙_, subst}
-use Prim.Native.Nat.{ℕ, _+_, _*_, _-_, _≤_, _<_}
+use mathlib.Core.Path.{ap}
+use Prim.Native.Nat.{ℕ, _*_}
 use native.Mathlib.Omega.{arith}
-use Rattle.pack.specs.Contents.{literalCount}
 use Rattle.pack.specs.Format.{format1}
 use Rattle.pack.proofs.Listed.{literal-formed}
 use Rattle.pack.proofs.Values.{pack-tables}

@@ -1,8 +1,4 @@
-use mathlib.Core.Path.{_≡_, refl, sym, ap, _∙_, subst}
-use Prim.Native.Nat.{ℕ, _+_, _*_, _-_, _≤_, _<_}
-use native.Mathlib.Omega.{arith}
 use Rattle.running.proofs.Putting.{put-plain, push-put, push-no}
-use borrow.Author.Needs.{needs}
 use Rattle.running.proofs.push_value.Statement.{statement}
 use Rattle.running.proofs.push_value.Tie as tie
 

@@ -9,47 +9,37 @@ use borrow.Author.Needs.{needs}
 use Rattle.running.proofs.run.Statement.{statement}
 use Rattle.running.proofs.run.Tie as tie
 
--- src/lib.rt:724:9
 check-requires : tie.Need-check-requires
 check-requires c κs = search needs
 
--- src/lib.rt:732:13
 enum-told : tie.Need-enum-told
 enum-told c = search needs
 
--- src/lib.rt:726:28
 run-passed-requires : tie.Need-run-passed-requires
 run-passed-requires c κs =
     let s = c .before .before .before .before .before .before .before .before .before .before .before in
     passed format1 (s .args .pack .now) (c .before .before .before .before .before .before .check .result) (c .before .before .before .before .enum-told .given .1) (c .before .before .before .before .before .before .check .ensures)
 
--- src/lib.rt:737:26
 enum-known-checked : tie.Need-enum-known-checked
 enum-known-checked c = search needs
 
--- src/lib.rt:709:1
 same-length : tie.Need-same-length
 same-length c = search needs
 
--- src/lib.rt:709:1
 same-length-2 : tie.Need-same-length-2
 same-length-2 c = search needs
 
--- src/lib.rt:709:1
 same-length-3 : tie.Need-same-length-3
 same-length-3 c = search needs
 
--- src/lib.rt:709:1
 same-length-4 : tie.Need-same-length-4
 same-length-4 c = search needs
 
--- src/lib.rt:709:1
 returns : tie.Need-returns
 returns c =
     let s = c .before .before .before .before .before .before .before .before .before .before .before .before .before .before .before .before .before .before in
     runs-is _ _ _ _ _ _ _ _ _ _ _ _ _ (opened-yes (s .args .pack .now) (s .args .sheet) _ (sym (c .before .before .before .before .before .before .before .before .before .before .before .before .before .check .ensures) ∙ ap (λ (x : Checked). checked x (decoded format1 (s .args .pack .now))) (c .before .before .before .before .before .before .before .before .before .before .before .enum-told .given .1))) (c .before .before .before .before .before .before .run-passed .ensures)
 
--- src/lib.rt:709:1
 returns-2 : tie.Need-returns-2
 returns-2 c =
     let s = c .before .before .before .before .before .before .before .before in

@@ -1,18 +1,7 @@
-use mathlib.Core.Path.{_≡_, refl, sym, ap, _∙_, subst}
-use Prim.Native.Nat.{ℕ, _+_, _*_, _-_, _≤_, _<_}
+use mathlib.Core.Path.{refl, _∙_}
 use native.Mathlib.Omega.{arith}
-use mathlib.Core.List.{map}
-use lib.IntN.{pos}
-use lib.ListN.{length}
-use Rattle.ink_value.specs.Value.{valOf, lenOf}
 use Rattle.ink_value.proofs.Reading.{few-in}
-use Rattle.native_function_call.specs.Lists.{definitions}
-use Rattle.pack.specs.Bodies.{decoded}
 use Rattle.pack.specs.Format.{format1}
-use Rattle.pack.specs.Read.{literalOf, program}
-use Rattle.sheet.specs.Machine.{run}
-use Rattle.running.specs.Steps.{endOf, EndFormed, Roomy}
-use Rattle.running.specs.declared.Ran.{Ran}
 use Rattle.running.proofs.Ending.{ran-value, ran-stopped, same-run, roomy-after, items-back, values-back}
 use borrow.Author.Needs.{needs}
 use Rattle.running.proofs.run_checked.Statement.{statement}

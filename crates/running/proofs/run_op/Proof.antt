@@ -1,7 +1,5 @@
-use mathlib.Core.Path.{_≡_, refl, sym, ap, _∙_, subst}
-use Prim.Native.Nat.{ℕ, _+_, _*_, _-_, _≤_, _<_}
+use mathlib.Core.Path.{sym, _∙_}
 use native.Mathlib.Omega.{arith}
-use Rattle.ink_value.specs.Val.{Val}
 use Rattle.pack.specs.Format.{format1}
 use Rattle.native_function_call.specs.Lists.{definitions}
 use Rattle.running.proofs.Operating.{no-operator, no-operands, operands-topped, operands-formed, steps-of}

@@ -6,79 +6,63 @@ use borrow.Author.Needs.{needs}
 use Rattle.running.proofs.run_sheet.Statement.{statement}
 use Rattle.running.proofs.run_sheet.Tie as tie
 
--- src/lib.rt:620:9
 all-formed-requires : tie.Need-all-formed-requires
 all-formed-requires c κs = search needs
 
--- src/lib.rt:621:9
 returns : tie.Need-returns
 returns c =
     let s = c .before .before .before .before .before .before .before in
     runs-stopped _ 7 _ _ _ _ _ _ (slots-no (s .args .pack .now) (s .args .ends .now) (s .args .defined .now) (s .args .slots) (s .args .slot-items .now) (s .args .slot-values .now) (s .args .work-items .now) (s .args .work-values .now) (s .args .result-items .now) (s .args .result-values .now) (s .pre .2) (s .pre .3) (sym (c .before .all-formed .ensures) ∙ not-true _ (c .if1 .taken)))
 
--- src/lib.rt:626:9
 long-enough-requires : tie.Need-long-enough-requires
 long-enough-requires c κs = search needs
 
--- src/lib.rt:632:9
 same-length : tie.Need-same-length
 same-length c = search needs
 
--- src/lib.rt:632:9
 same-length-2 : tie.Need-same-length-2
 same-length-2 c = search needs
 
--- src/lib.rt:632:9
 same-length-3 : tie.Need-same-length-3
 same-length-3 c = search needs
 
--- src/lib.rt:632:9
 same-length-4 : tie.Need-same-length-4
 same-length-4 c = search needs
 
--- src/lib.rt:632:9
 returns-2 : tie.Need-returns-2
 returns-2 c =
     let s = c .before .before .before .before .before .before .before .before .before .before .before .before .before in
     runs-stopped _ 7 _ _ _ _ _ _ (room-no (s .args .pack .now) (s .args .ends .now) (s .args .defined .now) (s .args .slots) (s .args .slot-items .now) (s .args .slot-values .now) (s .args .work-items .now) (s .args .work-values .now) (s .args .result-items .now) (s .args .result-values .now) (s .pre .2) (s .pre .3) (sym (c .before .long-enough .ensures) ∙ not-true _ (c .if2 .taken)))
 
--- src/lib.rt:637:5
 zero-items-requires : tie.Need-zero-items-requires
 zero-items-requires c κs =
     let s = c .before .before .before .before .before .before .before .before .before .before .before .before .before .before in
     let g = long-yes (s .args .work-items .now) (s .args .work-values .now) (s .args .result-items .now) (s .args .result-values .now) (sym (c .before .before .long-enough .ensures) ∙ not-false _ (c .before .if2 .left)) in
     omega (arith, g .work-items)
 
--- src/lib.rt:638:5
 zero-values-requires : tie.Need-zero-values-requires
 zero-values-requires c κs =
     let s = c .before .before .before .before .before .before .before .before .before .before .before .before .before .before .before .before .before .before in
     let g = long-yes (s .args .work-items .now) (s .args .work-values .now) (s .args .result-items .now) (s .args .result-values .now) (sym (c .before .before .before .before .before .before .long-enough .ensures) ∙ not-false _ (c .before .before .before .before .before .if2 .left)) in
     omega (arith, g .work-values)
 
--- src/lib.rt:639:5
 run-checked-requires : tie.Need-run-checked-requires
 run-checked-requires c κs =
     let s = c .before .before .before .before .before .before .before .before .before .before .before .before .before .before .before .before .before .before .before .before .before .before .before .before in
     ((inputs (s .args .pack .now) (s .args .ends .now) (s .args .defined .now) (s .args .slots) (s .args .slot-items .now) (s .args .slot-values .now) (s .args .work-items .now) (s .args .work-values .now) (s .args .result-items .now) (s .args .result-values .now) (s .pre .2) (s .pre .3) (s .pre .0) (sym (c .before .before .before .before .before .before .before .before .before .before .before .before .before .before .before .before .before .before .all-formed .ensures) ∙ not-false _ (c .before .before .before .before .before .before .before .before .before .before .before .before .before .before .before .before .before .if1 .left)), s .pre .1), zeroed-memory _ _ _ _ _ _ (long-yes (s .args .work-items .now) (s .args .work-values .now) (s .args .result-items .now) (s .args .result-values .now) (sym (c .before .before .before .before .before .before .before .before .before .before .before .before .long-enough .ensures) ∙ not-false _ (c .before .before .before .before .before .before .before .before .before .before .before .if2 .left))) (c .before .before .before .before .before .before .before .before .before .zero-items .ensures) (c .before .before .before .before .before .zero-values .ensures))
 
--- src/lib.rt:602:1
 same-length-5 : tie.Need-same-length-5
 same-length-5 c = search needs
 
--- src/lib.rt:602:1
 same-length-6 : tie.Need-same-length-6
 same-length-6 c = search needs
 
--- src/lib.rt:602:1
 same-length-7 : tie.Need-same-length-7
 same-length-7 c = search needs
 
--- src/lib.rt:602:1
 same-length-8 : tie.Need-same-length-8
 same-length-8 c = search needs
 
--- src/lib.rt:602:1
 returns-3 : tie.Need-returns-3
 returns-3 c =
     let s = c .before .before .before .before .before .before .before .before .before .before .before .before .before .before .before .before .before .before .before .before .before .before .before .before .before .before .before .before .before .before .before in

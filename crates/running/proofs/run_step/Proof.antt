@@ -1,21 +1,17 @@
-use mathlib.Core.Path.{_≡_, refl, sym, ap, _∙_, subst}
-use Prim.Native.Nat.{ℕ, _+_, _*_, _-_, _≤_, _<_}
+use mathlib.Core.Path.{_≡_, refl, ap, subst}
 use native.Mathlib.Omega.{arith}
-use mathlib.Core.Bool.{false}
 use mathlib.Core.List.{[], map}
-use lib.IntN.{ℤ}
-use lib.ListN.{length, getD}
+use lib.ListN.{length}
 use mir.ValLaws.{toZ-ofZ}
 use mir.Syntax.{w32}
-use Rattle.ink_value.specs.Val.{Val, bool, int, float, list, void}
+use Rattle.ink_value.specs.Val.{bool, int, float, void}
 use Rattle.ink_value.specs.Value.{valOf}
-use Rattle.ink_value.specs.declared.Value.the-variants as Is
 use Rattle.native_function_call.specs.Lists.{definitions}
 use Rattle.native_function_call.specs.Apply.{applyOp}
 use Rattle.pack.specs.Bodies.{decoded}
 use Rattle.pack.specs.Contents.{literalCount}
 use Rattle.pack.specs.Format.{format1}
-use Rattle.pack.specs.Instruction.{Push, pushBool, pushInt, pushFloat, pushList, pushSlot, pushVoid, Instr, instrOf, Allowed}
+use Rattle.pack.specs.Instruction.{pushBool, pushInt, pushFloat, pushList, pushSlot, pushVoid, instrOf, Allowed}
 use Rattle.pack.specs.Read.{literalOf}
 use Rattle.pack.specs.declared.instruction.Instruction.{Instruction}
 use Rattle.sheet.specs.Machine.{valuePushed}

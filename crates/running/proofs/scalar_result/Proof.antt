@@ -1,13 +1,8 @@
-use mathlib.Core.Path.{_≡_, refl, sym, ap, _∙_, subst}
-use Prim.Native.Nat.{ℕ, _+_, _*_, _-_, _≤_, _<_}
 use native.Mathlib.Omega.{arith}
-use mathlib.Core.List.{[], _∷_}
-use lib.ListN.{take}
+use mathlib.Core.List.{[]}
 use Rattle.pack.specs.Format.{format1}
-use Rattle.ink_value.specs.Val.{kindAt}
 use Rattle.ink_value.specs.Value.{valOf}
 use Rattle.ink_value.proofs.Reading.{formed-limit}
-use Rattle.native_function_call.specs.Apply.{compute}
 use Rattle.native_function_call.proofs.Calling.{scalar-gave}
 use Rattle.running.proofs.Putting.{plain-value, refusal}
 use Rattle.running.proofs.Operating.{scalar-plain}

@@ -1,6 +1,4 @@
-use mathlib.Core.Path.{_≡_, refl, sym, ap, _∙_, subst}
-use Prim.Native.Nat.{ℕ, _+_, _*_, _-_, _≤_, _<_}
-use native.Mathlib.Omega.{arith}
+use mathlib.Core.Path.{refl, sym, _∙_}
 use Rattle.running.proofs.Putting.{put-plain, put-copied}
 use borrow.Author.Needs.{needs}
 use Rattle.running.proofs.store.Statement.{statement}

@@ -1,19 +1,18 @@
-use mathlib.Core.Path.{_≡_, refl, sym, ap, _∙_, subst}
-use Prim.Native.Nat.{ℕ, _+_, _*_, _-_, _≤_, _<_}
+use mathlib.Core.Path.{refl, sym, ap, _∙_, subst}
+use Prim.Native.Nat.{ℕ, _-_, _<_}
 use native.Mathlib.Omega.{arith}
 use mathlib.Core.List.{map}
-use lib.IntN.{pos}
-use lib.ListN.{length, getD, length-replicate}
-use Rattle.ink_value.specs.Value.{valOf, lenOf}
+use lib.ListN.{length, length-replicate}
+use Rattle.ink_value.specs.Value.{valOf}
 use Rattle.native_function_call.specs.Lists.{definitions}
 use Rattle.pack.specs.Contents.{literalCount}
 use Rattle.pack.specs.Format.{format1}
-use Rattle.pack.specs.Instruction.{instrOf, width}
+use Rattle.pack.specs.Instruction.{instrOf}
 use Rattle.pack.specs.Read.{sheetEnd}
 use Rattle.pack.proofs.Allowed.{allowed}
 use Rattle.pack.proofs.Programs.{whole}
 use Rattle.sheet.specs.Machine.{stackLimit}
-use Rattle.running.specs.Steps.{Longest, Touched}
+use Rattle.running.specs.Steps.{Longest}
 use Rattle.running.proofs.Working.{Working, begin, valueOn, tops, tops-formed, roomy, advance, refused, one-left, not-one, width-some}
 use borrow.Author.Needs.{needs}
 use Rattle.running.proofs.work.Statement.{statement}
