@@ -1,0 +1,160 @@
+#!/usr/bin/env python3
+"""Writes the sample packs of sheet_points to the file stdin beside this script, and what document 01 says of each sheet to the file stdout.
+Each pack comes after its name; a name after its length of one byte, a pack after its length of three, little-endian."""
+import os
+import struct
+
+HERE = os.path.dirname(os.path.abspath(__file__))
+
+ADD, SUBTRACT, DIVIDE, MULTIPLY, MOD, NEGATE, EQUAL, GREATER, LESS = range(9)
+NOT, AND, OR, MIN, MAX = range(12, 17)
+TO_INT, TO_FLOAT, HAS, HASNT, INTERSECT, LIST_MIN, LIST_MAX, ALL, COUNT, VALUE_OF_LIST, INVERT, RANGE = range(20, 32)
+VOID = bytes([37])
+
+
+def boolean(b):
+    return bytes([32, b])
+
+
+def integer(n):
+    return bytes([33]) + struct.pack('<i', n)
+
+
+def float_bits(n):
+    return bytes([34]) + struct.pack('<I', n)
+
+
+def literal(n):
+    return bytes([35, n])
+
+
+def slot(n):
+    return bytes([36, n])
+
+
+def sheet(*parts):
+    return b''.join(bytes([p]) if isinstance(p, int) else p for p in parts)
+
+
+def pack(definitions=(), literals=(), sheets=()):
+    bodies = [bytes([len(d)]) + struct.pack('<%di' % len(d), *d) for d in definitions]
+    bodies += [struct.pack('<Q', o) + b''.join(struct.pack('<Bi', *e) for e in es) for o, es in literals]
+    bodies += sheets
+    out = bytes([1, len(definitions), len(literals), len(sheets)])
+    at = 4 + 4 * len(bodies)
+    for body in bodies:
+        out += struct.pack('<HH', at, len(body))
+        at += len(body)
+    return out + b''.join(bodies)
+
+
+# items 0 to 2 have the values 1, 2, 3, and items 3 and 4 have 10 and 20
+DEFINITIONS = [(1, 2, 3), (10, 20)]
+LITERALS = [(1, [(0, 1), (2, 3)]), (3, [(2, 30), (3, -5)]), (0, [])]
+ONE, OTHER, EMPTY = literal(0), literal(1), literal(2)
+LOWEST, GREATEST = -2 ** 31, 2 ** 31 - 1
+
+VALUES = [
+    (sheet(boolean(0)), 'B 0'),
+    (sheet(boolean(1)), 'B 1'),
+    (sheet(integer(LOWEST)), 'I -2147483648'),
+    (sheet(integer(GREATEST)), 'I 2147483647'),
+    (sheet(float_bits(0x3fc00000)), 'F 3fc00000'),
+    (sheet(float_bits(0xffc00001)), 'F 7fc00000'),
+    (sheet(ONE), 'L 2 0=1 2=3'),
+    (sheet(OTHER), 'L 2 2=30 3=-5'),
+    (sheet(EMPTY), 'L 0'),
+    (sheet(VOID), 'V'),
+    (sheet(slot(15)), 'V'),
+]
+ENDS = [
+    (b'', 'R 17 0'),
+    (sheet(integer(1), integer(2)), 'R 17 2'),
+    (sheet(17), 'R 8 0'),
+    (sheet(integer(1), 19), 'R 8 1'),
+    (sheet(integer(1)) * 64, 'R 17 64'),
+    (sheet(integer(1)) * 65, 'R 9 64'),
+    (sheet(integer(1)) * 64 + sheet(*[ADD] * 63), 'I 64'),
+    (sheet(ADD), 'R 10 0'),
+    (sheet(integer(1), ADD), 'R 10 1'),
+    (sheet(ONE, integer(1), RANGE), 'R 10 2'),
+    (sheet(VOID, integer(1), ADD), 'R 11 2'),
+    (sheet(ONE, slot(0), ADD), 'R 11 2'),
+    (sheet(ONE, float_bits(0x3f800000), ADD), 'R 12 2'),
+    (sheet(integer(1), ONE, ADD), 'R 12 2'),
+    (sheet(ONE, boolean(1), SUBTRACT), 'R 12 2'),
+    (sheet(integer(1), integer(1), HAS), 'R 13 2'),
+    (sheet(ONE, NEGATE), 'R 13 1'),
+    (sheet(integer(1), integer(1), integer(1), RANGE), 'R 13 3'),
+    (sheet(ONE, ONE, EQUAL), 'R 14 2'),
+    (sheet(integer(7), integer(0), DIVIDE), 'R 15 2'),
+    (sheet(integer(LOWEST), integer(-1), MOD), 'R 15 2'),
+]
+NUMBERS = [
+    (sheet(integer(-7), integer(2), DIVIDE), 'I -3'),
+    (sheet(integer(-7), integer(2), MOD), 'I -1'),
+    (sheet(integer(GREATEST), integer(1), ADD), 'I -2147483648'),
+    (sheet(integer(3), integer(5), SUBTRACT), 'I -2'),
+    (sheet(boolean(1), boolean(1), ADD), 'I 2'),
+    (sheet(boolean(1), boolean(0), MIN), 'I 0'),
+    (sheet(integer(16777217), TO_FLOAT), 'F 4b800000'),
+    (sheet(float_bits(0xc0200000), TO_INT), 'I -2'),
+    (sheet(integer(1), float_bits(0x40000000), LESS), 'B 1'),
+    (sheet(float_bits(0x3f800000), float_bits(0), DIVIDE), 'F 7f800000'),
+]
+LISTS = [
+    (sheet(ONE, OTHER, ADD), 'L 3 0=1 2=30 3=-5'),
+    (sheet(ONE, OTHER, SUBTRACT), 'L 1 0=1'),
+    (sheet(ONE, OTHER, INTERSECT), 'L 1 2=3'),
+    (sheet(ONE, integer(1), ADD), 'L 1 1=2'),
+    (sheet(ONE, integer(1), SUBTRACT), 'L 1 1=2'),
+    (sheet(ONE, ALL), 'L 3 0=1 1=2 2=3'),
+    (sheet(ONE, INVERT), 'L 1 1=2'),
+    (sheet(ONE, COUNT), 'I 2'),
+    (sheet(ONE, VALUE_OF_LIST), 'I 3'),
+    (sheet(ONE, LIST_MIN), 'L 1 0=1'),
+    (sheet(OTHER, LIST_MAX), 'L 1 2=30'),
+    (sheet(ONE, integer(2), integer(3), RANGE), 'L 1 2=3'),
+    (sheet(EMPTY, ONE, LESS), 'B 1'),
+    (sheet(EMPTY, EMPTY, LESS), 'B 0'),
+    (sheet(EMPTY, EMPTY, HASNT), 'B 1'),
+    (sheet(EMPTY, NOT), 'I 1'),
+    (sheet(ONE, boolean(1), AND), 'B 1'),
+    (sheet(ONE, ALL, INVERT, OTHER, ADD, COUNT, integer(0), DIVIDE), 'R 15 7'),
+]
+DOCUMENT = bytes.fromhex(
+    '01010102 14000d00 21000d00 2e000800 36000b00 03 01000000 02000000 03000000 0100000000000000 01 02000000'
+    ' 2300 21 01000000 00 21 07000000 21 00000000 02')
+
+
+def sheets(answers):
+    return pack(DEFINITIONS, LITERALS, [s for s, _ in answers]), [a for _, a in answers]
+
+
+def samples():
+    """Name, pack, and the answers of its sheets or the number that turns the pack back."""
+    yield 'document', DOCUMENT, ['L 1 2=3', 'R 15 2']
+    yield 'no input', b'', 1
+    yield 'three bytes', bytes([1, 0, 0]), 1
+    yield 'no sheets', pack(), []
+    yield '65,536 bytes', pack() + bytes(65532), 1
+    yield 'a byte beyond the last body', pack() + b'\0', 2
+    yield 'a definition of no items', pack([()]), 3
+    yield 'an item that no definition has', pack(DEFINITIONS, [(1, [(5, 1)])]), 4
+    yield 'instruction byte 38', pack(sheets=[sheet(38)]), 5
+    yield ('values', *sheets(VALUES))
+    yield ('ends', *sheets(ENDS))
+    yield ('numbers', *sheets(NUMBERS))
+    yield ('lists', *sheets(LISTS))
+
+
+with open(os.path.join(HERE, 'stdin'), 'wb') as packs, open(os.path.join(HERE, 'stdout'), 'w') as lines:
+    for name, sample, answers in samples():
+        text = name.encode()
+        packs.write(bytes([len(text)]) + text + len(sample).to_bytes(3, 'little') + sample)
+        lines.write(name + ':\n')
+        if isinstance(answers, int):
+            lines.write('pack R %d\n' % answers)
+            continue
+        lines.write('sheets %d\n' % len(answers))
+        lines.writelines('%d %s\n' % (k, a) for k, a in enumerate(answers))
