@@ -1,4 +1,4 @@
--- `ops::kind_range` meets its contract. Assumes nothing.
+-- `native_function_call::kind_range` meets its contract. Assumes nothing.
 use mathlib.Core.Path.{_≡_, refl}
 use mathlib.Core.Bool.{false}
 use Prim.Native.Nat.{ℕ, zero, suc, _<_}
