@@ -1,50 +1,13 @@
--- The table of 775 answers is the rule, by one computed test. Assumes nothing.
-use mathlib.Core.Path.{_≡_, refl, sym, _∙_, ap}
+-- The table of 775 answers is the rule: one test, computed of each operator's two words. Assumes nothing.
+use mathlib.Core.Path.{_≡_, refl, sym, _∙_, ap, subst}
 use mathlib.Core.Bool.{Bool, false}
-use mathlib.Core.List.{List, [], _∷_}
 use Prim.Native.Nat.{ℕ, _+_, _*_, _/_, _%_, _<_}
 use native.Mathlib.Omega.{arith}
 use lib.Dec.{T, eqb, eqb→eq}
-use lib.ListN.{getD}
 use Rattle.ink_value.specs.Val.{Kind, boolK, intK, floatK, listK, voidK, kindAt, codeOf}
 use Rattle.ink_number.specs.Answer.{Answer, gives, refuses}
-use Rattle.native_function_call.specs.Kinds.{kindEntry, decoded, operandCount, known, unary, arity, kindUnary, kindBinary}
-use Rattle.native_function_call.proofs.Every.{at}
-
-unfoldable pub kinds : List ℕ
-kinds =
-    1 ∷ 1 ∷ 2 ∷ 12 ∷ 11 ∷ 1 ∷ 1 ∷ 2 ∷ 12 ∷ 11 ∷ 2 ∷ 2 ∷ 2 ∷ 12 ∷ 11 ∷ 12 ∷ 3 ∷ 12 ∷ 3 ∷ 11 ∷ 11 ∷ 11 ∷ 11 ∷ 11 ∷ 11 ∷
-    1 ∷ 1 ∷ 2 ∷ 12 ∷ 11 ∷ 1 ∷ 1 ∷ 2 ∷ 12 ∷ 11 ∷ 2 ∷ 2 ∷ 2 ∷ 12 ∷ 11 ∷ 12 ∷ 3 ∷ 12 ∷ 3 ∷ 11 ∷ 11 ∷ 11 ∷ 11 ∷ 11 ∷ 11 ∷
-    1 ∷ 1 ∷ 2 ∷ 12 ∷ 11 ∷ 1 ∷ 1 ∷ 2 ∷ 12 ∷ 11 ∷ 2 ∷ 2 ∷ 2 ∷ 12 ∷ 11 ∷ 12 ∷ 12 ∷ 12 ∷ 13 ∷ 11 ∷ 11 ∷ 11 ∷ 11 ∷ 11 ∷ 11 ∷
-    1 ∷ 1 ∷ 2 ∷ 12 ∷ 11 ∷ 1 ∷ 1 ∷ 2 ∷ 12 ∷ 11 ∷ 2 ∷ 2 ∷ 2 ∷ 12 ∷ 11 ∷ 12 ∷ 12 ∷ 12 ∷ 13 ∷ 11 ∷ 11 ∷ 11 ∷ 11 ∷ 11 ∷ 11 ∷
-    1 ∷ 1 ∷ 2 ∷ 12 ∷ 11 ∷ 1 ∷ 1 ∷ 2 ∷ 12 ∷ 11 ∷ 2 ∷ 2 ∷ 2 ∷ 12 ∷ 11 ∷ 12 ∷ 12 ∷ 12 ∷ 13 ∷ 11 ∷ 11 ∷ 11 ∷ 11 ∷ 11 ∷ 11 ∷
-    1 ∷ 1 ∷ 1 ∷ 1 ∷ 1 ∷ 1 ∷ 1 ∷ 1 ∷ 1 ∷ 1 ∷ 2 ∷ 2 ∷ 2 ∷ 2 ∷ 2 ∷ 13 ∷ 13 ∷ 13 ∷ 13 ∷ 13 ∷ 11 ∷ 11 ∷ 11 ∷ 11 ∷ 11 ∷
-    0 ∷ 0 ∷ 0 ∷ 12 ∷ 11 ∷ 0 ∷ 0 ∷ 0 ∷ 12 ∷ 11 ∷ 0 ∷ 0 ∷ 0 ∷ 12 ∷ 11 ∷ 12 ∷ 12 ∷ 12 ∷ 14 ∷ 11 ∷ 11 ∷ 11 ∷ 11 ∷ 11 ∷ 11 ∷
-    0 ∷ 0 ∷ 0 ∷ 12 ∷ 11 ∷ 0 ∷ 0 ∷ 0 ∷ 12 ∷ 11 ∷ 0 ∷ 0 ∷ 0 ∷ 12 ∷ 11 ∷ 12 ∷ 12 ∷ 12 ∷ 0 ∷ 11 ∷ 11 ∷ 11 ∷ 11 ∷ 11 ∷ 11 ∷
-    0 ∷ 0 ∷ 0 ∷ 12 ∷ 11 ∷ 0 ∷ 0 ∷ 0 ∷ 12 ∷ 11 ∷ 0 ∷ 0 ∷ 0 ∷ 12 ∷ 11 ∷ 12 ∷ 12 ∷ 12 ∷ 0 ∷ 11 ∷ 11 ∷ 11 ∷ 11 ∷ 11 ∷ 11 ∷
-    0 ∷ 0 ∷ 0 ∷ 12 ∷ 11 ∷ 0 ∷ 0 ∷ 0 ∷ 12 ∷ 11 ∷ 0 ∷ 0 ∷ 0 ∷ 12 ∷ 11 ∷ 12 ∷ 12 ∷ 12 ∷ 0 ∷ 11 ∷ 11 ∷ 11 ∷ 11 ∷ 11 ∷ 11 ∷
-    0 ∷ 0 ∷ 0 ∷ 12 ∷ 11 ∷ 0 ∷ 0 ∷ 0 ∷ 12 ∷ 11 ∷ 0 ∷ 0 ∷ 0 ∷ 12 ∷ 11 ∷ 12 ∷ 12 ∷ 12 ∷ 0 ∷ 11 ∷ 11 ∷ 11 ∷ 11 ∷ 11 ∷ 11 ∷
-    0 ∷ 0 ∷ 0 ∷ 12 ∷ 11 ∷ 0 ∷ 0 ∷ 0 ∷ 12 ∷ 11 ∷ 0 ∷ 0 ∷ 0 ∷ 12 ∷ 11 ∷ 12 ∷ 12 ∷ 12 ∷ 14 ∷ 11 ∷ 11 ∷ 11 ∷ 11 ∷ 11 ∷ 11 ∷
-    0 ∷ 0 ∷ 0 ∷ 0 ∷ 0 ∷ 0 ∷ 0 ∷ 0 ∷ 0 ∷ 0 ∷ 0 ∷ 0 ∷ 0 ∷ 0 ∷ 0 ∷ 1 ∷ 1 ∷ 1 ∷ 1 ∷ 1 ∷ 11 ∷ 11 ∷ 11 ∷ 11 ∷ 11 ∷
-    0 ∷ 0 ∷ 0 ∷ 0 ∷ 11 ∷ 0 ∷ 0 ∷ 0 ∷ 0 ∷ 11 ∷ 0 ∷ 0 ∷ 0 ∷ 0 ∷ 11 ∷ 0 ∷ 0 ∷ 0 ∷ 0 ∷ 11 ∷ 11 ∷ 11 ∷ 11 ∷ 11 ∷ 11 ∷
-    0 ∷ 0 ∷ 0 ∷ 0 ∷ 11 ∷ 0 ∷ 0 ∷ 0 ∷ 0 ∷ 11 ∷ 0 ∷ 0 ∷ 0 ∷ 0 ∷ 11 ∷ 0 ∷ 0 ∷ 0 ∷ 0 ∷ 11 ∷ 11 ∷ 11 ∷ 11 ∷ 11 ∷ 11 ∷
-    1 ∷ 1 ∷ 2 ∷ 12 ∷ 11 ∷ 1 ∷ 1 ∷ 2 ∷ 12 ∷ 11 ∷ 2 ∷ 2 ∷ 2 ∷ 12 ∷ 11 ∷ 12 ∷ 12 ∷ 12 ∷ 13 ∷ 11 ∷ 11 ∷ 11 ∷ 11 ∷ 11 ∷ 11 ∷
-    1 ∷ 1 ∷ 2 ∷ 12 ∷ 11 ∷ 1 ∷ 1 ∷ 2 ∷ 12 ∷ 11 ∷ 2 ∷ 2 ∷ 2 ∷ 12 ∷ 11 ∷ 12 ∷ 12 ∷ 12 ∷ 13 ∷ 11 ∷ 11 ∷ 11 ∷ 11 ∷ 11 ∷ 11 ∷
-    8 ∷ 8 ∷ 8 ∷ 8 ∷ 8 ∷ 8 ∷ 8 ∷ 8 ∷ 8 ∷ 8 ∷ 8 ∷ 8 ∷ 8 ∷ 8 ∷ 8 ∷ 8 ∷ 8 ∷ 8 ∷ 8 ∷ 8 ∷ 8 ∷ 8 ∷ 8 ∷ 8 ∷ 8 ∷
-    8 ∷ 8 ∷ 8 ∷ 8 ∷ 8 ∷ 8 ∷ 8 ∷ 8 ∷ 8 ∷ 8 ∷ 8 ∷ 8 ∷ 8 ∷ 8 ∷ 8 ∷ 8 ∷ 8 ∷ 8 ∷ 8 ∷ 8 ∷ 8 ∷ 8 ∷ 8 ∷ 8 ∷ 8 ∷
-    8 ∷ 8 ∷ 8 ∷ 8 ∷ 8 ∷ 8 ∷ 8 ∷ 8 ∷ 8 ∷ 8 ∷ 8 ∷ 8 ∷ 8 ∷ 8 ∷ 8 ∷ 8 ∷ 8 ∷ 8 ∷ 8 ∷ 8 ∷ 8 ∷ 8 ∷ 8 ∷ 8 ∷ 8 ∷
-    1 ∷ 1 ∷ 1 ∷ 1 ∷ 1 ∷ 1 ∷ 1 ∷ 1 ∷ 1 ∷ 1 ∷ 1 ∷ 1 ∷ 1 ∷ 1 ∷ 1 ∷ 13 ∷ 13 ∷ 13 ∷ 13 ∷ 13 ∷ 11 ∷ 11 ∷ 11 ∷ 11 ∷ 11 ∷
-    2 ∷ 2 ∷ 2 ∷ 2 ∷ 2 ∷ 2 ∷ 2 ∷ 2 ∷ 2 ∷ 2 ∷ 2 ∷ 2 ∷ 2 ∷ 2 ∷ 2 ∷ 13 ∷ 13 ∷ 13 ∷ 13 ∷ 13 ∷ 11 ∷ 11 ∷ 11 ∷ 11 ∷ 11 ∷
-    13 ∷ 13 ∷ 13 ∷ 12 ∷ 11 ∷ 13 ∷ 13 ∷ 13 ∷ 12 ∷ 11 ∷ 13 ∷ 13 ∷ 13 ∷ 12 ∷ 11 ∷ 12 ∷ 12 ∷ 12 ∷ 0 ∷ 11 ∷ 11 ∷ 11 ∷ 11 ∷ 11 ∷ 11 ∷
-    13 ∷ 13 ∷ 13 ∷ 12 ∷ 11 ∷ 13 ∷ 13 ∷ 13 ∷ 12 ∷ 11 ∷ 13 ∷ 13 ∷ 13 ∷ 12 ∷ 11 ∷ 12 ∷ 12 ∷ 12 ∷ 0 ∷ 11 ∷ 11 ∷ 11 ∷ 11 ∷ 11 ∷ 11 ∷
-    13 ∷ 13 ∷ 13 ∷ 12 ∷ 11 ∷ 13 ∷ 13 ∷ 13 ∷ 12 ∷ 11 ∷ 13 ∷ 13 ∷ 13 ∷ 12 ∷ 11 ∷ 12 ∷ 12 ∷ 12 ∷ 3 ∷ 11 ∷ 11 ∷ 11 ∷ 11 ∷ 11 ∷ 11 ∷
-    13 ∷ 13 ∷ 13 ∷ 13 ∷ 13 ∷ 13 ∷ 13 ∷ 13 ∷ 13 ∷ 13 ∷ 13 ∷ 13 ∷ 13 ∷ 13 ∷ 13 ∷ 3 ∷ 3 ∷ 3 ∷ 3 ∷ 3 ∷ 11 ∷ 11 ∷ 11 ∷ 11 ∷ 11 ∷
-    13 ∷ 13 ∷ 13 ∷ 13 ∷ 13 ∷ 13 ∷ 13 ∷ 13 ∷ 13 ∷ 13 ∷ 13 ∷ 13 ∷ 13 ∷ 13 ∷ 13 ∷ 3 ∷ 3 ∷ 3 ∷ 3 ∷ 3 ∷ 11 ∷ 11 ∷ 11 ∷ 11 ∷ 11 ∷
-    13 ∷ 13 ∷ 13 ∷ 13 ∷ 13 ∷ 13 ∷ 13 ∷ 13 ∷ 13 ∷ 13 ∷ 13 ∷ 13 ∷ 13 ∷ 13 ∷ 13 ∷ 3 ∷ 3 ∷ 3 ∷ 3 ∷ 3 ∷ 11 ∷ 11 ∷ 11 ∷ 11 ∷ 11 ∷
-    13 ∷ 13 ∷ 13 ∷ 13 ∷ 13 ∷ 13 ∷ 13 ∷ 13 ∷ 13 ∷ 13 ∷ 13 ∷ 13 ∷ 13 ∷ 13 ∷ 13 ∷ 1 ∷ 1 ∷ 1 ∷ 1 ∷ 1 ∷ 11 ∷ 11 ∷ 11 ∷ 11 ∷ 11 ∷
-    13 ∷ 13 ∷ 13 ∷ 13 ∷ 13 ∷ 13 ∷ 13 ∷ 13 ∷ 13 ∷ 13 ∷ 13 ∷ 13 ∷ 13 ∷ 13 ∷ 13 ∷ 1 ∷ 1 ∷ 1 ∷ 1 ∷ 1 ∷ 11 ∷ 11 ∷ 11 ∷ 11 ∷ 11 ∷
-    13 ∷ 13 ∷ 13 ∷ 13 ∷ 13 ∷ 13 ∷ 13 ∷ 13 ∷ 13 ∷ 13 ∷ 13 ∷ 13 ∷ 13 ∷ 13 ∷ 13 ∷ 3 ∷ 3 ∷ 3 ∷ 3 ∷ 3 ∷ 11 ∷ 11 ∷ 11 ∷ 11 ∷ 11 ∷
-    []
+use Rattle.native_function_call.specs.Kinds.{kindEntry, decoded, answerIn, entryAt, AnswersFrom}
+use Rattle.native_function_call.proofs.Every.{every, at}
 
 abbrev same : Answer Kind → Answer Kind → Bool
 same (gives k) (gives j) = eqb (codeOf k) (codeOf j)
@@ -65,30 +28,19 @@ same-eq (gives k) (refuses r) t = absurd t
 same-eq (refuses q) (gives j) t = absurd t
 same-eq (refuses q) (refuses r) t = ap refuses (eqb→eq q r t)
 
--- the rule at place k of the table
-abbrev rule : ℕ → Answer Kind
-rule k = kindEntry (k / 25) (kindAt (k / 5 % 5)) (kindAt (k % 5))
+-- the test of one answer
+abbrev pub right : ℕ → ℕ → ℕ → ℕ → Bool
+right from o w k = same (decoded (answerIn w k)) (entryAt o (from + k))
 
-right : ℕ → ℕ → Bool
-right k e = same (decoded e) (rule k)
+-- a word that passes at n places has the answers of operator o, the one that came to this arm
+pub answers : (from n o w : ℕ) → T (every (right from o w) 0 n) → {op : ℕ} → op ≡ o → AnswersFrom from n op w
+answers from n o w t e =
+    subst (λ (x : ℕ). AnswersFrom from n x w) (sym e)
+    (λ k h. same-eq (decoded (answerIn w k)) (entryAt o (from + k)) (at (right from o w) n t k h))
 
-pub table-right : (o a b : ℕ) → o < 31 → a < 5 → b < 5 → decoded (getD kinds (o * 25 + a * 5 + b) 0) ≡ kindEntry o (kindAt a) (kindAt b)
-unfolding kinds right kindEntry known unary kindUnary kindBinary
-table-right o a b ho ha hb =
-    let k : ℕ = o * 25 + a * 5 + b in
-    let t = same-eq (decoded (getD kinds k 0)) (rule k) (at right kinds tt k (omega arith)) in
-    let e1 : k / 25 ≡ o = omega arith in
-    let e2 : k / 5 % 5 ≡ a = omega arith in
-    let e3 : k % 5 ≡ b = omega arith in
-    t ∙ (ap (λ (x : ℕ). kindEntry x (kindAt (k / 5 % 5)) (kindAt (k % 5))) e1
-    ∙ (ap (λ (x : ℕ). kindEntry o (kindAt x) (kindAt (k % 5))) e2 ∙ ap (λ (x : ℕ). kindEntry o (kindAt a) (kindAt x)) e3))
-
-unfoldable pub counts : List ℕ
-counts = 2 ∷ 2 ∷ 2 ∷ 2 ∷ 2 ∷ 1 ∷ 2 ∷ 2 ∷ 2 ∷ 2 ∷ 2 ∷ 2 ∷ 1 ∷ 2 ∷ 2 ∷ 2 ∷ 2 ∷ 0 ∷ 0 ∷ 0 ∷ 1 ∷ 1 ∷ 2 ∷ 2 ∷ 2 ∷ 1 ∷ 1 ∷ 1 ∷ 1 ∷ 1 ∷ 1 ∷ 3 ∷ []
-
-right-count : ℕ → ℕ → Bool
-right-count k e = eqb e (operandCount k)
-
-pub counts-right : (o : ℕ) → o < 32 → getD counts o 0 ≡ operandCount o
-unfolding counts right-count operandCount known unary arity
-counts-right o h = eqb→eq (getD counts o 0) (operandCount o) (at right-count counts tt o h)
+-- the entry of two kinds stands at the place that is read
+pub entry-at : (o a b k : ℕ) → k ≡ a * 5 + b → b < 5 → entryAt o k ≡ kindEntry o (kindAt a) (kindAt b)
+entry-at o a b k e h =
+    let e1 : k / 5 ≡ a = omega arith in
+    let e2 : k % 5 ≡ b = omega arith in
+    ap (λ (x : ℕ). kindEntry o (kindAt x) (kindAt (k % 5))) e1 ∙ ap (λ (x : ℕ). kindEntry o (kindAt a) (kindAt x)) e2

@@ -2,7 +2,7 @@
 use mathlib.Core.Bool.{Bool, true, false, cond, not, _&&_, _||_}
 use mathlib.Core.List.{List, [], _∷_}
 use mathlib.Core.Path.{_≡_}
-use Prim.Native.Nat.{ℕ, max, _<_, _≤_}
+use Prim.Native.Nat.{ℕ, max, _<_, _≤_, _+_, _*_, _/_, _%_, _^_}
 use lib.Dec.{eqb, leb, ltb}
 use Rattle.native_function_call.specs.Op.{opNegate, opEqual, opNotEquals, opNot, opInt, opFloat, opRange}
 use Rattle.native_function_call.specs.declared.KindAnswer.{KindAnswer}
@@ -113,6 +113,18 @@ kindEntry o a b = cond (known o) (cond (unary o) (kindUnary o a) (kindBinary o a
 -- an entry below 5 is a kind code, any other a refusal's number
 abbrev pub decoded : ℕ → Answer Kind
 decoded e = cond (ltb e 5) (gives (kindAt e)) (refuses e)
+
+-- an answer takes four bits of a word, from the lowest on
+abbrev pub answerIn : ℕ → ℕ → ℕ
+answerIn w k = w / 2 ^ (4 * k) % 16
+
+-- the table's entry at one of an operator's 25 places, five right kinds to each left kind
+abbrev pub entryAt : ℕ → ℕ → Answer Kind
+entryAt o k = kindEntry o (kindAt (k / 5)) (kindAt (k % 5))
+
+-- a word has the entries of n of an operator's places, from a place on
+abbrev pub AnswersFrom : ℕ → ℕ → ℕ → ℕ → Type 0
+AnswersFrom from n o w = (k : ℕ) → k < n → decoded (answerIn w k) ≡ entryAt o (from + k)
 
 -- how many operands an operator takes, 0 where question 8 says no
 unfoldable pub operandCount : ℕ → ℕ
