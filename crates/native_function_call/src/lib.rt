@@ -15,7 +15,7 @@ ghost use Rattle.native_function_call.specs.Lists.{testL, mergeL, unaryL
 ghost use Rattle.ink_value.specs.Slices.{valIn, Gives};
 ghost use Rattle.ink_list.specs.Slices.{list, Answers};
 ghost use Rattle.native_function_call.specs.Apply.{ofInt, testLists, testAs, wholeUnary, realUnary, compute, call, entriesFor, listed};
-ghost use Rattle.ink_value.specs.Value.{codeOfValue, valOf, placed, startOf, lenOf, held, Formed};
+ghost use Rattle.ink_value.specs.Value.{codeOfValue, valOf, placed, startOf, lenOf, intOf, floatOf, held, Formed};
 ghost use Rattle.ink_list.specs.Entries.{itemNumbers, room, Ascends, Rising, Lent};
 ghost use Rattle.ink_number.specs.Int.{divided};
 ghost use Rattle.ink_value.specs.declared.Value.the-variants as Is;
@@ -402,6 +402,28 @@ fn test_lists(op: u8, a: Value, b: Value, items: &[u16], values: &[i32]) -> bool
     }
 }
 
+// An operand as an Int. An Int, the likeliest, is at hand.
+fn int_operand(v: Value, values: &[i32]) -> i32
+    requires { ⌜ startOf v + lenOf v ≤ length (now values) ⌝ }
+    ensures { λ r. ⌜ r ≡ intOf (now (values .entry)) v ⌝ }
+{
+    match v {
+        Value::Int(z) => z,
+        _ => ink_value::to_int(v, values),
+    }
+}
+
+// An operand as a Float. A Float, the likeliest, is at hand.
+fn float_operand(v: Value, values: &[i32]) -> f32
+    requires { ⌜ startOf v + lenOf v ≤ length (now values) ⌝ }
+    ensures { λ r. ⌜ r ≡ floatOf (now (values .entry)) v ⌝ }
+{
+    match v {
+        Value::Float(x) => x,
+        _ => ink_value::to_float(v, values),
+    }
+}
+
 fn test2(op: u8, a: Value, b: Value, items: &[u16], values: &[i32]) -> bool
     requires { ⌜ Formed itemNumbers (now items) (now values) a × Formed itemNumbers (now items) (now values) b ⌝ }
     ensures { λ r. ⌜ r ≡ testAs (common (kindOf (valIn items values a)) (kindOf (valIn items values b)))
@@ -409,16 +431,8 @@ fn test2(op: u8, a: Value, b: Value, items: &[u16], values: &[i32]) -> bool
 {
     let k = common(a, b);
     match k {
-        1 => test_int(
-            op,
-            ink_value::to_int(a, values),
-            ink_value::to_int(b, values),
-        ),
-        2 => test_float(
-            op,
-            ink_value::to_float(a, values),
-            ink_value::to_float(b, values),
-        ),
+        1 => test_int(op, int_operand(a, values), int_operand(b, values)),
+        2 => test_float(op, float_operand(a, values), float_operand(b, values)),
         3 => test_lists(op, a, b, items, values),
         _ => false,
     }
@@ -633,15 +647,11 @@ fn scalar2(op: u8, kind: u8, a: Value, b: Value, items: &[u16], values: &[i32]) 
 {
     match kind {
         0 => Outcome::Value(Value::Bool(test2(op, a, b, items, values))),
-        1 => whole_outcome(arith_int(
-            op,
-            ink_value::to_int(a, values),
-            ink_value::to_int(b, values),
-        )),
+        1 => whole_outcome(arith_int(op, int_operand(a, values), int_operand(b, values))),
         2 => Outcome::Value(Value::Float(arith_float(
             op,
-            ink_value::to_float(a, values),
-            ink_value::to_float(b, values),
+            float_operand(a, values),
+            float_operand(b, values),
         ))),
         _ => Outcome::Value(Value::Void),
     }

@@ -21,11 +21,11 @@ use Rattle.native_function_call.proofs.scalar2.Tie as tie
 test2-requires : tie.Need-test2-requires
 test2-requires c κs = search needs
 
-to-int-requires : tie.Need-to-int-requires
-to-int-requires c κs = search needs
+int-operand-requires : tie.Need-int-operand-requires
+int-operand-requires c κs = search needs
 
-to-int-requires-2 : tie.Need-to-int-requires-2
-to-int-requires-2 c κs = search needs
+int-operand-requires-2 : tie.Need-int-operand-requires-2
+int-operand-requires-2 c κs = search needs
 
 arith-int-requires : tie.Need-arith-int-requires
 arith-int-requires c κs = search needs
@@ -33,11 +33,11 @@ arith-int-requires c κs = search needs
 whole-outcome-requires : tie.Need-whole-outcome-requires
 whole-outcome-requires c κs = search needs
 
-to-float-requires : tie.Need-to-float-requires
-to-float-requires c κs = search needs
+float-operand-requires : tie.Need-float-operand-requires
+float-operand-requires c κs = search needs
 
-to-float-requires-2 : tie.Need-to-float-requires-2
-to-float-requires-2 c κs = search needs
+float-operand-requires-2 : tie.Need-float-operand-requires-2
+float-operand-requires-2 c κs = search needs
 
 arith-float-requires : tie.Need-arith-float-requires
 arith-float-requires c κs = search needs
@@ -56,8 +56,8 @@ returns-2 c =
     c .whole-outcome .ensures
     ∙ ap (λ (a : Answer ℤ). placed (ofInt a)) (c .before .arith-int .ensures
     ∙ ap2 (arithZ (s .args .op))
-    (returned (c .before .before .before .to-int .ok) ∙ c .before .before .before .to-int .ensures ∙ int-in 65536 (s .args .items .now) (s .args .values .now) (s .args .a) (s .pre .1))
-    (returned (c .before .before .to-int2 .ok) ∙ c .before .before .to-int2 .ensures ∙ int-in 65536 (s .args .items .now) (s .args .values .now) (s .args .b) (s .pre .2)))
+    (returned (c .before .before .before .int-operand .ok) ∙ c .before .before .before .int-operand .ensures ∙ int-in 65536 (s .args .items .now) (s .args .values .now) (s .args .a) (s .pre .1))
+    (returned (c .before .before .int-operand2 .ok) ∙ c .before .before .int-operand2 .ensures ∙ int-in 65536 (s .args .items .now) (s .args .values .now) (s .args .b) (s .pre .2)))
     ∙ ap (λ (j : ℕ). placed (compute u (s .args .op) (valOf (s .args .items .now) (s .args .values .now) (s .args .a) ∷ valOf (s .args .items .now) (s .args .values .now) (s .args .b) ∷ []) (kindAt j))) (sym (c .before .before .before .before .match .keys2))
 
 returns-3 : tie.Need-returns-3
@@ -67,8 +67,8 @@ returns-3 c =
     λ u.
     ap (λ (x : Float). Out.Value (Is.Float x)) (c .arith-float .ensures
     ∙ ap2 (arithF (s .args .op))
-    (c .before .before .to-float .ensures ∙ float-in 65536 (s .args .items .now) (s .args .values .now) (s .args .a) (s .pre .1))
-    (c .before .to-float2 .ensures ∙ float-in 65536 (s .args .items .now) (s .args .values .now) (s .args .b) (s .pre .2)))
+    (c .before .before .float-operand .ensures ∙ float-in 65536 (s .args .items .now) (s .args .values .now) (s .args .a) (s .pre .1))
+    (c .before .float-operand2 .ensures ∙ float-in 65536 (s .args .items .now) (s .args .values .now) (s .args .b) (s .pre .2)))
     ∙ ap (λ (j : ℕ). placed (compute u (s .args .op) (valOf (s .args .items .now) (s .args .values .now) (s .args .a) ∷ valOf (s .args .items .now) (s .args .values .now) (s .args .b) ∷ []) (kindAt j))) (sym (c .before .before .before .match .keys3))
 
 returns-4 : tie.Need-returns-4
@@ -82,12 +82,12 @@ scalar2-spec =
     tie.close
     (tie.spec
     test2-requires
-    to-int-requires
-    to-int-requires-2
+    int-operand-requires
+    int-operand-requires-2
     arith-int-requires
     whole-outcome-requires
-    to-float-requires
-    to-float-requires-2
+    float-operand-requires
+    float-operand-requires-2
     arith-float-requires
     returns
     returns-2

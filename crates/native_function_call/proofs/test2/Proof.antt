@@ -13,20 +13,20 @@ use Rattle.native_function_call.proofs.test2.Tie as tie
 common-requires : tie.Need-common-requires
 common-requires c κs = search needs
 
-to-int-requires : tie.Need-to-int-requires
-to-int-requires c κs = search needs
+int-operand-requires : tie.Need-int-operand-requires
+int-operand-requires c κs = search needs
 
-to-int-requires-2 : tie.Need-to-int-requires-2
-to-int-requires-2 c κs = search needs
+int-operand-requires-2 : tie.Need-int-operand-requires-2
+int-operand-requires-2 c κs = search needs
 
 test-int-requires : tie.Need-test-int-requires
 test-int-requires c κs = search needs
 
-to-float-requires : tie.Need-to-float-requires
-to-float-requires c κs = search needs
+float-operand-requires : tie.Need-float-operand-requires
+float-operand-requires c κs = search needs
 
-to-float-requires-2 : tie.Need-to-float-requires-2
-to-float-requires-2 c κs = search needs
+float-operand-requires-2 : tie.Need-float-operand-requires-2
+float-operand-requires-2 c κs = search needs
 
 test-float-requires : tie.Need-test-float-requires
 test-float-requires c κs = search needs
@@ -36,12 +36,12 @@ test-lists-requires c κs = search needs
 
 returns : tie.Need-returns
 returns c = let s = c .before .before .before .before .before .before in
-    c .test-int .ensures ∙ ap2 (testZ (s .args .op)) (returned (c .before .before .to-int .ok) ∙ c .before .before .to-int .ensures ∙ int-in 65536 (s .args .items .now) (s .args .values .now) (s .args .a) (s .pre .0)) (returned (c .before .to-int2 .ok) ∙ c .before .to-int2 .ensures ∙ int-in 65536 (s .args .items .now) (s .args .values .now) (s .args .b) (s .pre .1))
+    c .test-int .ensures ∙ ap2 (testZ (s .args .op)) (returned (c .before .before .int-operand .ok) ∙ c .before .before .int-operand .ensures ∙ int-in 65536 (s .args .items .now) (s .args .values .now) (s .args .a) (s .pre .0)) (returned (c .before .int-operand2 .ok) ∙ c .before .int-operand2 .ensures ∙ int-in 65536 (s .args .items .now) (s .args .values .now) (s .args .b) (s .pre .1))
     ∙ sym (ap (λ (k : Kind). testAs k (s .args .op) (valOf (s .args .items .now) (s .args .values .now) (s .args .a)) (valOf (s .args .items .now) (s .args .values .now) (s .args .b))) (common-in (s .args .items .now) (s .args .values .now) (s .args .a) (s .args .b) (c .before .before .before .before .common .result) (c .before .before .before .before .common .ensures) ∙ ap kindAt (c .before .before .before .match .keys1)))
 
 returns-2 : tie.Need-returns-2
 returns-2 c = let s = c .before .before .before .before .before .before in
-    c .test-float .ensures ∙ ap2 (testF (s .args .op)) (c .before .before .to-float .ensures ∙ float-in 65536 (s .args .items .now) (s .args .values .now) (s .args .a) (s .pre .0)) (c .before .to-float2 .ensures ∙ float-in 65536 (s .args .items .now) (s .args .values .now) (s .args .b) (s .pre .1))
+    c .test-float .ensures ∙ ap2 (testF (s .args .op)) (c .before .before .float-operand .ensures ∙ float-in 65536 (s .args .items .now) (s .args .values .now) (s .args .a) (s .pre .0)) (c .before .float-operand2 .ensures ∙ float-in 65536 (s .args .items .now) (s .args .values .now) (s .args .b) (s .pre .1))
     ∙ sym (ap (λ (k : Kind). testAs k (s .args .op) (valOf (s .args .items .now) (s .args .values .now) (s .args .a)) (valOf (s .args .items .now) (s .args .values .now) (s .args .b))) (common-in (s .args .items .now) (s .args .values .now) (s .args .a) (s .args .b) (c .before .before .before .before .common .result) (c .before .before .before .before .common .ensures) ∙ ap kindAt (c .before .before .before .match .keys2)))
 
 returns-3 : tie.Need-returns-3
@@ -58,11 +58,11 @@ test2-spec =
     tie.close
     (tie.spec
     common-requires
-    to-int-requires
-    to-int-requires-2
+    int-operand-requires
+    int-operand-requires-2
     test-int-requires
-    to-float-requires
-    to-float-requires-2
+    float-operand-requires
+    float-operand-requires-2
     test-float-requires
     test-lists-requires
     returns
