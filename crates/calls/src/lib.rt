@@ -2,6 +2,7 @@
 use ink_value::Outcome;
 use ink_value::Value;
 use pack::Checked;
+use pack::format::DEFINITION_LIMIT;
 ghost use mathlib.Core.Path.{_≡_};
 ghost use mathlib.Core.Bool.{cond};
 ghost use mathlib.Core.List.{[], _∷_};
@@ -18,7 +19,7 @@ ghost use Rattle.pack.specs.Judge.{Sound};
 ghost use Rattle.calls.specs.Call.{operandsOk, called, castTo, coerced, onPack, PackLists};
 
 // The most items of a pack, and so the entries that a result may have.
-const ITEM_LIMIT: usize = 256;
+const ITEM_LIMIT: usize = pack::format::FORMAT1.limit;
 
 // Question 7 of a value, with its two slices equally long.
 fn one_formed(v: Value, items: &[u16], values: &[i32], total: usize, definitions: usize) -> bool
@@ -122,8 +123,8 @@ fn call_checked(
     requires { ⌜ Sound format1 (now pack) ⌝ }
     ensures { λ r. ⌜ Gives (called (now (items .entry)) (now (values .entry)) (now (oi .entry)) (now (ov .entry)) op count (a ∷ b ∷ c ∷ []) (definitionsOf (decoded format1 (now (pack .entry))) format1)) r oi ov ⌝ }
 {
-    let mut ends = [0u16; 64];
-    let mut defined = [0i32; 256];
+    let mut ends = [0u16; DEFINITION_LIMIT];
+    let mut defined = [0i32; ITEM_LIMIT];
     let read = pack::read::read_definitions(pack, &mut ends, &mut defined);
     let n = read.definitions;
     let total = read.items;
@@ -179,11 +180,11 @@ fn operand_formed(pack: &[u8], v: Value, items: &[u16], values: &[i32]) -> bool
     requires { ⌜ Sound format1 (now pack) ⌝ }
     ensures { λ r. ⌜ r ≡ operandsOk (definitionsOf (decoded format1 (now (pack .entry))) format1) (now (items .entry)) (now (values .entry)) (v ∷ []) ⌝ }
 {
-    let mut ends = [0u16; 64];
-    let mut defined = [0i32; 256];
-    let read = pack::read::read_definitions(pack, &mut ends, &mut defined);
-    let n = read.definitions;
-    let total = read.items;
+    let mut ends = [0u16; DEFINITION_LIMIT];
+    let mut defined = [0i32; ITEM_LIMIT];
+    let counts = pack::read::read_definitions(pack, &mut ends, &mut defined);
+    let n = counts.definitions;
+    let total = counts.items;
     one_formed(v, items, values, total, n)
 }
 

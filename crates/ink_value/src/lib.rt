@@ -180,6 +180,11 @@ pub fn is_truthy(v: Value) -> bool
     }
 }
 
+// Range's bounds where neither an Int nor a list that has entries gives one.
+const LOWER_BOUND: i32 = 0;
+
+const UPPER_BOUND: i32 = 2147483647;
+
 pub fn lower_bound(v: Value, values: &[i32]) -> i32
     requires { ⌜ startOf v + lenOf v ≤ length (now values) ⌝ }
     ensures { λ r. ⌜ r ≡ lowOf (now (values .entry)) v ⌝ }
@@ -191,9 +196,9 @@ pub fn lower_bound(v: Value, values: &[i32]) -> i32
             start,
             len,
         } => least(values, start, len),
-        Value::Bool(_) => 0,
-        Value::Float(_) => 0,
-        Value::Void => 0,
+        Value::Bool(_) => LOWER_BOUND,
+        Value::Float(_) => LOWER_BOUND,
+        Value::Void => LOWER_BOUND,
     }
 }
 
@@ -208,9 +213,9 @@ pub fn upper_bound(v: Value, values: &[i32]) -> i32
             start,
             len,
         } => highest(values, start, len),
-        Value::Bool(_) => 2147483647,
-        Value::Float(_) => 2147483647,
-        Value::Void => 2147483647,
+        Value::Bool(_) => UPPER_BOUND,
+        Value::Float(_) => UPPER_BOUND,
+        Value::Void => UPPER_BOUND,
     }
 }
 
