@@ -10,11 +10,11 @@ use lib.ListN.{length}
 use Rattle.ink_value.specs.Val.{Val, Kind, boolK, intK, floatK, listK, voidK, kindOf}
 use Rattle.ink_list.specs.Entries.{Entry}
 use Rattle.ink_number.specs.Answer.{Answer, gives, refuses}
-use Rattle.native_function_call.specs.Kinds.{kindApply}
+use Rattle.kind_table.specs.Kinds.{kindApply}
 use Rattle.ink_value.specs.Convert.{asInt}
 use Rattle.native_function_call.specs.Numbers.{arithZ}
 use Rattle.ink_number.specs.Int.{canDivide, quotient, remainder}
-use Rattle.native_function_call.specs.Op.{opAdd, opSubtract, opDivide, opMultiply, opMod, opMin}
+use Rattle.kind_table.specs.Op.{opAdd, opSubtract, opDivide, opMultiply, opMod, opMin}
 use Rattle.list_definitions.specs.Defs.{ListDefinitions}
 use Rattle.native_function_call.specs.Apply.{ofInt, whole, entriesFor, listed, compute, guarded, applyOp, Agree}
 

@@ -9,7 +9,7 @@ use lib.IntN.{ℤ}
 use borrow.Author.Tests.{eqb-true, eqb-false, ne-eqb}
 use Rattle.ink_value.specs.Val.{Val, Kind, listK, voidK, kindOf, kindAt}
 use Rattle.ink_number.specs.Answer.{Answer, gives, refuses}
-use Rattle.native_function_call.specs.Kinds.{known, unary, arity, isVoid, isList, operandCount, kindApply, kindRange, kindEntry}
+use Rattle.kind_table.specs.Kinds.{known, unary, arity, isVoid, isList, operandCount, kindApply, kindRange, kindEntry}
 use Rattle.ink_value.specs.Convert.{asInt, entriesOf, originsIn}
 use Rattle.list_definitions.specs.Defs.{ListDefinitions}
 use Rattle.native_function_call.specs.Lists.{mergeL, shiftL}

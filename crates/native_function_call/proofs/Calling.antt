@@ -18,11 +18,11 @@ use Rattle.ink_value.specs.declared.Outcome.{Outcome}
 use Rattle.ink_value.proofs.Reading.{ap3, code-in}
 use Rattle.ink_value.proofs.Given.{gave-plain}
 use Rattle.native_function_call.specs.Numbers.{arithZ}
-use Rattle.native_function_call.specs.Kinds.{isList, known, unary, arity, operandCount, kindApply, kindCall, kindRange, kindEntry, kindAnswer, Coded, Counted, KindsGiven}
+use Rattle.kind_table.specs.Kinds.{isList, known, unary, arity, operandCount, kindApply, kindCall, kindRange, kindEntry, kindAnswer, Coded, Counted, KindsGiven}
 use Rattle.list_definitions.specs.Defs.{ListDefinitions}
 use Rattle.native_function_call.specs.Apply.{whole, applyOp, compute, call}
-use Rattle.native_function_call.specs.declared.KindAnswer.{KindAnswer}
-use Rattle.native_function_call.specs.declared.KindAnswer.the-variants as Ans
+use Rattle.kind_table.specs.declared.KindAnswer.{KindAnswer}
+use Rattle.kind_table.specs.declared.KindAnswer.the-variants as Ans
 use Rattle.native_function_call.proofs.Applying.{takes, entry-one, entry-two, entry-range, is-range, range-kind, apply-gives, apply-refuses, int-none}
 
 -- ---- question 8

@@ -7,7 +7,7 @@ use Rattle.ink_number.specs.Known.{allHold}
 use Rattle.ink_list.specs.Known as Below
 use Rattle.ink_list.specs.Known.{listPoints}
 use Rattle.ink_number.specs.Known as Numbers
-use Rattle.native_function_call.specs.Kinds.{unary, arity, kindUnary, kindBinary, kindApply}
+use Rattle.kind_table.specs.Kinds.{unary, arity, kindUnary, kindBinary, kindApply}
 use Rattle.native_function_call.specs.Numbers.{arithZ}
 use Rattle.native_function_call.specs.Apply.{wholeUnary, compute, applyOp}
 use Rattle.native_function_call.specs.Known.{points}

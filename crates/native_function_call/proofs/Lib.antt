@@ -1,6 +1,4 @@
 pub mod Agree
-pub mod Every
-pub mod KindTable
 pub mod Reading
 pub mod Listing
 pub mod Applying

@@ -25,7 +25,7 @@ use Rattle.list_definitions.proofs.DefLaws.{invert-length, all-is}
 use Rattle.list_definitions.proofs.TargetLaws.{retarget-length}
 use Rattle.ink_list.proofs.Results.{read-items, union-rising, sift-rising, ascends-limit}
 use Rattle.list_definitions.proofs.Results.{invert-rising, retarget-rising}
-use Rattle.native_function_call.specs.Op.{opAdd}
+use Rattle.kind_table.specs.Op.{opAdd}
 use Rattle.ink_value.specs.declared.Value.the-variants as Is
 use Rattle.ink_value.specs.declared.Outcome.the-variants as Out
 

@@ -9,7 +9,7 @@ use lib.IntN.{ℤ}
 use Rattle.ink_list.specs.Entries.{entries, items, values, Lent}
 use Rattle.ink_value.specs.Val.{Val, kindOf, kindAt, codeOf, boolK, voidK}
 use Rattle.ink_value.proofs.Reading.{code-of}
-use Rattle.native_function_call.specs.Kinds.{common}
+use Rattle.kind_table.specs.Kinds.{common}
 use Rattle.native_function_call.specs.Apply.{testAs}
 use Rattle.ink_value.specs.Value.{valOf, codeOfValue}
 use Rattle.ink_value.specs.declared.Value.{Value}

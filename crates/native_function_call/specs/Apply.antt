@@ -8,11 +8,11 @@ use lib.IntN.{ℤ, pos, negℤ}
 use lib.Ieee.{Float}
 use lib.Dec.{eqb, leb}
 use lib.ListN.{length}
-use Rattle.native_function_call.specs.Op.{opNegate, opNot, opAnd, opOr, opCount}
+use Rattle.kind_table.specs.Op.{opNegate, opNot, opAnd, opOr, opCount}
 use Rattle.ink_list.specs.Entries.{items, Entry}
 use Rattle.ink_value.specs.Val.{Val, bool, int, float, list, void, Kind, boolK, intK, floatK, listK, voidK, kindOf}
 use Rattle.ink_number.specs.Answer.{Answer, gives, refuses, ask}
-use Rattle.native_function_call.specs.Kinds.{known, arity, kindApply, common, isList}
+use Rattle.kind_table.specs.Kinds.{known, arity, kindApply, common, isList}
 use Rattle.ink_value.specs.Convert.{bitZ, asInt, asFloat, truthy, entriesOf, originsIn}
 use Rattle.native_function_call.specs.Numbers.{arithZ, arithF, testZ, testF}
 use Rattle.list_definitions.specs.Defs.{ListDefinitions, originsOf}

@@ -6,7 +6,7 @@ use Rattle.ink_number.specs.Int.{eqZ}
 use Rattle.ink_number.specs.Known.{answers}
 use Rattle.ink_list.specs.Known as Below
 use Rattle.ink_value.specs.Val.{Val, bool, int, float, list, void}
-use Rattle.native_function_call.specs.Op.{opAdd, opNot}
+use Rattle.kind_table.specs.Op.{opAdd, opNot}
 use Rattle.list_definitions.specs.Defs.{ListDefinitions}
 use Rattle.native_function_call.specs.Apply.{applyOp}
 

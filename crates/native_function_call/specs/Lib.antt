@@ -1,6 +1,4 @@
--- What the operators answer, on kinds and on values.
-pub mod Op
-pub mod Kinds
+-- What the operators answer on values.
 pub mod Numbers
 pub mod Lists
 pub mod Apply

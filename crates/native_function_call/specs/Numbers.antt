@@ -5,7 +5,7 @@ use lib.Dec.{eqb}
 use lib.IntN.{ℤ, _+ℤ_, _-ℤ_, _*ℤ_}
 use lib.Signed.{ltZ, leZ}
 use lib.Ieee.{Float}
-use Rattle.native_function_call.specs.Op.{opAdd, opSubtract, opDivide, opMultiply, opMod, opEqual, opGreater, opLess, opGreaterThanOrEquals, opLessThanOrEquals, opNotEquals, opAnd, opMin}
+use Rattle.kind_table.specs.Op.{opAdd, opSubtract, opDivide, opMultiply, opMod, opEqual, opGreater, opLess, opGreaterThanOrEquals, opLessThanOrEquals, opNotEquals, opAnd, opMin}
 use Rattle.ink_number.specs.Answer.{Answer, gives}
 use Rattle.ink_number.specs.Int.{wrap, quotient, remainder, minZ, maxZ, eqZ, truthyZ}
 use Rattle.ink_number.specs.Real.{addF, subF, mulF, divF, remF, minF, maxF, eqF, neF, ltF, leF, truthyF}

@@ -1,14 +1,15 @@
-// The operators on values: the kind table, and dispatch by kind and operator.
+// The operators on values: dispatch by kind and operator.
 use ink_number::int::Divided;
 use ink_value::Outcome;
 use ink_value::Value;
+use kind_table::KindAnswer;
 ghost use mathlib.Core.Path.{_≡_};
 ghost use mathlib.Core.Bool.{true, _&&_, _||_};
 ghost use mathlib.Core.List.{List, [], _∷_};
 ghost use Prim.Native.Nat.{ℕ, _<_, _≤_, _+_, max};
 ghost use lib.ListN.{length, take};
 ghost use Rattle.ink_value.specs.Val.{kindAt, kindOf, listK};
-ghost use Rattle.native_function_call.specs.Kinds.{common, kindEntry, decoded, operandCount, kindRange, kindAnswer, answerIn, AnswersFrom, Coded, KindsGiven};
+ghost use Rattle.kind_table.specs.Kinds.{common, KindsGiven};
 ghost use Rattle.native_function_call.specs.Numbers.{arithZ, arithF, testZ, testF};
 ghost use Rattle.list_definitions.specs.Defs.{ListDefinitions, Tables, originsOf};
 ghost use Rattle.native_function_call.specs.Lists.{testL, mergeL, unaryL, shiftL, Room, definitions, definitionsIn};
@@ -20,189 +21,6 @@ ghost use Rattle.ink_list.specs.Entries.{itemNumbers, room, Ascends, Rising, Le
 ghost use Rattle.ink_number.specs.Int.{divided};
 ghost use Rattle.ink_value.specs.declared.Value.the-variants as Is;
 ghost use Rattle.ink_value.specs.declared.Outcome.the-variants as Out;
-
-// What an operator gives on kinds: the kind of its result, or a refusal.
-pub enum KindAnswer {
-    Kind(u8),
-    Refused(u8),
-}
-
-// The table of 775 answers, 31 operators by five left by five right kinds: a kind code, or a refusal's number. An answer
-// takes four bits, so an operator's 25 stand in two words, from the lowest bits on: by the left kind, and then by the right.
-
-// The answers where the left operand is a Bool, an Int or a Float.
-fn number_answers(op: u8) -> u64
-    requires { ⌜ op < 31 ⌝ }
-    ensures { λ r. ⌜ AnswersFrom 0 15 op r ⌝ }
-{
-    match op {
-        0 => 0xbc222bc211bc211,
-        1 => 0xbc222bc211bc211,
-        2 => 0xbc222bc211bc211,
-        3 => 0xbc222bc211bc211,
-        4 => 0xbc222bc211bc211,
-        5 => 0x222221111111111,
-        6 => 0xbc000bc000bc000,
-        7 => 0xbc000bc000bc000,
-        8 => 0xbc000bc000bc000,
-        9 => 0xbc000bc000bc000,
-        10 => 0xbc000bc000bc000,
-        11 => 0xbc000bc000bc000,
-        12 => 0x000000000000000,
-        13 => 0xb0000b0000b0000,
-        14 => 0xb0000b0000b0000,
-        15 => 0xbc222bc211bc211,
-        16 => 0xbc222bc211bc211,
-        17 => 0x888888888888888,
-        18 => 0x888888888888888,
-        19 => 0x888888888888888,
-        20 => 0x111111111111111,
-        21 => 0x222222222222222,
-        22 => 0xbcdddbcdddbcddd,
-        23 => 0xbcdddbcdddbcddd,
-        24 => 0xbcdddbcdddbcddd,
-        25 => 0xddddddddddddddd,
-        26 => 0xddddddddddddddd,
-        27 => 0xddddddddddddddd,
-        28 => 0xddddddddddddddd,
-        29 => 0xddddddddddddddd,
-        _ => 0xddddddddddddddd,
-    }
-}
-
-// The answers where the left operand is a List or Void.
-fn other_answers(op: u8) -> u64
-    requires { ⌜ op < 31 ⌝ }
-    ensures { λ r. ⌜ AnswersFrom 15 10 op r ⌝ }
-{
-    match op {
-        0 => 0xbbbbbb3c3c,
-        1 => 0xbbbbbb3c3c,
-        2 => 0xbbbbbbdccc,
-        3 => 0xbbbbbbdccc,
-        4 => 0xbbbbbbdccc,
-        5 => 0xbbbbbddddd,
-        6 => 0xbbbbbbeccc,
-        7 => 0xbbbbbb0ccc,
-        8 => 0xbbbbbb0ccc,
-        9 => 0xbbbbbb0ccc,
-        10 => 0xbbbbbb0ccc,
-        11 => 0xbbbbbbeccc,
-        12 => 0xbbbbb11111,
-        13 => 0xbbbbbb0000,
-        14 => 0xbbbbbb0000,
-        15 => 0xbbbbbbdccc,
-        16 => 0xbbbbbbdccc,
-        17 => 0x8888888888,
-        18 => 0x8888888888,
-        19 => 0x8888888888,
-        20 => 0xbbbbbddddd,
-        21 => 0xbbbbbddddd,
-        22 => 0xbbbbbb0ccc,
-        23 => 0xbbbbbb0ccc,
-        24 => 0xbbbbbb3ccc,
-        25 => 0xbbbbb33333,
-        26 => 0xbbbbb33333,
-        27 => 0xbbbbb33333,
-        28 => 0xbbbbb11111,
-        29 => 0xbbbbb11111,
-        _ => 0xbbbbb33333,
-    }
-}
-
-// The answer at a place of a word.
-fn answer_in(word: u64, place: u8) -> u8
-    requires { ⌜ place < 16 ⌝ }
-    ensures { λ r. ⌜ r ≡ answerIn word place ⌝ }
-{
-    ((word >> (4 * place)) % 16) as u8
-}
-
-// The table's answer for an operator below range and two kind codes.
-pub fn kind_entry(op: u8, left: u8, right: u8) -> KindAnswer
-    requires { ⌜ (op < 31) × (left < 5) × (right < 5) ⌝ }
-    ensures { λ r. ⌜ (kindAnswer r ≡ kindEntry op (kindAt left) (kindAt right)) × Coded r ⌝ }
-{
-    let e = table(op, left, right);
-    if e < 5 {
-        KindAnswer::Kind(e)
-    } else {
-        KindAnswer::Refused(e)
-    }
-}
-
-fn table(op: u8, left: u8, right: u8) -> u8
-    requires { ⌜ (op < 31) × (left < 5) × (right < 5) ⌝ }
-    ensures { λ r. ⌜ decoded r ≡ kindEntry op (kindAt left) (kindAt right) ⌝ }
-{
-    let place = left * 5 + right;
-    if place < 15 {
-        return answer_in(number_answers(op), place);
-    }
-    answer_in(other_answers(op), place - 15)
-}
-
-// How many operands an operator takes, 0 where there is no such operator.
-pub fn operands(op: u8) -> usize
-    requires { ⌜ op < 32 ⌝ }
-    ensures { λ r. ⌜ r ≡ operandCount op ⌝ }
-{
-    match op {
-        0 => 2,
-        1 => 2,
-        2 => 2,
-        3 => 2,
-        4 => 2,
-        5 => 1,
-        6 => 2,
-        7 => 2,
-        8 => 2,
-        9 => 2,
-        10 => 2,
-        11 => 2,
-        12 => 1,
-        13 => 2,
-        14 => 2,
-        15 => 2,
-        16 => 2,
-        17 => 0,
-        18 => 0,
-        19 => 0,
-        20 => 1,
-        21 => 1,
-        22 => 2,
-        23 => 2,
-        24 => 2,
-        25 => 1,
-        26 => 1,
-        27 => 1,
-        28 => 1,
-        29 => 1,
-        30 => 1,
-        _ => 3,
-    }
-}
-
-// Range on kinds.
-pub fn kind_range(list: u8, lower: u8, upper: u8) -> KindAnswer
-    requires { ⌜ (list < 5) × (lower < 5) × (upper < 5) ⌝ }
-    ensures { λ r. ⌜ (kindAnswer r ≡ kindRange (kindAt list) (kindAt lower) (kindAt upper)) × Coded r ⌝ }
-{
-    if list == 4 {
-        return KindAnswer::Refused(11);
-    }
-    if lower == 4 {
-        return KindAnswer::Refused(11);
-    }
-    if upper == 4 {
-        return KindAnswer::Refused(11);
-    }
-    if list == 3 {
-        KindAnswer::Kind(3)
-    } else {
-        KindAnswer::Refused(13)
-    }
-}
 
 fn whole_outcome(d: Divided) -> Outcome
     ensures { λ r. ⌜ r ≡ placed (ofInt (divided d)) ⌝ }
@@ -715,7 +533,7 @@ pub fn kinds(op: u8, count: usize, a: Value, b: Value, c: Value) -> KindAnswer
     if 32 <= op {
         return KindAnswer::Refused(8);
     }
-    let n = operands(op);
+    let n = kind_table::operands(op);
     if n == 0 {
         return KindAnswer::Refused(8);
     }
@@ -725,9 +543,9 @@ pub fn kinds(op: u8, count: usize, a: Value, b: Value, c: Value) -> KindAnswer
     let left = ink_value::kind(a);
     let middle = ink_value::kind(b);
     if n == 3 {
-        return kind_range(left, middle, ink_value::kind(c));
+        return kind_table::kind_range(left, middle, ink_value::kind(c));
     }
-    kind_entry(op, left, middle)
+    kind_table::kind_entry(op, left, middle)
 }
 
 // An operator whose operands' kinds are right, by the kind of its result.

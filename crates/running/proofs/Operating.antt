@@ -16,12 +16,12 @@ use Rattle.ink_value.specs.Value.{valOf, codeOfValue, written, Formed, Wf, AllW
 use Rattle.ink_value.specs.declared.Value.{Value}
 use Rattle.ink_value.specs.declared.Value.the-variants as Is
 use Rattle.ink_value.proofs.Reading.{rising-in}
-use Rattle.native_function_call.specs.Kinds.{known, arity, operandCount, kindCall, kindAnswer, KindsGiven}
+use Rattle.kind_table.specs.Kinds.{known, arity, operandCount, kindCall, kindAnswer, KindsGiven}
 use Rattle.native_function_call.specs.Numbers.{arithZ}
 use Rattle.list_definitions.specs.Defs.{ListDefinitions}
 use Rattle.native_function_call.specs.Apply.{ofInt, whole, compute, applyOp, call}
-use Rattle.native_function_call.specs.declared.KindAnswer.{KindAnswer}
-use Rattle.native_function_call.specs.declared.KindAnswer.the-variants as Ans
+use Rattle.kind_table.specs.declared.KindAnswer.{KindAnswer}
+use Rattle.kind_table.specs.declared.KindAnswer.the-variants as Ans
 use Rattle.native_function_call.proofs.Applying.{takes, count-three}
 use Rattle.native_function_call.proofs.Calling.{codes-of, call-gives, call-refuses}
 use Rattle.native_function_call.proofs.Results.{apply-fine}

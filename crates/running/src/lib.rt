@@ -3,7 +3,7 @@
 
 use ink_value::Outcome;
 use ink_value::Value;
-use native_function_call::KindAnswer;
+use kind_table::KindAnswer;
 use pack::Checked;
 use pack::format::DEFINITION_LIMIT;
 use pack::format::SLOT_LIMIT;
@@ -289,7 +289,7 @@ fn run_op(
         → Steps n (stepOp (applyOp (definitionsIn ends defined (format1 .limit))) op (stackOf f n)) f r
         (now («work_items» .entry)) (now («work_items» .exit)) (now («work_values» .entry)) (now («work_values» .exit))) ⌝ }
 {
-    let count = native_function_call::operands(op);
+    let count = kind_table::operands(op);
     if count == 0 {
         return Step::No(8);
     }

@@ -12,7 +12,7 @@ use native.Mathlib.Nat.{le-of-suc-le-suc}
 use lib.Dec.{ltb, eqb}
 use borrow.Author.Tests.{lt-ltb, le-ltb}
 use Rattle.ink_number.specs.Answer.{Answer, gives, refuses, ask}
-use Rattle.native_function_call.specs.Kinds.{known, unary, arity, operandCount}
+use Rattle.kind_table.specs.Kinds.{known, unary, arity, operandCount}
 use Rattle.native_function_call.proofs.Applying.{takes}
 use Rattle.pack.specs.Instruction.{Push, pushVoid, Instr, push}
 use Rattle.sheet.specs.Stack.{stackOf}

@@ -8,7 +8,7 @@ use lib.ListN.{length, getD, drop, set, replicate, length-set, length-replicate}
 use lib.Seq.{getD-set-same, getD-set-other}
 use Rattle.ink_number.specs.Answer.{gives, refuses}
 use Rattle.ink_value.specs.Val.{Kind, kindAt}
-use Rattle.native_function_call.specs.Kinds.{kindApply}
+use Rattle.kind_table.specs.Kinds.{kindApply}
 use Rattle.pack.specs.Instruction.{Instr, push, pushVoid}
 use Rattle.sheet.specs.Machine.{Run, stopped, finish, onward, step, runFrom, kindPushed, vet}
 use Rattle.sheet.specs.Stack.{stackOf}

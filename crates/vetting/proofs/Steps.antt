@@ -6,7 +6,7 @@ use Prim.Native.Nat.{ℕ, _+_, _-_, _≤_, _<_}
 use native.Mathlib.Omega.{arith}
 use lib.ListN.{length, getD, List·getD-map}
 use Rattle.ink_value.specs.Val.{Kind, kindAt, voidK}
-use Rattle.native_function_call.specs.Kinds.{operandCount, kindApply, kindRange, kindEntry}
+use Rattle.kind_table.specs.Kinds.{operandCount, kindApply, kindRange, kindEntry}
 use Rattle.native_function_call.proofs.Applying.{entry-one, entry-two, entry-range, is-range}
 use Rattle.native_function_call.proofs.Calling.{below-three}
 use Rattle.sheet.specs.Machine.{topped, stepOp}

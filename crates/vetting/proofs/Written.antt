@@ -20,7 +20,7 @@ use Rattle.sheet.specs.Machine.{Run, End, ended, stopped, kindPushed, vet}
 use Rattle.pack.specs.Read.{sheetOf}
 use Rattle.sheet.specs.Whole.{opened, started, sheetVet, sheetRun, countOf}
 use Rattle.sheet.specs.Foretold.{Verdict, passed, turned, verdict, forecast, Begins, Foretold}
-use Rattle.native_function_call.specs.Kinds.{kindApply}
+use Rattle.kind_table.specs.Kinds.{kindApply}
 use Rattle.sheet.proofs.Demand.{whole-length}
 use Rattle.sheet.proofs.Whole.{demand3-whole}
 use Rattle.vetting.specs.Vet.{memory, verdictOf, CountIs, left, Answers, Vets}

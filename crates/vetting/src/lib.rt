@@ -1,5 +1,5 @@
 // Vetting: a sheet's instructions worked on kinds alone.
-use native_function_call::KindAnswer;
+use kind_table::KindAnswer;
 use pack::Checked;
 use pack::instruction::Instruction;
 use sheet::STACK_LIMIT;
@@ -9,7 +9,7 @@ ghost use Prim.Native.Nat.{ℕ, _<_, _≤_, _-_, _*_};
 ghost use lib.ListN.{length, take};
 ghost use Rattle.ink_list.specs.Filled.{over};
 ghost use Rattle.ink_value.specs.Val.{Kind, kindAt};
-ghost use Rattle.native_function_call.specs.Kinds.{kindAnswer, Coded, kindApply, operandCount};
+ghost use Rattle.kind_table.specs.Kinds.{kindAnswer, Coded, kindApply, operandCount};
 ghost use Rattle.pack.specs.Contents.{sheetCount};
 ghost use Rattle.pack.specs.Format.{format1};
 ghost use Rattle.pack.specs.Instruction.{instrOf, Allowed};
@@ -44,9 +44,9 @@ fn answer(op: u8, count: usize, stack: &[u8; 64], n: usize) -> KindAnswer
     let left = stack[place];
     let right = stack[n - 1];
     if count == 3 {
-        native_function_call::kind_range(left, stack[place + 1], right)
+        kind_table::kind_range(left, stack[place + 1], right)
     } else {
-        native_function_call::kind_entry(op, left, right)
+        kind_table::kind_entry(op, left, right)
     }
 }
 
@@ -55,7 +55,7 @@ fn vet_op(op: u8, stack: &[u8; 64], n: usize) -> Step
     requires { ⌜ (op < 32) × (n ≤ 64) × Codes (now stack) ⌝ }
     ensures { λ r. ⌜ (stepped r (kindOn (now (stack .entry))) ≡ stepOp kindApply op (stackOf (kindOn (now (stack .entry))) n)) × Within r n ⌝ }
 {
-    let count = native_function_call::operands(op);
+    let count = kind_table::operands(op);
     if count == 0 {
         return Step::No(8);
     }

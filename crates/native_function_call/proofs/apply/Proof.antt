@@ -5,8 +5,8 @@ use Rattle.ink_number.specs.Answer.{refuses}
 use Rattle.ink_value.specs.Val.{Kind, kindAt}
 use Rattle.ink_value.specs.Value.{valOf}
 use Rattle.ink_value.proofs.Given.{gave-is, gave-plain}
-use Rattle.native_function_call.specs.Kinds.{kindCall, kindAnswer, Counted}
-use Rattle.native_function_call.specs.declared.KindAnswer.the-variants as Ans
+use Rattle.kind_table.specs.Kinds.{kindCall, kindAnswer, Counted}
+use Rattle.kind_table.specs.declared.KindAnswer.the-variants as Ans
 use Rattle.native_function_call.specs.Lists.{definitions}
 use Rattle.native_function_call.proofs.Calling.{codes-of, call-gives, call-refuses}
 use borrow.Author.Needs.{needs}

@@ -6,7 +6,7 @@ use lib.ListN.{take}
 use Rattle.ink_value.specs.Val.{kindAt}
 use Rattle.ink_value.specs.Value.{codeOfValue}
 use Rattle.ink_value.proofs.Reading.{ap2, ap3}
-use Rattle.native_function_call.specs.Kinds.{kindRange, kindEntry, KindsGiven}
+use Rattle.kind_table.specs.Kinds.{kindRange, kindEntry, KindsGiven}
 use Rattle.native_function_call.proofs.Applying.{below-range}
 use Rattle.native_function_call.proofs.Calling.{above-all, none-taken, miscounted, entry-given, range-given}
 use borrow.Author.Needs.{needs}

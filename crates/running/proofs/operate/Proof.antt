@@ -6,10 +6,10 @@ use Rattle.ink_number.specs.Answer.{Answer}
 use Rattle.pack.specs.Format.{format1}
 use Rattle.ink_value.specs.Val.{Val, kindAt}
 use Rattle.ink_value.specs.Value.{valOf, written}
-use Rattle.native_function_call.specs.Kinds.{Counted}
+use Rattle.kind_table.specs.Kinds.{Counted}
 use Rattle.native_function_call.specs.Lists.{definitions}
 use Rattle.native_function_call.specs.Apply.{compute}
-use Rattle.native_function_call.specs.declared.KindAnswer.the-variants as Ans
+use Rattle.kind_table.specs.declared.KindAnswer.the-variants as Ans
 use Rattle.running.proofs.Operating.{operandsOf, call-rises, call-computes, call-stops, answered-is}
 use borrow.Author.Needs.{needs}
 use Rattle.running.proofs.operate.Statement.{statement}

@@ -2,7 +2,7 @@ use mathlib.Core.Path.{sym, ap, _∙_}
 use mathlib.Core.List.{map}
 use native.Mathlib.Omega.{arith}
 use Rattle.ink_value.specs.Val.{Kind, kindAt}
-use Rattle.native_function_call.specs.Kinds.{kindApply}
+use Rattle.kind_table.specs.Kinds.{kindApply}
 use Rattle.pack.specs.Instruction.{instrOf}
 use Rattle.pack.specs.declared.instruction.Instruction.{Instruction}
 use Rattle.sheet.specs.Machine.{step, stepPush, kindPushed}

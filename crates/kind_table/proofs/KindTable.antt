@@ -6,8 +6,8 @@ use native.Mathlib.Omega.{arith}
 use lib.Dec.{T, eqb, eqb→eq}
 use Rattle.ink_value.specs.Val.{Kind, boolK, intK, floatK, listK, voidK, kindAt, codeOf}
 use Rattle.ink_number.specs.Answer.{Answer, gives, refuses}
-use Rattle.native_function_call.specs.Kinds.{kindEntry, decoded, answerIn, entryAt, AnswersFrom}
-use Rattle.native_function_call.proofs.Every.{every, at}
+use Rattle.kind_table.specs.Kinds.{kindEntry, decoded, answerIn, entryAt, AnswersFrom}
+use Rattle.kind_table.proofs.Every.{every, at}
 
 abbrev same : Answer Kind → Answer Kind → Bool
 same (gives k) (gives j) = eqb (codeOf k) (codeOf j)

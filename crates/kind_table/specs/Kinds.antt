@@ -4,9 +4,9 @@ use mathlib.Core.List.{List, [], _∷_}
 use mathlib.Core.Path.{_≡_}
 use Prim.Native.Nat.{ℕ, max, _<_, _≤_, _+_, _*_, _/_, _%_, _^_}
 use lib.Dec.{eqb, leb, ltb}
-use Rattle.native_function_call.specs.Op.{opNegate, opEqual, opNotEquals, opNot, opInt, opFloat, opRange}
-use Rattle.native_function_call.specs.declared.KindAnswer.{KindAnswer}
-use Rattle.native_function_call.specs.declared.KindAnswer.the-variants as Ans
+use Rattle.kind_table.specs.Op.{opNegate, opEqual, opNotEquals, opNot, opInt, opFloat, opRange}
+use Rattle.kind_table.specs.declared.KindAnswer.{KindAnswer}
+use Rattle.kind_table.specs.declared.KindAnswer.the-variants as Ans
 use Rattle.ink_value.specs.Val.{Kind, boolK, intK, floatK, listK, voidK, codeOf, kindAt}
 use Rattle.ink_number.specs.Answer.{Answer, gives, refuses, ask}
 

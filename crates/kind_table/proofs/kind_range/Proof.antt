@@ -1,12 +1,12 @@
--- `native_function_call::kind_range` meets its contract. Assumes nothing.
+-- `kind_table::kind_range` meets its contract. Assumes nothing.
 use mathlib.Core.Path.{_≡_, refl}
 use mathlib.Core.Bool.{false}
 use Prim.Native.Nat.{ℕ, zero, suc, _<_}
 use native.Mathlib.Omega.{arith}
 use Rattle.ink_value.specs.Val.{kindAt}
-use Rattle.native_function_call.specs.Kinds.{isVoid, isList, kindRange}
-use Rattle.native_function_call.proofs.kind_range.Statement.{statement}
-use Rattle.native_function_call.proofs.kind_range.Tie as tie
+use Rattle.kind_table.specs.Kinds.{isVoid, isList, kindRange}
+use Rattle.kind_table.proofs.kind_range.Statement.{statement}
+use Rattle.kind_table.proofs.kind_range.Tie as tie
 
 no-void : (c : ℕ) → c < 5 → (c ≡ 4 → ⊥) → isVoid (kindAt c) ≡ false
 no-void zero l h = refl
