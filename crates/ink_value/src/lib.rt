@@ -60,7 +60,7 @@ fn greatest(values: &[i32], start: usize, len: usize) -> i32
     ensures { λ r. ⌜ r ≡ valueOfList (part start len (now (values .entry))) ⌝ }
 {
     let end = start + len;
-    ink_list::extremes::value_of_list(&values[start..end])
+    list_extremes::value_of_list(&values[start..end])
 }
 
 // The least of the values that stand from `start` on, or 0.
@@ -69,7 +69,7 @@ fn least(values: &[i32], start: usize, len: usize) -> i32
     ensures { λ r. ⌜ r ≡ lowerBound (part start len (now (values .entry))) ⌝ }
 {
     let end = start + len;
-    ink_list::extremes::lower_bound(&values[start..end])
+    list_extremes::lower_bound(&values[start..end])
 }
 
 // The greatest of the values that stand from `start` on, or 2147483647.
@@ -78,7 +78,7 @@ fn highest(values: &[i32], start: usize, len: usize) -> i32
     ensures { λ r. ⌜ r ≡ upperBound (part start len (now (values .entry))) ⌝ }
 {
     let end = start + len;
-    ink_list::extremes::upper_bound(&values[start..end])
+    list_extremes::upper_bound(&values[start..end])
 }
 
 // Where a list's entries start, how many there are, and its origin set; 0 for other values.

@@ -106,12 +106,12 @@ fn test_entries(op: u8, ai: &[u16], av: &[i32], bi: &[u16], bv: &[i32]) -> bool
     ensures { λ r. ⌜ r ≡ testL op (list ai av) (list bi bv) ⌝ }
 {
     match op {
-        7 => ink_list::extremes::greater(av, bv),
-        8 => ink_list::extremes::less(av, bv),
-        9 => ink_list::extremes::greater_or_equals(av, bv),
-        10 => ink_list::extremes::less_or_equals(av, bv),
-        22 => ink_list::merge::has(ai, bi),
-        _ => ink_list::merge::hasnt(ai, bi),
+        7 => list_extremes::greater(av, bv),
+        8 => list_extremes::less(av, bv),
+        9 => list_extremes::greater_or_equals(av, bv),
+        10 => list_extremes::less_or_equals(av, bv),
+        22 => list_merge::has(ai, bi),
+        _ => list_merge::hasnt(ai, bi),
     }
 }
 
@@ -130,9 +130,9 @@ fn merge(
         → Answers (mergeL limit op (list ai av) (list bi bv)) r oi ov) ⌝ }
 {
     match op {
-        0 => ink_list::merge::union(ai, av, bi, bv, oi, ov),
-        1 => ink_list::merge::without(ai, av, bi, oi, ov),
-        _ => ink_list::merge::intersect(ai, av, bi, oi, ov),
+        0 => list_merge::union(ai, av, bi, bv, oi, ov),
+        1 => list_merge::without(ai, av, bi, oi, ov),
+        _ => list_merge::intersect(ai, av, bi, oi, ov),
     }
 }
 
@@ -151,8 +151,8 @@ fn unary(
     ensures { λ r. ⌜ Answers (unaryL (now (ends .entry)) (now (defined .entry)) op set (list ai av)) r oi ov ⌝ }
 {
     match op {
-        25 => ink_list::extremes::list_min(ai, av, oi, ov),
-        26 => ink_list::extremes::list_max(ai, av, oi, ov),
+        25 => list_extremes::list_min(ai, av, oi, ov),
+        26 => list_extremes::list_max(ai, av, oi, ov),
         27 => list_definitions::all(set, ends, defined, oi, ov),
         _ => list_definitions::invert(ai, set, ends, defined, oi, ov),
     }
@@ -439,7 +439,7 @@ fn list3(
     let lower = ink_value::lower_bound(b, values);
     let upper = ink_value::upper_bound(c, values);
     let e = i + m;
-    let n = ink_list::extremes::range(&items[i..e], &values[i..e], lower, upper, oi, ov);
+    let n = list_extremes::range(&items[i..e], &values[i..e], lower, upper, oi, ov);
     located(n, oi, ends)
 }
 
