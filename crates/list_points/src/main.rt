@@ -11,6 +11,13 @@ use ink_list::entries::copy;
 use ink_list::entries::count;
 use ink_list::entries::is_formed;
 use ink_list::entries::truthy;
+use ink_number::int::pattern;
+use ink_number::int::wrapping_add;
+use list_definitions::all;
+use list_definitions::decrement;
+use list_definitions::increment;
+use list_definitions::invert;
+use list_definitions::origins_of;
 use list_extremes::greater;
 use list_extremes::greater_or_equals;
 use list_extremes::less;
@@ -26,13 +33,6 @@ use list_merge::hasnt;
 use list_merge::intersect;
 use list_merge::union;
 use list_merge::without;
-use ink_number::int::pattern;
-use ink_number::int::wrapping_add;
-use list_definitions::all;
-use list_definitions::decrement;
-use list_definitions::increment;
-use list_definitions::invert;
-use list_definitions::origins_of;
 
 const STDOUT: i32 = 1;
 

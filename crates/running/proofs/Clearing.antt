@@ -13,10 +13,10 @@ use Rattle.ink_list.proofs.Filled.{length-fill}
 use Rattle.ink_list.proofs.Laws.{lt-or-le}
 use Rattle.pack.specs.Format.{format1}
 use Rattle.sheet.specs.Machine.{stackLimit}
-use Rattle.running.specs.Run.{workLimit}
-use Rattle.running.specs.Steps.{startAt, Outside, Touched, cleared}
+use Rattle.stepping.specs.Steps.{workLimit, startAt}
+use Rattle.running.specs.Work.{Outside, Touched, cleared}
 use Rattle.running.proofs.Filling.{getD-outside, getD-inside}
-use Rattle.running.proofs.Putting.{place-fits}
+use Rattle.stepping.proofs.Putting.{place-fits}
 
 module _ {X : Type 0} (d : X) (used : List ℕ) (l : List X) where
   pub cleared-none : cleared d used 0 l ≡ l

@@ -15,8 +15,9 @@ use Rattle.pack.specs.Format.{format1}
 use Rattle.pack.specs.Read.{endsOf, literalOf, program}
 use Rattle.pack.proofs.Values.{fill-over}
 use Rattle.sheet.specs.Machine.{End, ended, stopped, stackLimit, run}
-use Rattle.running.specs.Run.{RanTo, Inputs, Memory, runOf}
-use Rattle.running.specs.Steps.{placedAt, Put, Roomy, Worked, cleared}
+use Rattle.stepping.specs.Steps.{Inputs, placedAt, Put, Roomy}
+use Rattle.running.specs.Run.{RanTo, Memory, runOf}
+use Rattle.running.specs.Work.{Worked, cleared}
 use Rattle.running.specs.declared.Ran.{Ran}
 use Rattle.running.specs.declared.Ran.the-variants as Rn
 use Rattle.running.proofs.Clearing.{cleared-back}

@@ -9,7 +9,7 @@ use lib.Seq.{length-take-le, take-at, drop-at, take-append-le, drop-append-le, g
 use Rattle.ink_list.specs.Filled.{fill}
 use Rattle.ink_list.proofs.Filled.{fill-nothing, length-fill, fill-set}
 use Rattle.ink_value.specs.Value.{part}
-use Rattle.running.specs.Steps.{Outside}
+use Rattle.running.specs.Work.{Outside}
 
 module _ {A : Type 0} (at : ℕ) (xs l : List A) (fits : at + length xs ≤ length l) where
   head-long : length (take at l ++ xs) ≡ at + length xs

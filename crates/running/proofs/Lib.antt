@@ -1,7 +1,5 @@
 -- The laws of running.
 pub mod Filling
-pub mod Putting
-pub mod Operating
 pub mod Working
 pub mod Clearing
 pub mod Ending

@@ -25,7 +25,8 @@ use Rattle.pack.specs.Judge.{Sound, judge}
 use Rattle.pack.specs.Read.{endsOf, definedOf}
 use Rattle.pack.proofs.Values.{pack-tables, fill-over}
 use Rattle.sheet.specs.Whole.{opened}
-use Rattle.running.specs.Run.{workLimit, longEnough, memory, RanTo, Inputs, Memory, runOf, Runs}
+use Rattle.stepping.specs.Steps.{workLimit, Inputs}
+use Rattle.running.specs.Run.{longEnough, memory, RanTo, Memory, runOf, Runs}
 use Rattle.running.specs.declared.Ran.{Ran}
 use Rattle.running.specs.declared.Ran.the-variants as Rn
 use Rattle.running.proofs.Filling.{getD-inside}

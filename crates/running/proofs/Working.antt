@@ -32,9 +32,10 @@ use Rattle.pack.proofs.Programs.{last-of}
 use Rattle.sheet.specs.Machine.{Run, ended, stopped, stackLimit, finish, onward, step, runFrom, valuePushed, run}
 use Rattle.sheet.specs.Stack.{stackOf}
 use Rattle.sheet.proofs.Stack.{stack-put, run-more, run-stop, run-done}
-use Rattle.running.specs.Steps.{placedAt, startAt, Roomy, Grown, Tops, TopsFormed, Outside, Touched, Longest}
+use Rattle.stepping.specs.Steps.{placedAt, startAt, Roomy, Grown, Tops, TopsFormed}
+use Rattle.running.specs.Work.{Outside, Touched, Longest}
 use Rattle.running.proofs.Filling.{part-filled, part-before, getD-outside}
-use Rattle.running.proofs.Putting.{place-fits, formed-none}
+use Rattle.stepping.proofs.Putting.{place-fits, formed-none}
 
 -- ---- a value after it is put, and the values below
 

@@ -1,3 +1,3 @@
 -- What a run asks, answers and leaves; and the words of the contracts inside.
 pub mod Run
-pub mod Steps
+pub mod Work

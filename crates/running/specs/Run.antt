@@ -1,8 +1,8 @@
 -- What a run asks of lent memory, what it answers, and what it leaves in the slices. Assumes nothing.
 use mathlib.Core.Path.{_≡_}
-use mathlib.Core.Bool.{Bool, false}
+use mathlib.Core.Bool.{Bool}
 use mathlib.Core.List.{List, []}
-use Prim.Native.Nat.{ℕ, _*_, _≤_, _<_}
+use Prim.Native.Nat.{ℕ, _≤_, _<_}
 use lib.Dec.{leb}
 use lib.IntN.{ℤ, pos}
 use lib.ListN.{length, getD, replicate}
@@ -12,22 +12,17 @@ use Rattle.ink_list.specs.Every.{_and_}
 use Rattle.ink_list.specs.Filled.{over}
 use Rattle.ink_value.specs.Val.{Val}
 use Rattle.ink_value.specs.Convert.{entriesOf}
-use Rattle.ink_value.specs.Value.{placedVal, allFormed, Formed}
+use Rattle.ink_value.specs.Value.{placedVal, allFormed}
 use Rattle.ink_value.specs.declared.Value.{Value}
-use Rattle.ink_value.specs.declared.Value.the-variants as Is
 use Rattle.pack.specs.Bodies.{Pack, decoded}
 use Rattle.pack.specs.Format.{format1}
-use Rattle.pack.specs.Judge.{Sound}
 use Rattle.pack.specs.Read.{endsOf, definedOf, definitionsOf, literalOf, sheetOf, program}
 use Rattle.pack.specs.declared.format.Format.{Format}
-use Rattle.sheet.specs.Machine.{End, ended, stopped, stackLimit, run}
+use Rattle.sheet.specs.Machine.{End, ended, stopped, run}
 use Rattle.sheet.specs.Whole.{started}
+use Rattle.stepping.specs.Steps.{workLimit}
 use Rattle.running.specs.declared.Ran.{Ran}
 use Rattle.running.specs.declared.Ran.the-variants as Rn
-
--- "work slices 16,384": the entries of the list at each place of the stack
-abbrev pub workLimit : Format → ℕ
-workLimit F = stackLimit * F .limit
 
 -- 7, of the slices that a run writes: "result slices at least 256 entries, work slices 16,384"
 abbrev pub longEnough : Format → List ℕ → List ℤ → List ℕ → List ℤ → Bool
@@ -61,13 +56,6 @@ pub record RanTo (e : End Val) (r : Ran) (ri ri′ : List ℕ) (rv rv′ : List 
   pub values-out : rv′ ≡ over (values (left e)) rv
 
 -- ---- a run whose questions 1 to 7 say yes
-
--- what a run goes by: a pack that passed, its definitions' tables, and slots whose lists stand well formed in their slices
-pub record Inputs (p : List ℕ) (ends : List ℕ) (defined : List ℤ) (slots : List Value) (si : List ℕ) (sv : List ℤ) : Type 0 where
-  pub sound : Sound format1 p
-  pub ends-are : ends ≡ endsOf (decoded format1 p)
-  pub defined-are : defined ≡ definedOf (decoded format1 p)
-  pub slots-formed : (k : ℕ) → k < length slots → Formed (format1 .limit) si sv (getD slots k (Is.Bool false))
 
 -- memory lent for it: work slices long enough and zero where it works, result slices long enough for a List
 pub record Memory (wi : List ℕ) (wv : List ℤ) (ri : List ℕ) (rv : List ℤ) : Type 0 where

@@ -4,8 +4,8 @@ use native.Mathlib.Omega.{arith}
 use lib.IntN.{ℤ, pos}
 use lib.ListN.{length}
 use Rattle.sheet.specs.Machine.{stackLimit}
-use Rattle.running.specs.Steps.{cleared}
-use Rattle.running.proofs.Putting.{place-fits}
+use Rattle.running.specs.Work.{cleared}
+use Rattle.stepping.proofs.Putting.{place-fits}
 use Rattle.running.proofs.Clearing.{cleared-none, cleared-more, cleared-long}
 use borrow.Author.Needs.{needs}
 use Rattle.running.proofs.clear.Statement.{statement}

@@ -12,7 +12,7 @@ use Rattle.pack.specs.Read.{sheetEnd}
 use Rattle.pack.proofs.Allowed.{allowed}
 use Rattle.pack.proofs.Programs.{whole}
 use Rattle.sheet.specs.Machine.{stackLimit}
-use Rattle.running.specs.Steps.{Longest}
+use Rattle.running.specs.Work.{Longest}
 use Rattle.running.proofs.Working.{Working, begin, valueOn, tops, tops-formed, roomy, advance, refused, one-left, not-one, width-some}
 use borrow.Author.Needs.{needs}
 use Rattle.running.proofs.work.Statement.{statement}

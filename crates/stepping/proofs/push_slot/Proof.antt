@@ -2,10 +2,10 @@ use mathlib.Core.List.{[]}
 use native.Mathlib.Omega.{arith}
 use Rattle.pack.specs.Format.{format1}
 use Rattle.ink_value.proofs.Reading.{few-in}
-use Rattle.running.proofs.Putting.{place-fits, push-put, push-no}
+use Rattle.stepping.proofs.Putting.{place-fits, push-put, push-no}
 use borrow.Author.Needs.{needs}
-use Rattle.running.proofs.push_slot.Statement.{statement}
-use Rattle.running.proofs.push_slot.Tie as tie
+use Rattle.stepping.proofs.push_slot.Statement.{statement}
+use Rattle.stepping.proofs.push_slot.Tie as tie
 
 returns : tie.Need-returns
 returns c =

@@ -2,10 +2,10 @@ use mathlib.Core.Path.{sym, _∙_}
 use native.Mathlib.Omega.{arith}
 use Rattle.pack.specs.Format.{format1}
 use Rattle.native_function_call.specs.Lists.{definitions}
-use Rattle.running.proofs.Operating.{no-operator, no-operands, operands-topped, operands-formed, steps-of}
+use Rattle.stepping.proofs.Operating.{no-operator, no-operands, operands-topped, operands-formed, steps-of}
 use borrow.Author.Needs.{needs}
-use Rattle.running.proofs.run_op.Statement.{statement}
-use Rattle.running.proofs.run_op.Tie as tie
+use Rattle.stepping.proofs.run_op.Statement.{statement}
+use Rattle.stepping.proofs.run_op.Tie as tie
 
 operands-requires : tie.Need-operands-requires
 operands-requires c κs = search needs

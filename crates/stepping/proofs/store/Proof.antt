@@ -1,8 +1,8 @@
 use mathlib.Core.Path.{refl, sym, _∙_}
-use Rattle.running.proofs.Putting.{put-plain, put-copied}
+use Rattle.stepping.proofs.Putting.{put-plain, put-copied}
 use borrow.Author.Needs.{needs}
-use Rattle.running.proofs.store.Statement.{statement}
-use Rattle.running.proofs.store.Tie as tie
+use Rattle.stepping.proofs.store.Statement.{statement}
+use Rattle.stepping.proofs.store.Tie as tie
 
 kind-requires : tie.Need-kind-requires
 kind-requires c κs = search needs

@@ -10,10 +10,10 @@ use Rattle.kind_table.specs.Kinds.{Counted}
 use Rattle.native_function_call.specs.Lists.{definitions}
 use Rattle.native_function_call.specs.Apply.{compute}
 use Rattle.kind_table.specs.declared.KindAnswer.the-variants as Ans
-use Rattle.running.proofs.Operating.{operandsOf, call-rises, call-computes, call-stops, answered-is}
+use Rattle.stepping.proofs.Operating.{operandsOf, call-rises, call-computes, call-stops, answered-is}
 use borrow.Author.Needs.{needs}
-use Rattle.running.proofs.operate.Statement.{statement}
-use Rattle.running.proofs.operate.Tie as tie
+use Rattle.stepping.proofs.operate.Statement.{statement}
+use Rattle.stepping.proofs.operate.Tie as tie
 
 kinds-requires : tie.Need-kinds-requires
 kinds-requires c κs = search needs

@@ -1,10 +1,10 @@
 use native.Mathlib.Omega.{arith}
 use Rattle.pack.specs.Format.{format1}
 use Rattle.ink_value.proofs.Reading.{few-in}
-use Rattle.running.proofs.Putting.{place-fits, formed-result, result-read, result-put, refusal}
+use Rattle.stepping.proofs.Putting.{place-fits, formed-result, result-read, result-put, refusal}
 use borrow.Author.Needs.{needs}
-use Rattle.running.proofs.list_result.Statement.{statement}
-use Rattle.running.proofs.list_result.Tie as tie
+use Rattle.stepping.proofs.list_result.Statement.{statement}
+use Rattle.stepping.proofs.list_result.Tie as tie
 
 slice-aggregate-list : tie.Need-slice-aggregate-list
 slice-aggregate-list c = search needs

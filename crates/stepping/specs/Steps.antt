@@ -1,12 +1,12 @@
--- The words of the inner contracts: a value put at a place of two slices, one step on a stack that is held in an array, the places of the
--- work slices that a run has used, and those places cleared. Assumes nothing.
+-- The words of the contracts: what a run goes by, a value put at a place of two slices, and one step on a stack that is held in an array.
+-- Assumes nothing.
 use mathlib.Core.Path.{_≡_}
-use mathlib.Core.Logic.{_⊎_}
+use mathlib.Core.Bool.{false}
 use mathlib.Core.List.{List, _∷_}
-use Prim.Native.Nat.{ℕ, zero, suc, _+_, _*_, _-_, _≤_, _<_}
+use Prim.Native.Nat.{ℕ, _*_, _-_, _≤_, _<_}
 use lib.Dec.{ltb}
-use lib.IntN.{ℤ, pos}
-use lib.ListN.{length, getD, replicate}
+use lib.IntN.{ℤ}
+use lib.ListN.{length, getD}
 use Rattle.ink_number.specs.Answer.{Answer, gives, refuses, ask}
 use Rattle.list_definitions.specs.Defs.{Tables}
 use Rattle.ink_list.specs.Entries.{items, values, Rising}
@@ -16,14 +16,15 @@ use Rattle.ink_value.specs.Convert.{entriesOf}
 use Rattle.ink_value.specs.Value.{valOf, Formed}
 use Rattle.ink_value.specs.declared.Value.{Value}
 use Rattle.ink_value.specs.declared.Value.the-variants as Is
+use Rattle.pack.specs.Bodies.{decoded}
 use Rattle.pack.specs.Format.{format1, definitionLimit}
-use Rattle.sheet.specs.Machine.{End, ended, stopped, stackLimit}
+use Rattle.pack.specs.Judge.{Sound}
+use Rattle.pack.specs.Read.{endsOf, definedOf}
+use Rattle.pack.specs.declared.format.Format.{Format}
+use Rattle.sheet.specs.Machine.{stackLimit}
 use Rattle.sheet.specs.Stack.{stackOf}
-use Rattle.running.specs.Run.{workLimit}
-use Rattle.running.specs.declared.Ran.{Ran}
-use Rattle.running.specs.declared.Ran.the-variants as Rn
-use Rattle.running.specs.declared.Step.{Step}
-use Rattle.running.specs.declared.Step.the-variants as St
+use Rattle.stepping.specs.declared.Step.{Step}
+use Rattle.stepping.specs.declared.Step.the-variants as St
 
 -- ---- a value at a place
 
@@ -43,6 +44,13 @@ pub record Put (x : Val) (at : ℕ) (r : Value) (oi oi′ : List ℕ) (ov ov′ 
   pub rising : Rising (format1 .limit) (entriesOf x)
 
 -- ---- one step
+
+-- what a run goes by: a pack that passed, its definitions' tables, and slots whose lists stand well formed in their slices
+pub record Inputs (p : List ℕ) (ends : List ℕ) (defined : List ℤ) (slots : List Value) (si : List ℕ) (sv : List ℤ) : Type 0 where
+  pub sound : Sound format1 p
+  pub ends-are : ends ≡ endsOf (decoded format1 p)
+  pub defined-are : defined ≡ definedOf (decoded format1 p)
+  pub slots-formed : (k : ℕ) → k < length slots → Formed (format1 .limit) si sv (getD slots k (Is.Bool false))
 
 -- where the entries of the list at a place of the stack start
 abbrev pub startAt : ℕ → ℕ
@@ -111,48 +119,11 @@ pub record Known (ends : List ℕ) (defined : List ℤ) : Type 0 where
   pub few : length ends ≤ definitionLimit
   pub within : length defined ≤ format1 .limit
 
+-- "work slices 16,384": the entries of the list at each place of the stack
+abbrev pub workLimit : Format → ℕ
+workLimit F = stackLimit * F .limit
+
 -- work slices that are long enough
 pub record Roomy (wi : List ℕ) (wv : List ℤ) : Type 0 where
   pub items-room : workLimit format1 ≤ length wi
   pub values-room : workLimit format1 ≤ length wv
-
--- ---- the places that are used
-
--- j is none of the n places from `at` on
-abbrev pub Outside : ℕ → ℕ → ℕ → Type 0
-Outside at n j = (j < at) ⊎ (at + n ≤ j)
-
--- used has for each place of the stack how many entries it had at most: no others have changed
-pub record Touched {X : Type 0} (d : X) (used : List ℕ) (old new : List X) : Type 0 where
-  pub long : length new ≡ length old
-  pub kept : (j : ℕ) → ((q : ℕ) → q < stackLimit → Outside (startAt q) (getD used q 0) j) → getD new j d ≡ getD old j d
-
--- the greatest length at a place, after one of n entries
-pub record Longest (used used′ : List ℕ) (place n : ℕ) : Type 0 where
-  pub long : length used′ ≡ length used
-  pub kept : (q : ℕ) → getD used q 0 ≤ getD used′ q 0
-  pub covers : n ≤ getD used′ place 0
-  pub few : (m : ℕ) → ((q : ℕ) → getD used q 0 ≤ m) → n ≤ m → (q : ℕ) → getD used′ q 0 ≤ m
-
--- the places below n of the stack, cleared
-unfoldable pub cleared : {X : Type 0} → X → List ℕ → ℕ → List X → List X
-cleared d used zero l = l
-cleared d used (suc n) l = fill (startAt n) (replicate (getD used n 0) d) (cleared d used n l)
-
--- ---- how the work ends
-
--- the end that an answer stands for, a List's entries in the work slices
-abbrev pub endOf : List ℕ → List ℤ → Ran → End Val
-endOf wi wv (Rn.Ended v) = ended (valOf wi wv v)
-endOf wi wv (Rn.Stopped r k) = stopped r k
-
-abbrev pub EndFormed : List ℕ → List ℤ → Ran → Type 0
-EndFormed wi wv (Rn.Ended v) = Formed (format1 .limit) wi wv v
-EndFormed wi wv (Rn.Stopped r k) = Unit {0}
-
-pub record Worked (e : End Val) (r : Ran) (used : List ℕ) (wi wi′ : List ℕ) (wv wv′ : List ℤ) : Type 0 where
-  pub end-is : endOf wi′ wv′ r ≡ e
-  pub end-formed : EndFormed wi′ wv′ r
-  pub items-touched : Touched 0 used wi wi′
-  pub values-touched : Touched (pos 0) used wv wv′
-  pub few : (q : ℕ) → getD used q 0 ≤ format1 .limit

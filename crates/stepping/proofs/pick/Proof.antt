@@ -1,7 +1,7 @@
 use mathlib.Core.Path.{refl}
 use native.Mathlib.Omega.{arith}
-use Rattle.running.proofs.pick.Statement.{statement}
-use Rattle.running.proofs.pick.Tie as tie
+use Rattle.stepping.proofs.pick.Statement.{statement}
+use Rattle.stepping.proofs.pick.Tie as tie
 
 returns : tie.Need-returns
 returns c =

@@ -31,11 +31,10 @@ use Rattle.pack.proofs.Values.{pack-tables}
 use Rattle.sheet.specs.Machine.{stackLimit, topped, stepOp, stepPush, step}
 use Rattle.sheet.specs.Stack.{stackOf}
 use Rattle.sheet.proofs.Stack.{op-unknown, op-few, op-one, op-two, op-three, stack-length, getD-any}
-use Rattle.running.specs.Steps.{ByStep, Answered, StepBy, Steps, Tops, TopsFormed, Picks, Known, startAt, Put, pushed}
-use Rattle.running.specs.Run.{Inputs}
-use Rattle.running.specs.declared.Step.{Step}
-use Rattle.running.specs.declared.Step.the-variants as St
-use Rattle.running.proofs.Putting.{Plain}
+use Rattle.stepping.specs.Steps.{ByStep, Answered, StepBy, Steps, Tops, TopsFormed, Picks, Known, startAt, Put, pushed, Inputs}
+use Rattle.stepping.specs.declared.Step.{Step}
+use Rattle.stepping.specs.declared.Step.the-variants as St
+use Rattle.stepping.proofs.Putting.{Plain}
 
 -- ---- a result that is no List
 

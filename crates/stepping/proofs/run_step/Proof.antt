@@ -15,10 +15,10 @@ use Rattle.pack.specs.Instruction.{pushBool, pushInt, pushFloat, pushList, push
 use Rattle.pack.specs.Read.{literalOf}
 use Rattle.pack.specs.declared.instruction.Instruction.{Instruction}
 use Rattle.sheet.specs.Machine.{valuePushed}
-use Rattle.running.proofs.Operating.{push-steps, op-steps, slot-value, known-of}
+use Rattle.stepping.proofs.Operating.{push-steps, op-steps, slot-value, known-of}
 use borrow.Author.Needs.{needs}
-use Rattle.running.proofs.run_step.Statement.{statement}
-use Rattle.running.proofs.run_step.Tie as tie
+use Rattle.stepping.proofs.run_step.Statement.{statement}
+use Rattle.stepping.proofs.run_step.Tie as tie
 
 enum-known-i : tie.Need-enum-known-i
 enum-known-i c = search needs

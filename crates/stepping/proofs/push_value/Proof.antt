@@ -1,6 +1,6 @@
-use Rattle.running.proofs.Putting.{put-plain, push-put, push-no}
-use Rattle.running.proofs.push_value.Statement.{statement}
-use Rattle.running.proofs.push_value.Tie as tie
+use Rattle.stepping.proofs.Putting.{put-plain, push-put, push-no}
+use Rattle.stepping.proofs.push_value.Statement.{statement}
+use Rattle.stepping.proofs.push_value.Tie as tie
 
 returns : tie.Need-returns
 returns c =

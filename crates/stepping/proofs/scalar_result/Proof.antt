@@ -4,11 +4,11 @@ use Rattle.pack.specs.Format.{format1}
 use Rattle.ink_value.specs.Value.{valOf}
 use Rattle.ink_value.proofs.Reading.{formed-limit}
 use Rattle.native_function_call.proofs.Calling.{scalar-gave}
-use Rattle.running.proofs.Putting.{plain-value, refusal}
-use Rattle.running.proofs.Operating.{scalar-plain}
+use Rattle.stepping.proofs.Putting.{plain-value, refusal}
+use Rattle.stepping.proofs.Operating.{scalar-plain}
 use borrow.Author.Needs.{needs}
-use Rattle.running.proofs.scalar_result.Statement.{statement}
-use Rattle.running.proofs.scalar_result.Tie as tie
+use Rattle.stepping.proofs.scalar_result.Statement.{statement}
+use Rattle.stepping.proofs.scalar_result.Tie as tie
 
 scalar-requires : tie.Need-scalar-requires
 scalar-requires c κs =

@@ -9,10 +9,10 @@ use Rattle.pack.proofs.Listed.{literal-formed}
 use Rattle.pack.proofs.Values.{pack-tables}
 use Rattle.ink_list.proofs.Laws.{rising-limit}
 use Rattle.ink_value.specs.declared.Value.the-variants as Is
-use Rattle.running.proofs.Putting.{place-fits, put-literal, push-put, push-no}
+use Rattle.stepping.proofs.Putting.{place-fits, put-literal, push-put, push-no}
 use borrow.Author.Needs.{needs}
-use Rattle.running.proofs.push_literal.Statement.{statement}
-use Rattle.running.proofs.push_literal.Tie as tie
+use Rattle.stepping.proofs.push_literal.Statement.{statement}
+use Rattle.stepping.proofs.push_literal.Tie as tie
 
 returns : tie.Need-returns
 returns c =

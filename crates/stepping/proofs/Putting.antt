@@ -23,9 +23,8 @@ use Rattle.ink_value.proofs.Results.{read-back, formed-back}
 use Rattle.pack.specs.Format.{format1}
 use Rattle.pack.specs.Read.{Stored}
 use Rattle.sheet.specs.Machine.{stackLimit}
-use Rattle.running.specs.Run.{workLimit}
-use Rattle.running.specs.Steps.{placedAt, Put, startAt, Answered, pushed}
-use Rattle.running.specs.declared.Step.the-variants as St
+use Rattle.stepping.specs.Steps.{workLimit, placedAt, Put, startAt, Answered, pushed}
+use Rattle.stepping.specs.declared.Step.the-variants as St
 
 -- a place of the stack has room for a list
 pub place-fits : (place n : ℕ) → place < stackLimit → n ≤ format1 .limit → startAt place + n ≤ workLimit format1

@@ -1,0 +1,3 @@
+-- The laws of one step.
+pub mod Putting
+pub mod Operating

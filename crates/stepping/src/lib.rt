@@ -1,0 +1,351 @@
+// One instruction of a run: a push, or an operator on the values on top of the stack. The entries of the list at place p of
+// the stack stand in the work slices, from p * ITEM_LIMIT on.
+
+use ink_value::Outcome;
+use ink_value::Value;
+use kind_table::KindAnswer;
+use pack::instruction::Instruction;
+use sheet::STACK_LIMIT;
+ghost use mathlib.Core.Path.{_≡_};
+ghost use mathlib.Core.List.{List, [], _∷_, map};
+ghost use Prim.Native.Nat.{ℕ, _<_, _≤_, _+_, _-_};
+ghost use lib.IntN.{ℤ};
+ghost use lib.ListN.{length, take};
+ghost use Rattle.ink_list.specs.Entries.{Rising};
+ghost use Rattle.ink_value.specs.Val.{Val, list, listK, kindAt};
+ghost use Rattle.ink_value.specs.Slices.{valIn};
+ghost use Rattle.ink_value.specs.Value.{valOf, codeOfValue, lenOf, written, Formed};
+ghost use Rattle.native_function_call.specs.Apply.{applyOp, call, compute};
+ghost use Rattle.list_definitions.specs.Defs.{ListDefinitions};
+ghost use Rattle.native_function_call.specs.Lists.{definitions, definitionsIn};
+ghost use Rattle.pack.specs.Bodies.{decoded};
+ghost use Rattle.pack.specs.Contents.{literalCount};
+ghost use Rattle.pack.specs.Format.{format1};
+ghost use Rattle.pack.specs.Instruction.{instrOf, Allowed};
+ghost use Rattle.pack.specs.Judge.{Sound};
+ghost use Rattle.pack.specs.Read.{literalOf};
+ghost use Rattle.sheet.specs.Machine.{stackLimit, stepOp, step, valuePushed, run};
+ghost use Rattle.sheet.specs.Stack.{stackOf};
+ghost use Rattle.stepping.specs.Steps.{Inputs, Put, Answered, pushed, Steps, Tops, TopsFormed, Picks, Known, Roomy};
+
+// What one instruction does to the stack: a value is put at a place, which is then the top; or a question says no.
+pub enum Step {
+    Put { place: usize, value: Value },
+    No(u8),
+}
+
+// The most entries of a list.
+pub const ITEM_LIMIT: usize = pack::format::FORMAT1.limit;
+
+// A value, its list's entries copied to the places from `to` on.
+pub fn store(
+    v: Value,
+    items: &[u16],
+    values: &[i32],
+    oi: &mut [u16],
+    ov: &mut [i32],
+    to: usize,
+) -> Value
+    requires { ⌜ Formed (format1 .limit) (now items) (now values) v ⌝ }
+    requires { ⌜ (to + lenOf v ≤ length (now oi)) × (to + lenOf v ≤ length (now ov)) ⌝ }
+    ensures { λ r. ⌜ Put (valIn items values v) to r (now (oi .entry)) (now (oi .exit)) (now (ov .entry)) (now (ov .exit)) ⌝ }
+{
+    if ink_value::kind(v) != 3 {
+        return v;
+    }
+    let start = ink_value::start_of(v);
+    let len = ink_value::len_of(v);
+    let origins = ink_value::origins_in(v);
+    let end = start + len;
+    ink_list::entries::copy_rest(&items[start..end], &values[start..end], 0, oi, ov, to);
+    Value::List {
+        origins,
+        start: to,
+        len,
+    }
+}
+
+// A push of a value that is no list, on a stack of n: question 9.
+fn push_value(value: Value, n: usize) -> Step
+    requires { ⌜ (codeOfValue value ≡ 3 → ⊥) ⌝ }
+    ensures { λ r. ⌜ ((is : List ℕ) (vs : List ℤ) (wi : List ℕ) (wv : List ℤ) → Answered (pushed n (valOf is vs value)) n r wi wi wv wv) ⌝ }
+{
+    if n < STACK_LIMIT {
+        Step::Put { place: n, value }
+    } else {
+        Step::No(9)
+    }
+}
+
+// A push of a slot's value.
+fn push_slot(
+    v: Value,
+    n: usize,
+    slot_items: &[u16],
+    slot_values: &[i32],
+    work_items: &mut [u16],
+    work_values: &mut [i32],
+) -> Step
+    requires { ⌜ Formed (format1 .limit) (now «slot_items») (now «slot_values») v ⌝ }
+    requires { ⌜ Roomy (now «work_items») (now «work_values») ⌝ }
+    ensures { λ r. ⌜ Answered (pushed n (valIn «slot_items» «slot_values» v)) n r (now («work_items» .entry)) (now («work_items» .exit)) (now («work_values» .entry)) (now («work_values» .exit)) ⌝ }
+{
+    if STACK_LIMIT <= n {
+        return Step::No(9);
+    }
+    let to = n * ITEM_LIMIT;
+    let value = store(v, slot_items, slot_values, work_items, work_values, to);
+    Step::Put { place: n, value }
+}
+
+// A push of a literal.
+fn push_literal(
+    pack: &[u8],
+    l: usize,
+    n: usize,
+    work_items: &mut [u16],
+    work_values: &mut [i32],
+) -> Step
+    requires { ⌜ Sound format1 (now pack) ⌝ }
+    requires { ⌜ l < literalCount (now pack) ⌝ }
+    requires { ⌜ Roomy (now «work_items») (now «work_values») ⌝ }
+    ensures { λ r. ⌜ Answered (pushed n (list (literalOf (decoded format1 (now (pack .entry))) l .origins) (literalOf (decoded format1 (now (pack .entry))) l .entries))) n r
+        (now («work_items» .entry)) (now («work_items» .exit)) (now («work_values» .entry)) (now («work_values» .exit)) ⌝ }
+{
+    if STACK_LIMIT <= n {
+        return Step::No(9);
+    }
+    let to = n * ITEM_LIMIT;
+    let origins = pack::read::literal_origins(pack, l);
+    let len = pack::read::read_literal(pack, l, work_items, work_values, to);
+    let value = Value::List {
+        origins,
+        start: to,
+        len,
+    };
+    Step::Put { place: n, value }
+}
+
+// A result that is no List, at a place of the stack.
+fn scalar_result(
+    op: u8,
+    kind: u8,
+    count: usize,
+    a: Value,
+    b: Value,
+    items: &[u16],
+    values: &[i32],
+    place: usize,
+) -> Step
+    requires { ⌜ (kind ≡ 3 → ⊥) × (1 ≤ count) × (count ≤ 2) × (place < stackLimit) ⌝ }
+    requires { ⌜ Formed (format1 .limit) (now items) (now values) a × Formed (format1 .limit) (now items) (now values) b ⌝ }
+    ensures { λ r. ⌜ ((u : ListDefinitions) (x : Val) → Answered (compute u op (take count (valIn items values a ∷ valIn items values b ∷ x ∷ [])) (kindAt kind)) place r
+        (now (items .entry)) (now (items .entry)) (now (values .entry)) (now (values .entry))) ⌝ }
+{
+    let outcome = native_function_call::scalar(op, kind, count, a, b, items, values);
+    match outcome {
+        Outcome::Value(value) => Step::Put { place, value },
+        Outcome::Refused(number) => Step::No(number),
+    }
+}
+
+// A result that is a List, its entries copied to its place in the work slices.
+fn list_result(
+    op: u8,
+    count: usize,
+    a: Value,
+    b: Value,
+    c: Value,
+    ends: &[u16],
+    defined: &[i32],
+    place: usize,
+    work_items: &mut [u16],
+    work_values: &mut [i32],
+) -> Step
+    requires { ⌜ Known (now ends) (now defined) × Roomy (now «work_items») (now «work_values») × (1 ≤ count) × (count ≤ 3) × (place < stackLimit) ⌝ }
+    requires { ⌜ Formed (format1 .limit) (now «work_items») (now «work_values») a × Formed (format1 .limit) (now «work_items») (now «work_values») b × Formed (format1 .limit) (now «work_items») (now «work_values») c ⌝ }
+    requires { ⌜ Rising (format1 .limit) (written (compute (definitions (now ends) (now defined) (format1 .limit)) op (take count (valOf (now «work_items») (now «work_values») a ∷ valOf (now «work_items») (now «work_values») b ∷ valOf (now «work_items») (now «work_values») c ∷ [])) listK)) ⌝ }
+    ensures { λ r. ⌜ Answered (compute (definitionsIn ends defined (format1 .limit)) op (take count (valIn «work_items» «work_values» a ∷ valIn «work_items» «work_values» b ∷ valIn «work_items» «work_values» c ∷ [])) listK) place r
+        (now («work_items» .entry)) (now («work_items» .exit)) (now («work_values» .entry)) (now («work_values» .exit)) ⌝ }
+{
+    let mut items = [0u16; ITEM_LIMIT];
+    let mut values = [0i32; ITEM_LIMIT];
+    let outcome = native_function_call::list(
+        op,
+        count,
+        a,
+        b,
+        c,
+        &work_items[..],
+        &work_values[..],
+        ends,
+        defined,
+        ITEM_LIMIT,
+        &mut items,
+        &mut values,
+    );
+    match outcome {
+        Outcome::Value(v) => {
+            let to = place * ITEM_LIMIT;
+            let value = store(v, &items, &values, work_items, work_values, to);
+            Step::Put { place, value }
+        }
+        Outcome::Refused(number) => Step::No(number),
+    }
+}
+
+// An operator on the first `count` of three operands: questions 8 and 10 to 16, and its result at a place of the stack.
+fn operate(
+    op: u8,
+    count: usize,
+    a: Value,
+    b: Value,
+    c: Value,
+    ends: &[u16],
+    defined: &[i32],
+    place: usize,
+    work_items: &mut [u16],
+    work_values: &mut [i32],
+) -> Step
+    requires { ⌜ Known (now ends) (now defined) × Roomy (now «work_items») (now «work_values») × (place < stackLimit) ⌝ }
+    requires { ⌜ Formed (format1 .limit) (now «work_items») (now «work_values») a × Formed (format1 .limit) (now «work_items») (now «work_values») b × Formed (format1 .limit) (now «work_items») (now «work_values») c ⌝ }
+    ensures { λ r. ⌜ Answered (call (definitionsIn ends defined (format1 .limit)) op count (take count (valIn «work_items» «work_values» a ∷ valIn «work_items» «work_values» b ∷ valIn «work_items» «work_values» c ∷ []))) place r
+        (now («work_items» .entry)) (now («work_items» .exit)) (now («work_values» .entry)) (now («work_values» .exit)) ⌝ }
+{
+    let answer = native_function_call::kinds(op, count, a, b, c);
+    match answer {
+        KindAnswer::Kind(kind) => {
+            if kind == 3 {
+                return list_result(
+                    op,
+                    count,
+                    a,
+                    b,
+                    c,
+                    ends,
+                    defined,
+                    place,
+                    work_items,
+                    work_values,
+                );
+            }
+            scalar_result(
+                op,
+                kind,
+                count,
+                a,
+                b,
+                &work_items[..],
+                &work_values[..],
+                place,
+            )
+        }
+        KindAnswer::Refused(number) => Step::No(number),
+    }
+}
+
+// One of three values, by a count from one to three.
+fn pick(count: usize, one: Value, two: Value, three: Value) -> Value
+    ensures { λ r. ⌜ Picks count one two three r ⌝ }
+{
+    if count == 1 {
+        return one;
+    }
+    if count == 2 {
+        return two;
+    }
+    three
+}
+
+// An operator on a stack of n, of which the three topmost are given.
+fn run_op(
+    op: u8,
+    n: usize,
+    third: Value,
+    second: Value,
+    top: Value,
+    ends: &[u16],
+    defined: &[i32],
+    work_items: &mut [u16],
+    work_values: &mut [i32],
+) -> Step
+    requires { ⌜ (op < 32) × (n ≤ stackLimit) × Known (now ends) (now defined) ⌝ }
+    requires { ⌜ Roomy (now «work_items») (now «work_values») × TopsFormed (now «work_items») (now «work_values») third second top n ⌝ }
+    ensures { λ r. ⌜ ((f : ℕ → Val) → Tops (now («work_items» .entry)) (now («work_values» .entry)) third second top n f
+        → Steps n (stepOp (applyOp (definitionsIn ends defined (format1 .limit))) op (stackOf f n)) f r
+        (now («work_items» .entry)) (now («work_items» .exit)) (now («work_values» .entry)) (now («work_values» .exit))) ⌝ }
+{
+    let count = kind_table::operands(op);
+    if count == 0 {
+        return Step::No(8);
+    }
+    if n < count {
+        return Step::No(10);
+    }
+    let a = pick(count, top, second, third);
+    let b = pick(count, top, top, second);
+    operate(
+        op,
+        count,
+        a,
+        b,
+        top,
+        ends,
+        defined,
+        n - count,
+        work_items,
+        work_values,
+    )
+}
+
+// An instruction on a stack of n, of which the three topmost are given.
+pub fn run_step(
+    pack: &[u8],
+    ends: &[u16],
+    defined: &[i32],
+    slots: [Value; 16],
+    slot_items: &[u16],
+    slot_values: &[i32],
+    i: Instruction,
+    n: usize,
+    third: Value,
+    second: Value,
+    top: Value,
+    work_items: &mut [u16],
+    work_values: &mut [i32],
+) -> Step
+    requires { ⌜ Inputs (now pack) (now ends) (now defined) slots (now «slot_items») (now «slot_values») ⌝ }
+    requires { ⌜ Allowed (literalCount (now pack)) (instrOf i) × (n ≤ stackLimit) ⌝ }
+    requires { ⌜ Roomy (now «work_items») (now «work_values») × TopsFormed (now «work_items») (now «work_values») third second top n ⌝ }
+    ensures { λ r. ⌜ ((f : ℕ → Val) → Tops (now («work_items» .entry)) (now («work_values» .entry)) third second top n f
+        → Steps n (step (valuePushed (literalOf (decoded format1 (now (pack .entry)))) (map (valIn «slot_items» «slot_values») slots))
+        (applyOp (definitionsIn ends defined (format1 .limit))) (instrOf i) (stackOf f n)) f r
+        (now («work_items» .entry)) (now («work_items» .exit)) (now («work_values» .entry)) (now («work_values» .exit))) ⌝ }
+{
+    match i {
+        Instruction::Op(op) => run_op(
+            op,
+            n,
+            third,
+            second,
+            top,
+            ends,
+            defined,
+            work_items,
+            work_values,
+        ),
+        Instruction::Bool(b) => push_value(Value::Bool(b), n),
+        Instruction::Int(z) => push_value(Value::Int(z), n),
+        Instruction::Float(b) => push_value(
+            Value::Float(ink_number::convert::float_from_bits(b)),
+            n,
+        ),
+        Instruction::List(l) => push_literal(pack, l as usize, n, work_items, work_values),
+        Instruction::Slot(s) => {
+            let k = s as usize;
+            let v = slots[k];
+            push_slot(v, n, slot_items, slot_values, work_items, work_values)
+        }
+        Instruction::Void => push_value(Value::Void, n),
+    }
+}
