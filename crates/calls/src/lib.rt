@@ -125,7 +125,7 @@ fn call_checked(
 {
     let mut ends = [0u16; DEFINITION_LIMIT];
     let mut defined = [0i32; ITEM_LIMIT];
-    let read = pack::read::read_definitions(pack, &mut ends, &mut defined);
+    let read = pack_read::read_definitions(pack, &mut ends, &mut defined);
     let n = read.definitions;
     let total = read.items;
     call_with(
@@ -182,7 +182,7 @@ fn operand_formed(pack: &[u8], v: Value, items: &[u16], values: &[i32]) -> bool
 {
     let mut ends = [0u16; DEFINITION_LIMIT];
     let mut defined = [0i32; ITEM_LIMIT];
-    let counts = pack::read::read_definitions(pack, &mut ends, &mut defined);
+    let counts = pack_read::read_definitions(pack, &mut ends, &mut defined);
     let n = counts.definitions;
     let total = counts.items;
     one_formed(v, items, values, total, n)

@@ -114,7 +114,7 @@ fn work(
     ensures { λ r. ⌜ Worked (run (definitionsIn ends defined (format1 .limit)) (program (now (pack .entry)) sheet) (literalOf (decoded format1 (now (pack .entry)))) (map (valIn «slot_items» «slot_values») slots) .end) r
         (now (used .exit)) (now («work_items» .entry)) (now («work_items» .exit)) (now («work_values» .entry)) (now («work_values» .exit)) ⌝ }
 {
-    let span = pack::read::sheet_span(pack, sheet);
+    let span = pack_read::sheet_span(pack, sheet);
     let end = span.end;
     let mut at = span.start;
     let void = Value::Void;
@@ -340,7 +340,7 @@ fn run_passed(
         sheet (map (valIn «slot_items» «slot_values») slots) r (now («work_items» .entry)) (now («work_items» .exit)) (now («work_values» .entry)) (now («work_values» .exit))
         (now («result_items» .entry)) (now («result_items» .exit)) (now («result_values» .entry)) (now («result_values» .exit)) ⌝ }
 {
-    if pack::read::sheet_count(pack) <= sheet {
+    if pack_read::sheet_count(pack) <= sheet {
         return Ran::Stopped {
             number: 6,
             index: 0,
@@ -348,7 +348,7 @@ fn run_passed(
     }
     let mut ends = [0u16; DEFINITION_LIMIT];
     let mut defined = [0i32; ITEM_LIMIT];
-    let read = pack::read::read_definitions(pack, &mut ends, &mut defined);
+    let read = pack_read::read_definitions(pack, &mut ends, &mut defined);
     let definitions = read.definitions;
     let total = read.items;
     run_sheet(

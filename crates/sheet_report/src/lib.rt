@@ -48,7 +48,7 @@ fn sheet_line(pack: &[u8], sheet: usize) {
 fn sheet_lines(pack: &[u8])
     requires { ⌜ Sound format1 (now pack) ⌝ }
 {
-    let n = pack::read::sheet_count(pack);
+    let n = pack_read::sheet_count(pack);
     text(b"sheets ");
     natural(n as u64);
     text(b"\n");

@@ -116,8 +116,8 @@ fn push_literal(
         return Step::No(9);
     }
     let to = n * ITEM_LIMIT;
-    let origins = pack::read::literal_origins(pack, l);
-    let len = pack::read::read_literal(pack, l, work_items, work_values, to);
+    let origins = pack_read::literal_origins(pack, l);
+    let len = pack_read::read_literal(pack, l, work_items, work_values, to);
     let value = Value::List {
         origins,
         start: to,

@@ -107,7 +107,7 @@ fn vet_into(pack: &[u8], sheet: usize, kinds: [u8; 16], out: &mut [u8; 2048]) ->
     requires { ⌜ (length (now out) ≡ 2048) × Codes kinds ⌝ }
     ensures { λ r. ⌜ (verdictOf r ≡ verdict (vet (program (now (pack .entry)) sheet) (map kindAt kinds) .end)) × Forecasts r (now (out .exit)) (vet (program (now (pack .entry)) sheet) (map kindAt kinds) .stacks) × (length (now (out .exit)) ≡ 2048) ⌝ }
 {
-    let span = pack::read::sheet_span(pack, sheet);
+    let span = pack_read::sheet_span(pack, sheet);
     let end = span.end;
     let mut at = span.start;
     let mut stack = [0u8; 64];
@@ -191,7 +191,7 @@ pub fn vet(pack: &[u8], sheet: usize, kinds: [u8; 16], forecast: &mut [u8]) -> V
     match pack::check(pack) {
         Checked::Refused(number) => Vetted::Refused { number, index: 0 },
         Checked::Passed => {
-            if pack::read::sheet_count(pack) <= sheet {
+            if pack_read::sheet_count(pack) <= sheet {
                 return Vetted::Refused {
                     number: 6,
                     index: 0,

@@ -1,15 +1,15 @@
--- `pack::read::sheet_span` meets its contract: instruction 0 stands where the sheet starts. Assumes nothing.
+-- `pack_read::sheet_span` meets its contract: instruction 0 stands where the sheet starts. Assumes nothing.
 use Prim.Native.Nat.{ℕ, _+_}
 use mathlib.Core.Path.{_≡_, sym, ap, _∙_, subst}
 use native.Mathlib.Omega.{arith}
 use denote.Ref.{now}
 use Rattle.pack.specs.Contents.{sheetBody, offset, size}
 use Rattle.pack.specs.Read.{Standing}
 use Rattle.pack.proofs.Laid.{body}
 use Rattle.pack.proofs.Programs.{first}
 use borrow.Author.Needs.{needs}
-use Rattle.pack.proofs.read.sheet_span.Statement.{statement}
-use Rattle.pack.proofs.read.sheet_span.Tie as tie
+use Rattle.pack_read.proofs.sheet_span.Statement.{statement}
+use Rattle.pack_read.proofs.sheet_span.Tie as tie
 
 byte-at-requires : tie.Need-byte-at-requires
 byte-at-requires c κs = search needs

@@ -1,10 +1,10 @@
--- `pack::read::sheet_count` meets its contract. Assumes nothing.
+-- `pack_read::sheet_count` meets its contract. Assumes nothing.
 use mathlib.Core.Path.{sym, _∙_}
 use denote.Ref.{now}
 use Rattle.pack.proofs.Programs.{sheets-long}
 use borrow.Author.Needs.{needs}
-use Rattle.pack.proofs.read.sheet_count.Statement.{statement}
-use Rattle.pack.proofs.read.sheet_count.Tie as tie
+use Rattle.pack_read.proofs.sheet_count.Statement.{statement}
+use Rattle.pack_read.proofs.sheet_count.Tie as tie
 
 byte-at-requires : tie.Need-byte-at-requires
 byte-at-requires c κs = search needs

@@ -1,4 +1,4 @@
--- `pack::read::copy_entries` meets its contract. The loop's invariant: k entries are written. The measure is how many are left. Assumes
+-- `pack_read::copy_entries` meets its contract. The loop's invariant: k entries are written. The measure is how many are left. Assumes
 -- nothing.
 use Prim.Native.Nat.{ℕ, _+_, _-_, _≤_}
 use mathlib.Core.Path.{_≡_, refl, ap, _∙_}
@@ -8,10 +8,10 @@ use mir.Facts.{toZ-ofZ}
 use Rattle.ink_list.specs.Every.{table}
 use Rattle.ink_list.specs.Filled.{fill}
 use Rattle.ink_list.proofs.Filled.{fill-none, fill-long, fill-more}
 use Rattle.pack.proofs.Strides.{stride-fits, itemFrom, valueFrom}
 use borrow.Author.Needs.{needs}
-use Rattle.pack.proofs.read.copy_entries.Statement.{statement}
-use Rattle.pack.proofs.read.copy_entries.Tie as tie
+use Rattle.pack_read.proofs.copy_entries.Statement.{statement}
+use Rattle.pack_read.proofs.copy_entries.Tie as tie
 
 abbrev Inv-loop : tie.InvT-loop
 Inv-loop p at n items₀ values₀ from wide k₀ items values k =

@@ -1,4 +1,4 @@
--- `pack::read::read_literal` meets its contract: the entries stand after the origin set. Assumes nothing.
+-- `pack_read::read_literal` meets its contract: the entries stand after the origin set. Assumes nothing.
 use Prim.Native.Nat.{ℕ, _+_}
 use mathlib.Core.List.{List}
 use mathlib.Core.Path.{_≡_, sym, ap, _∙_}
@@ -9,16 +9,16 @@ use denote.Ref.{now}
 use Rattle.ink_list.specs.Entries.{items, values}
 use Rattle.ink_list.specs.Every.{table}
 use Rattle.ink_list.specs.Filled.{fill}
 use Rattle.pack.specs.Bodies.{Literal, entryCount, item, value}
 use Rattle.pack.specs.Contents.{literalBody, offset}
 use Rattle.pack.specs.Format.{format1}
 use Rattle.pack.proofs.Laid.{body}
 use Rattle.pack.proofs.Listed.{literal-listed, literal-is, entries-long}
 use Rattle.pack.proofs.Strides.{itemFrom, valueFrom}
 use Rattle.pack.proofs.Tables.{items-table, values-table}
 use borrow.Author.Needs.{needs}
-use Rattle.pack.proofs.read.read_literal.Statement.{statement}
-use Rattle.pack.proofs.read.read_literal.Tie as tie
+use Rattle.pack_read.proofs.read_literal.Statement.{statement}
+use Rattle.pack_read.proofs.read_literal.Tie as tie
 
 literal-len-requires : tie.Need-literal-len-requires
 literal-len-requires c κs = search needs

@@ -1,4 +1,4 @@
--- `pack::read::copy_definitions` meets its contract. The loop's invariant: the ends and the values of the definitions passed are written,
+-- `pack_read::copy_definitions` meets its contract. The loop's invariant: the ends and the values of the definitions passed are written,
 -- and `items` counts them. The measure is how many are left. Assumes nothing.
 use Prim.Native.Nat.{ℕ, suc, _+_, _*_, _-_, _≤_, _<_}
 use mathlib.Core.List.{List}
@@ -11,14 +11,14 @@ use denote.Ref.{now}
 use Rattle.ink_list.specs.Every.{table}
 use Rattle.ink_list.specs.Filled.{fill}
 use Rattle.ink_list.proofs.Filled.{length-table, fill-none, front-long, front-more}
 use Rattle.pack.specs.Bodies.{count, itemsBelow}
 use Rattle.pack.specs.Bytes.{i32}
 use Rattle.pack.specs.Contents.{definitionCount}
 use Rattle.pack.proofs.Laid.{body}
 use Rattle.pack.proofs.Values.{counted, defined, items-up, items-more, valuesBelow, length-values, values-none, values-long, values-more, ends-table, fill-over}
 use borrow.Author.Needs.{needs}
-use Rattle.pack.proofs.read.copy_definitions.Statement.{statement}
-use Rattle.pack.proofs.read.copy_definitions.Tie as tie
+use Rattle.pack_read.proofs.copy_definitions.Statement.{statement}
+use Rattle.pack_read.proofs.copy_definitions.Tie as tie
 
 abbrev Inv-loop : tie.InvT-loop
 Inv-loop p ends₀ defined₀ format n items₀ d₀ ends defined items d =

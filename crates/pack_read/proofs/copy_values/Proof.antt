@@ -1,4 +1,4 @@
--- `pack::read::copy_values` meets its contract. The loop's invariant: k values are written. The measure is how many are left. Assumes
+-- `pack_read::copy_values` meets its contract. The loop's invariant: k values are written. The measure is how many are left. Assumes
 -- nothing.
 use Prim.Native.Nat.{ℕ, _+_, _*_, _-_, _≤_}
 use mathlib.Core.Path.{_≡_, refl, ap, _∙_}
@@ -9,10 +9,10 @@ use mir.Facts.{toZ-ofZ}
 use Rattle.ink_list.specs.Every.{table}
 use Rattle.ink_list.specs.Filled.{fill}
 use Rattle.ink_list.proofs.Filled.{fill-none, fill-long, fill-more}
 use Rattle.pack.specs.Bytes.{i32}
 use borrow.Author.Needs.{needs}
-use Rattle.pack.proofs.read.copy_values.Statement.{statement}
-use Rattle.pack.proofs.read.copy_values.Tie as tie
+use Rattle.pack_read.proofs.copy_values.Statement.{statement}
+use Rattle.pack_read.proofs.copy_values.Tie as tie
 
 abbrev Inv-loop : tie.InvT-loop
 Inv-loop p at n out₀ from k₀ out k = (k ≤ n) × (out ≡ fill from (table k (λ j. i32 p (at + 4 * j))) out₀)

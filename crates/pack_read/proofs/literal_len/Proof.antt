@@ -1,16 +1,16 @@
--- `pack::read::literal_len` meets its contract: what follows the origin set, in entries. Assumes nothing.
+-- `pack_read::literal_len` meets its contract: what follows the origin set, in entries. Assumes nothing.
 use Prim.Native.Nat.{ℕ, _+_, _-_, _/_}
 use mathlib.Core.Path.{_≡_, sym, ap, _∙_}
 use native.Mathlib.Omega.{arith}
 use lib.ListN.{length}
 use denote.Ref.{now}
 use Rattle.pack.specs.Bodies.{Literal}
 use Rattle.pack.specs.Contents.{literalBody, size}
 use Rattle.pack.specs.Format.{format1}
 use Rattle.pack.proofs.Listed.{literal-listed, literal-is, entries-long}
 use borrow.Author.Needs.{needs}
-use Rattle.pack.proofs.read.literal_len.Statement.{statement}
-use Rattle.pack.proofs.read.literal_len.Tie as tie
+use Rattle.pack_read.proofs.literal_len.Statement.{statement}
+use Rattle.pack_read.proofs.literal_len.Tie as tie
 
 byte-at-requires : tie.Need-byte-at-requires
 byte-at-requires c κs = search needs

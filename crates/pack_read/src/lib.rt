@@ -1,24 +1,24 @@
 // Readers of a pack that has passed questions 1 to 5.
-use super::bytes::byte_at;
-use super::bytes::i32_at;
-use super::bytes::number_at;
-use super::bytes::u64_at;
-use super::contents::offset;
-use super::contents::size;
-use super::definitions::item_count;
-use super::format::FORMAT1;
-use super::format::Format;
+use pack::bytes::byte_at;
+use pack::bytes::i32_at;
+use pack::bytes::number_at;
+use pack::bytes::u64_at;
+use pack::contents::offset;
+use pack::contents::size;
+use pack::definitions::item_count;
+use pack::format::FORMAT1;
+use pack::format::Format;
 ghost use mathlib.Core.Path.{_≡_};
 ghost use Prim.Native.Nat.{_+_, _*_, _<_, _≤_};
 ghost use lib.ListN.{length};
 ghost use Rattle.ink_list.specs.Every.{table};
 ghost use Rattle.ink_list.specs.Filled.{fill};
 ghost use Rattle.pack.specs.Bodies.{itemCount, decoded};
 ghost use Rattle.pack.specs.Bytes.{i32, number};
 ghost use Rattle.pack.specs.Contents.{definitionCount, literalCount, sheetCount};
 ghost use Rattle.pack.specs.Format.{format1, Narrow};
 ghost use Rattle.pack.specs.Judge.{Sound};
 ghost use Rattle.pack.specs.Read.{literalOf, Tabled, Stored, SheetSpan};
 
 // Copies n values that stand one after another from a position, into the places from an index on.
 fn copy_values(p: &[u8], at: usize, n: usize, out: &mut [i32], from: usize)

@@ -1,10 +1,10 @@
--- `pack::read::literal_count` meets its contract. Assumes nothing.
+-- `pack_read::literal_count` meets its contract. Assumes nothing.
 use mathlib.Core.Path.{sym, _∙_}
 use denote.Ref.{now}
 use Rattle.pack.proofs.Listed.{literals-long}
 use borrow.Author.Needs.{needs}
-use Rattle.pack.proofs.read.literal_count.Statement.{statement}
-use Rattle.pack.proofs.read.literal_count.Tie as tie
+use Rattle.pack_read.proofs.literal_count.Statement.{statement}
+use Rattle.pack_read.proofs.literal_count.Tie as tie
 
 byte-at-requires : tie.Need-byte-at-requires
 byte-at-requires c κs = search needs
