@@ -198,54 +198,21 @@ fn coerce(name: &[u8], v: Value) {
 }
 
 // Result slices of lengths at and below 256.
+fn lists_added(name: &[u8], items: &mut [u16], values: &mut [i32]) {
+    let a = list(3, 0, 2);
+    text(name);
+    let r = calls::call(&PACK, ADD, 2, a, a, a, &ITEMS, &VALUES, items, values);
+    report(r, items, values);
+}
+
 fn short_results() {
     let mut i255 = [UNWRITTEN_ITEM; 255];
     let mut v255 = [UNWRITTEN_VALUE; 255];
     let mut i256 = [UNWRITTEN_ITEM; 256];
     let mut v256 = [UNWRITTEN_VALUE; 256];
-    let a = list(3, 0, 2);
-    text(b"result slices of 255 items:");
-    let r = calls::call(
-        &PACK,
-        ADD,
-        2,
-        a,
-        a,
-        a,
-        &ITEMS,
-        &VALUES,
-        &mut i255,
-        &mut v256,
-    );
-    report(r, &i255, &v256);
-    text(b"result slices of 255 values:");
-    let s = calls::call(
-        &PACK,
-        ADD,
-        2,
-        a,
-        a,
-        a,
-        &ITEMS,
-        &VALUES,
-        &mut i256,
-        &mut v255,
-    );
-    report(s, &i256, &v255);
-    text(b"result slices of 256:");
-    let t = calls::call(
-        &PACK,
-        ADD,
-        2,
-        a,
-        a,
-        a,
-        &ITEMS,
-        &VALUES,
-        &mut i256,
-        &mut v256,
-    );
-    report(t, &i256, &v256);
+    lists_added(b"result slices of 255 items:", &mut i255, &mut v256);
+    lists_added(b"result slices of 255 values:", &mut i256, &mut v255);
+    lists_added(b"result slices of 256:", &mut i256, &mut v256);
 }
 
 // Operand slices that are not equally long.
@@ -403,51 +370,43 @@ fn empties() {
 }
 
 // Range of {0=-5 1=1 2=3}: a bound that is neither Int nor List is 0 or 2147483647.
+fn range(name: &[u8], of: Value, lower: Value, upper: Value) {
+    call(name, RANGE, 3, of, lower, upper);
+}
+
 fn ranges() {
-    call(
+    range(
         b"range from 2.5 to 3",
-        RANGE,
-        3,
         list(3, 3, 3),
         float(0x4020_0000),
         Value::Int(3),
     );
-    call(
+    range(
         b"range from -9 to 0.5",
-        RANGE,
-        3,
         list(3, 3, 3),
         Value::Int(-9),
         float(0x3f00_0000),
     );
-    call(
+    range(
         b"range from true to true",
-        RANGE,
-        3,
         list(3, 3, 3),
         Value::Bool(true),
         Value::Bool(true),
     );
-    call(
+    range(
         b"range from {0=1 2=3} to {0=1}",
-        RANGE,
-        3,
         list(3, 3, 3),
         list(3, 0, 2),
         list(3, 0, 1),
     );
-    call(
+    range(
         b"range from empty to empty",
-        RANGE,
-        3,
         list(3, 3, 3),
         list(3, 0, 0),
         list(3, 0, 0),
     );
-    call(
+    range(
         b"range of an Int",
-        RANGE,
-        3,
         Value::Int(1),
         Value::Int(1),
         Value::Int(1),
@@ -501,7 +460,7 @@ fn unavailable() {
 }
 
 // Questions 8 and 10.
-fn counts() {
+fn no_operators() {
     call(b"POW", 17, 2, Value::Int(2), Value::Int(2), Value::Void);
     call(
         b"FLOOR",
@@ -527,6 +486,9 @@ fn counts() {
         Value::Int(1),
         Value::Void,
     );
+}
+
+fn counts() {
     call(b"POW of none", 17, 0, Value::Void, Value::Void, Value::Void);
     call(
         b"Add of one",
@@ -596,6 +558,7 @@ fn main() {
     lists();
     mixed();
     unavailable();
+    no_operators();
     counts();
     ill_formed();
     short_results();
