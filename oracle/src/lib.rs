@@ -6,6 +6,8 @@ include!(concat!(env!("OUT_DIR"), "/ink_modules.rs"));
 mod shims;
 pub(crate) use shims::{compat, container, math, path, prelude, search_result};
 
+#[cfg(test)]
+mod differences;
 pub mod generate;
 pub mod original;
 pub mod pack;

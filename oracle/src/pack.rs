@@ -424,3 +424,39 @@ pub fn damaged(r: &mut Rng, pack: &[u8]) -> Vec<u8> {
     }
     bytes
 }
+
+/// The stack, the instructions, items, definitions, literals and sheets at their limits, and one beyond: named packs.
+pub fn at_limits() -> Vec<(String, Vec<u8>)> {
+    let none = Defs::default();
+    let mut all = Vec::new();
+    let mut b = Builder::new(&none);
+    const ONE: [u8; 5] = [33, 1, 0, 0, 0];
+    for push in [&[32, 1][..], &[37], &[36, 15], &ONE] {
+        for n in [1, 63, 64, 65, 66] {
+            b.sheets.push(push.repeat(n));
+        }
+    }
+    for after in [&[0; 63][..], &[0; 64], &[0, 37, 37]] {
+        b.sheets.push([&ONE.repeat(64), after].concat());
+    }
+    b.sheets.push(vec![]);
+    all.push(("stack".to_string(), b.bytes()));
+    for n in [1023, 1024, 1025] {
+        let mut b = Builder::new(&none);
+        b.sheets.push([vec![32, 1], vec![12; n - 1]].concat());
+        b.sheets.push(vec![37; n - 1]);
+        all.push((format!("{n} instructions"), b.bytes()));
+    }
+    for sizes in [&[255, 1][..], &[255, 2], &[128, 128], &[128, 129], &[4; 64], &[1; 64], &[1; 65]] {
+        let mut b = Builder::new(&Defs { values: sizes.iter().map(|n| vec![7; *n]).collect() });
+        b.sheets.push(vec![32, 1]);
+        all.push((format!("{} items of {} definitions", sizes.iter().sum::<usize>(), sizes.len()), b.bytes()));
+    }
+    let mut b = Builder::new(&Defs { values: vec![vec![1]] });
+    for n in 0..255 {
+        b.literal(&List { origins: 1, entries: vec![(0, n as i32)] }).unwrap();
+        b.sheets.push(vec![35, n]);
+    }
+    all.push(("255 literals and sheets".to_string(), b.bytes()));
+    all
+}

@@ -3,7 +3,7 @@
 use ink_oracle::{
     generate::{self, Rng},
     pack::{self, Builder, Ins},
-    values::{Defs, KIND_NAMES, LIST, List, OP_NAMES, RANGE, Val, arity},
+    values::{Defs, KIND_NAMES, LIST, OP_NAMES, RANGE, Val, arity},
 };
 use std::{fmt::Write, fs};
 
@@ -169,40 +169,6 @@ fn on_sizes(s: &mut Sample, r: &mut Rng) {
     }
 }
 
-/// The stack, the instructions, items, definitions, literals and sheets at their limits.
-fn on_limits(s: &mut Sample) {
-    let none = Defs::default();
-    let mut b = Builder::new(&none);
-    let pushes = |n: usize, code: &[u8]| code.repeat(n);
-    for push in [&[32u8, 1][..], &[37], &[36, 15], &[33, 1, 0, 0, 0]] {
-        for n in [1, 63, 64, 65, 66] {
-            b.sheets.push(pushes(n, push));
-        }
-    }
-    b.sheets.push([pushes(64, &[33, 1, 0, 0, 0]), vec![0; 63]].concat());
-    b.sheets.push([pushes(64, &[33, 1, 0, 0, 0]), vec![0; 64]].concat());
-    b.sheets.push([pushes(64, &[33, 1, 0, 0, 0]), vec![0], vec![37], vec![37]].concat());
-    b.sheets.push(vec![]);
-    s.put("stack", &b.bytes());
-    for n in [1023, 1024, 1025] {
-        let mut b = Builder::new(&none);
-        b.sheets.push([vec![32, 1], vec![12; n - 1]].concat());
-        b.sheets.push(pushes(n - 1, &[37]));
-        s.put(&format!("{n} instructions"), &b.bytes());
-    }
-    for sizes in [&[255, 1][..], &[255, 2], &[128, 128], &[128, 129], &[4; 64], &[1; 64], &[1; 65]] {
-        let mut b = Builder::new(&Defs { values: sizes.iter().map(|n| vec![7; *n]).collect() });
-        b.sheets.push(vec![32, 1]);
-        s.put(&format!("{} items of {} definitions", sizes.iter().sum::<usize>(), sizes.len()), &b.bytes());
-    }
-    let mut b = Builder::new(&Defs { values: vec![vec![1]] });
-    for n in 0..255u8 {
-        b.literal(&List { origins: 1, entries: vec![(0, n as i32)] }).unwrap();
-        b.sheets.push(vec![35, n]);
-    }
-    s.put("255 literals and sheets", &b.bytes());
-}
-
 fn main() {
     let args: Vec<String> = std::env::args().collect();
     let [_, seed, dir] = &args[..] else {
@@ -216,7 +182,7 @@ fn main() {
     on_kinds(&mut s, &mut r);
     on_edges(&mut s);
     on_sizes(&mut s, &mut r);
-    on_limits(&mut s);
+    pack::at_limits().iter().for_each(|(name, bytes)| s.put(name, bytes));
     let edges = generate::floats();
     for n in 1..=4 {
         let mut b = Builder::new(&generate::random_defs(&mut r));
