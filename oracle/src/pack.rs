@@ -3,7 +3,7 @@
 use crate::{
     generate::{self, Rng},
     original::{World, kind},
-    values::{Answer, CARRIED, Defs, LIST, List, RANGE, Val, arity},
+    values::{Answer, CARRIED, Defs, LIST, List, RANGE, VOID, Val, arity},
 };
 use std::fmt::Write;
 
@@ -319,7 +319,7 @@ fn leaf(r: &mut Rng, b: &mut Builder, slots: &SlotKinds, edges: &[u32], kind: u8
 
 /// An expression of the wanted kind, in the order of a sheet.
 fn expression(r: &mut Rng, b: &mut Builder, slots: &SlotKinds, edges: &[u32], kind: u8, depth: usize, code: &mut Vec<u8>) {
-    if depth == 0 || r.chance(12) {
+    if depth == 0 || kind == VOID || r.chance(12) {
         return leaf(r, b, slots, edges, kind, code);
     }
     let number = |r: &mut Rng| *r.pick(&[0u8, 1, 1, 1, 2, 2]);
@@ -357,7 +357,8 @@ fn expression(r: &mut Rng, b: &mut Builder, slots: &SlotKinds, edges: &[u32], ki
     code.push(op);
 }
 
-/// A sheet: mostly an expression, now and then one that is spoiled at its end, empty, or near the stack's limit.
+/// A sheet: mostly an expression, now and then one that is spoiled at its end, an operator on any kinds, an empty sheet, or
+/// one near the stack's limit.
 pub fn random_sheet(r: &mut Rng, b: &mut Builder, slots: &SlotKinds, edges: &[u32]) -> Vec<u8> {
     let mut code = Vec::new();
     match r.below(80) {
@@ -365,6 +366,14 @@ pub fn random_sheet(r: &mut Rng, b: &mut Builder, slots: &SlotKinds, edges: &[u3
         1 => {
             (0..62 + r.below(4)).for_each(|_| code.extend([32, 1]));
             (0..r.below(66)).for_each(|_| code.push(0));
+        }
+        2..16 => {
+            let op = r.below(32) as u8;
+            for _ in 0..arity(op) {
+                let (kind, depth) = (*r.pick(&[0, 1, 2, 3, 3, 4]), r.below(4));
+                expression(r, b, slots, edges, kind, depth, &mut code);
+            }
+            code.push(op);
         }
         _ => {
             let (kind, depth) = (r.below(4) as u8, r.below(6));
@@ -458,5 +467,24 @@ pub fn at_limits() -> Vec<(String, Vec<u8>)> {
         b.sheets.push(vec![35, n]);
     }
     all.push(("255 literals and sheets".to_string(), b.bytes()));
+    all.push(("64 lists".to_string(), full_stacks()));
     all
+}
+
+/// Sheets that fill the stack with lists of 256 entries.
+fn full_stacks() -> Vec<u8> {
+    let mut b = Builder::new(&generate::full_defs()[0]);
+    let entries: Vec<(u16, i32)> = (0..256).map(|k| (k, 256 - k as i32)).collect();
+    b.literal(&List { origins: 3, entries: entries.clone() }).unwrap();
+    b.literal(&List { origins: 1, entries: entries[3..9].to_vec() }).unwrap();
+    for op in [0, 1, 24] {
+        b.sheets.push([[35, 0].repeat(64), vec![op; 63]].concat());
+        b.sheets.push([[35, 0, 35, 1].repeat(32), vec![op; 63]].concat());
+        b.sheets.push([[35, 1, 35, 0].repeat(32), vec![op; 63]].concat());
+    }
+    b.sheets.push([[35, 0].repeat(63), vec![33, 1, 0, 0, 0], vec![0, 28], vec![37; 64]].concat());
+    b.sheets.push([[35, 0].repeat(64), vec![27, 30, 25, 26, 28]].concat());
+    b.sheets.push([[35, 0].repeat(62), vec![33, 5, 0, 0, 0, 33, 9, 0, 0, 0], vec![RANGE], vec![24; 61]].concat());
+    b.sheets.push([35, 0].repeat(65));
+    b.bytes()
 }

@@ -24,5 +24,5 @@ inside s at r name after start end e h =
       name-in = omega (arith, p .1, p .4);
       forward = omega (arith, p .2, p .3);
       on = omega (arith, p .3);
-      pack-in = omega (arith, p .3, p .4)
+      pack-in = omega (arith, p .3, p .4);
     }

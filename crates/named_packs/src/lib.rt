@@ -6,7 +6,12 @@ ghost use Rattle.named_packs.specs.Stream.{sizeAt, Stands};
 
 // A name's bytes from `name` to `after` and its pack's from `start` to `end`, or a stream that is cut short.
 pub enum Named {
-    Pack { name: usize, after: usize, start: usize, end: usize },
+    Pack {
+        name: usize,
+        after: usize,
+        start: usize,
+        end: usize,
+    },
     Cut,
 }
 

@@ -46,38 +46,43 @@ sub-if2 c = search needs
 
 returns-2 : tie.Need-returns-2
 returns-2 c =
-    omega
-    (arith,
-    ends
-    (now (c .before .before .before .before .before .args .s))
-    (c .before .before .before .before .before .args .at)
-    (c .before .before .before .byte-at .result)
-    (c .before .size-at .result)
-    (c .before .before .before .byte-at .ensures .0)
-    (c .before .size-at .ensures .0))
+    omega (
+      arith,
+      ends
+          (now (c .before .before .before .before .before .args .s))
+          (c .before .before .before .before .before .args .at)
+          (c .before .before .before .byte-at .result)
+          (c .before .size-at .result)
+          (c .before .before .before .byte-at .ensures .0)
+          (c .before .size-at .ensures .0),
+    )
 
 add-end : tie.Need-add-end
 add-end c = search needs
 
 returns-3 : tie.Need-returns-3
-returns-3 c =
-    (refl,
-    ap (λ (k : ℕ). c .before .before .before .before .before .args .at + 1 + k) (c .before .before .before .byte-at .ensures .0),
-    ap (λ (k : ℕ). c .before .before .before .before .before .args .at + 1 + k + 3) (c .before .before .before .byte-at .ensures .0),
+returns-3 c = (
+  refl,
+  ap (λ (k : ℕ). c .before .before .before .before .before .args .at + 1 + k) (c .before .before .before .byte-at .ensures .0),
+  ap (λ (k : ℕ). c .before .before .before .before .before .args .at + 1 + k + 3) (c .before .before .before .byte-at .ensures .0),
+  ends
+      (now (c .before .before .before .before .before .args .s))
+      (c .before .before .before .before .before .args .at)
+      (c .before .before .before .byte-at .result)
+      (c .before .size-at .result)
+      (c .before .before .before .byte-at .ensures .0)
+      (c .before .size-at .ensures .0),
+  omega (
+    arith,
     ends
-    (now (c .before .before .before .before .before .args .s))
-    (c .before .before .before .before .before .args .at)
-    (c .before .before .before .byte-at .result)
-    (c .before .size-at .result)
-    (c .before .before .before .byte-at .ensures .0)
-    (c .before .size-at .ensures .0),
-    omega (arith, ends
-    (now (c .before .before .before .before .before .args .s))
-    (c .before .before .before .before .before .args .at)
-    (c .before .before .before .byte-at .result)
-    (c .before .size-at .result)
-    (c .before .before .before .byte-at .ensures .0)
-    (c .before .size-at .ensures .0)))
+        (now (c .before .before .before .before .before .args .s))
+        (c .before .before .before .before .before .args .at)
+        (c .before .before .before .byte-at .result)
+        (c .before .size-at .result)
+        (c .before .before .before .byte-at .ensures .0)
+        (c .before .size-at .ensures .0),
+  ),
+)
 
 pub read-spec : {M : Type 1} → statement M
 read-spec =

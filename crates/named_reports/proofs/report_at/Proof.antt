@@ -14,15 +14,15 @@ enum-known-name c = search needs
 report-named-requires : tie.Need-report-named-requires
 report-named-requires c κs =
     let i = inside
-        (now (c .before .before .before .before .before .args .s))
-        (c .before .before .before .before .before .args .at)
-        (c .before .before .before .read .result)
-        (c .before .name .given .0 .0)
-        (c .before .name .given .0 .1 .0)
-        (c .before .name .given .0 .1 .1 .0)
-        (c .before .name .given .0 .1 .1 .1 .0)
-        (c .before .name .given .1)
-        (c .before .before .before .read .ensures) in
+    (now (c .before .before .before .before .before .args .s))
+    (c .before .before .before .before .before .args .at)
+    (c .before .before .before .read .result)
+    (c .before .name .given .0 .0)
+    (c .before .name .given .0 .1 .0)
+    (c .before .name .given .0 .1 .1 .0)
+    (c .before .name .given .0 .1 .1 .1 .0)
+    (c .before .name .given .1)
+    (c .before .before .before .read .ensures) in
     (i .named, i .name-in, i .forward, i .pack-in)
 
 enum-told : tie.Need-enum-told
@@ -31,15 +31,15 @@ enum-told c = search needs
 returns : tie.Need-returns
 returns c =
     let i = inside
-        (now (c .before .before .before .before .before .before .args .s))
-        (c .before .before .before .before .before .before .args .at)
-        (c .before .before .before .before .read .result)
-        (c .before .before .name .given .0 .0)
-        (c .before .before .name .given .0 .1 .0)
-        (c .before .before .name .given .0 .1 .1 .0)
-        (c .before .before .name .given .0 .1 .1 .1 .0)
-        (c .before .before .name .given .1)
-        (c .before .before .before .before .read .ensures) in
+    (now (c .before .before .before .before .before .before .args .s))
+    (c .before .before .before .before .before .before .args .at)
+    (c .before .before .before .before .read .result)
+    (c .before .before .name .given .0 .0)
+    (c .before .before .name .given .0 .1 .0)
+    (c .before .before .name .given .0 .1 .1 .0)
+    (c .before .before .name .given .0 .1 .1 .1 .0)
+    (c .before .before .name .given .1)
+    (c .before .before .before .before .read .ensures) in
     (i .on, i .pack-in)
 
 returns-2 : tie.Need-returns-2
