@@ -3,8 +3,15 @@
 use std::{env, fs, path::PathBuf};
 
 const FILES: [&str; 9] = [
-    "ink_list", "ink_list_item", "list_definition", "list_definitions_origin",
-    "native_function_call", "object", "value", "value_type", "void",
+    "ink_list",
+    "ink_list_item",
+    "list_definition",
+    "list_definitions_origin",
+    "native_function_call",
+    "object",
+    "value",
+    "value_type",
+    "void",
 ];
 
 fn folder(variable: &str, usual: &str) -> PathBuf {

@@ -42,9 +42,7 @@ fn nan_keeps_its_bits() {
 /// Ties are settled by hash order, which differs from one map to the next.
 #[test]
 fn ties_vary() {
-    let seen = |op: u8, v: &[Val]| -> BTreeSet<String> {
-        (0..200).map(|_| says(&world(&[&[1, 1, 0]]), op, v)).collect()
-    };
+    let seen = |op: u8, v: &[Val]| -> BTreeSet<String> { (0..200).map(|_| says(&world(&[&[1, 1, 0]]), op, v)).collect() };
     let either = BTreeSet::from(["L 1 0=1".to_string(), "L 1 1=1".to_string()]);
     assert_eq!(seen(26, &[list(1, &[(0, 1), (1, 1)])]), either);
     assert_eq!(seen(25, &[list(1, &[(0, 1), (1, 1)])]), either);

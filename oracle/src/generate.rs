@@ -27,36 +27,82 @@ impl Rng {
 }
 
 pub const INTS: [i32; 38] = [
-    0, 1, -1, 2, -2, 3, -3, 7, -7, 10, 100, -100, 255, 256, 65_535, 65_536, 46_340, 46_341,
-    8_388_607, 8_388_608, 16_777_215, 16_777_216, 16_777_217, 16_777_218, 16_777_219,
-    -16_777_217, -16_777_219, 33_554_433, 33_554_434, 33_554_435, 33_554_438, 1_073_741_824,
-    2_147_483_583, 2_147_483_584, i32::MAX - 1, i32::MAX, i32::MIN + 1, i32::MIN,
+    0,
+    1,
+    -1,
+    2,
+    -2,
+    3,
+    -3,
+    7,
+    -7,
+    10,
+    100,
+    -100,
+    255,
+    256,
+    65_535,
+    65_536,
+    46_340,
+    46_341,
+    8_388_607,
+    8_388_608,
+    16_777_215,
+    16_777_216,
+    16_777_217,
+    16_777_218,
+    16_777_219,
+    -16_777_217,
+    -16_777_219,
+    33_554_433,
+    33_554_434,
+    33_554_435,
+    33_554_438,
+    1_073_741_824,
+    2_147_483_583,
+    2_147_483_584,
+    i32::MAX - 1,
+    i32::MAX,
+    i32::MIN + 1,
+    i32::MIN,
 ];
 
 /// Bits of edge floats; the negatives are added by `floats`.
 const SIZES: [u32; 36] = [
     0x0000_0000, // 0
     0x0000_0001, // least subnormal
-    0x0000_0002, 0x0000_0003, 0x0040_0000,
+    0x0000_0002,
+    0x0000_0003,
+    0x0040_0000,
     0x007f_ffff, // greatest subnormal
     0x0080_0000, // least normal
-    0x0080_0001, 0x00ff_ffff, 0x0100_0000,
+    0x0080_0001,
+    0x00ff_ffff,
+    0x0100_0000,
     0x3300_0000, // 2^-25
     0x3380_0000, // 2^-24, half an ulp of 1
-    0x3380_0001, 0x3400_0000, // 2^-23
+    0x3380_0001,
+    0x3400_0000, // 2^-23
     0x3eaa_aaab, // 1/3
     0x3dcc_cccd, // 0.1
     0x3f00_0000, // 0.5
-    0x3f7f_ffff, 0x3f80_0000, // 1
-    0x3f80_0001, 0x3fc0_0000, // 1.5
+    0x3f7f_ffff,
+    0x3f80_0000, // 1
+    0x3f80_0001,
+    0x3fc0_0000, // 1.5
     0x4000_0000, // 2
     0x4020_0000, // 2.5
     0x4040_0000, // 3
     0x40e0_0000, // 7
-    0x4b7f_ffff, 0x4b80_0000, // 16777216
-    0x4b80_0001, 0x4eff_ffff, // 2147483520
+    0x4b7f_ffff,
+    0x4b80_0000, // 16777216
+    0x4b80_0001,
+    0x4eff_ffff, // 2147483520
     0x4f00_0000, // 2147483648
-    0x4f00_0001, 0x5f00_0000, 0x7f00_0000, 0x7f7f_ffff, // greatest
+    0x4f00_0001,
+    0x5f00_0000,
+    0x7f00_0000,
+    0x7f7f_ffff, // greatest
     0x7f80_0000, // infinity
     0x7fc0_0000, // NaN
 ];
@@ -75,15 +121,7 @@ pub fn scalars() -> Vec<Val> {
 }
 
 pub fn edge_defs() -> Defs {
-    Defs {
-        values: vec![
-            vec![1, 2, 3, 4],
-            vec![1, 1, 2, 2, -1],
-            vec![i32::MAX, i32::MIN, 0],
-            vec![10, 20, 30],
-            vec![5],
-        ],
-    }
+    Defs { values: vec![vec![1, 2, 3, 4], vec![1, 1, 2, 2, -1], vec![i32::MAX, i32::MIN, 0], vec![10, 20, 30], vec![5]] }
 }
 
 /// Lists over `edge_defs`: empty, single, tied, off their defined value, several
@@ -127,7 +165,9 @@ pub fn edge_values() -> Vec<Val> {
 
 /// A few scalars of each kind, every edge list, and Void.
 pub fn few_values() -> Vec<Val> {
-    [false, true].map(Val::Bool).into_iter()
+    [false, true]
+        .map(Val::Bool)
+        .into_iter()
         .chain([0, 1, -1, 2, 7, i32::MAX, i32::MIN].map(Val::Int))
         .chain([0x0000_0000, 0x8000_0000, 0x3fc0_0000, 0xbfc0_0000, 0x7f80_0000, 0x7fc0_0000].map(Val::Float))
         .chain(edge_lists())
@@ -207,7 +247,7 @@ pub fn sized_lists(defs: &Defs) -> Vec<List> {
     lists
 }
 
-pub fn random_int(r: &mut Rng) -> i32 {
+fn random_int(r: &mut Rng) -> i32 {
     match r.below(6) {
         0 => *r.pick(&INTS),
         1 => r.pick(&INTS).wrapping_add(r.below(9) as i32 - 4),
@@ -230,7 +270,7 @@ fn random_float(r: &mut Rng, edges: &[u32]) -> u32 {
     }
 }
 
-pub fn random_value(r: &mut Rng) -> i32 {
+fn random_value(r: &mut Rng) -> i32 {
     match r.below(12) {
         0 => random_int(r),
         1 => *r.pick(&[i32::MAX, i32::MIN, i32::MAX - 1, i32::MIN + 1]),
@@ -258,11 +298,7 @@ pub fn random_defs(r: &mut Rng) -> Defs {
         left -= n;
         let regular = r.chance(50);
         let start = random_value(r);
-        values.push(
-            (0..n)
-                .map(|j| if regular { start.wrapping_add(j as i32) } else { random_value(r) })
-                .collect(),
-        );
+        values.push((0..n).map(|j| if regular { start.wrapping_add(j as i32) } else { random_value(r) }).collect());
     }
     Defs { values }
 }

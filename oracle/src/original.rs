@@ -21,10 +21,36 @@ use std::{
 
 /// `Op` in source order; the index is document 01's operator number.
 pub const OPS: [Op; 31] = [
-    Op::Add, Op::Subtract, Op::Divide, Op::Multiply, Op::Mod, Op::Negate, Op::Equal, Op::Greater,
-    Op::Less, Op::GreaterThanOrEquals, Op::LessThanOrEquals, Op::NotEquals, Op::Not, Op::And,
-    Op::Or, Op::Min, Op::Max, Op::Pow, Op::Floor, Op::Ceiling, Op::Int, Op::Float, Op::Has,
-    Op::Hasnt, Op::Intersect, Op::ListMin, Op::ListMax, Op::All, Op::Count, Op::ValueOfList,
+    Op::Add,
+    Op::Subtract,
+    Op::Divide,
+    Op::Multiply,
+    Op::Mod,
+    Op::Negate,
+    Op::Equal,
+    Op::Greater,
+    Op::Less,
+    Op::GreaterThanOrEquals,
+    Op::LessThanOrEquals,
+    Op::NotEquals,
+    Op::Not,
+    Op::And,
+    Op::Or,
+    Op::Min,
+    Op::Max,
+    Op::Pow,
+    Op::Floor,
+    Op::Ceiling,
+    Op::Int,
+    Op::Float,
+    Op::Has,
+    Op::Hasnt,
+    Op::Intersect,
+    Op::ListMin,
+    Op::ListMax,
+    Op::All,
+    Op::Count,
+    Op::ValueOfList,
     Op::Invert,
 ];
 
@@ -45,8 +71,7 @@ impl World {
     pub fn new(defs: &Defs) -> Self {
         let mut lists: Vec<ListDefinition> = (0..defs.values.len())
             .map(|d| {
-                let items: HashMap<String, i32> =
-                    defs.of(d).map(|(k, v)| (item_name(k), v)).collect();
+                let items: HashMap<String, i32> = defs.of(d).map(|(k, v)| (item_name(k), v)).collect();
                 ListDefinition::new(origin_name(d), items)
             })
             .collect();
@@ -64,8 +89,7 @@ impl World {
         for (k, v) in &l.entries {
             list.items.insert(self.item(*k), *v);
         }
-        let names: Vec<String> =
-            (0..64).filter(|d| l.origins >> d & 1 == 1).map(origin_name).collect();
+        let names: Vec<String> = (0..64).filter(|d| l.origins >> d & 1 == 1).map(origin_name).collect();
         for n in &names {
             let def = self.origins.get_list_definition(n).expect("origin bit below D");
             list.origins.borrow_mut().push(def.clone());
@@ -97,8 +121,7 @@ impl World {
 
     /// Entries by item number; the origin set is document 01's (origins of the items).
     fn read_list(&self, l: &InkList) -> Val {
-        let mut entries: Vec<(u16, i32)> =
-            l.items.iter().map(|(k, v)| (Self::number(k), *v)).collect();
+        let mut entries: Vec<(u16, i32)> = l.items.iter().map(|(k, v)| (Self::number(k), *v)).collect();
         entries.sort();
         for (k, _) in l.items.iter() {
             let d = self.defs.origin_of(Self::number(k));
@@ -285,8 +308,7 @@ fn quietly<T>(f: impl FnOnce() -> T) -> Option<T> {
         Ok(x) => Some(x),
         Err(p) => {
             let m = p.downcast_ref::<&str>().copied().unwrap_or("");
-            assert!(m.starts_with("attempt to divide") || m.starts_with("attempt to calculate"),
-                "an unexpected panic: {m:?}");
+            assert!(m.starts_with("attempt to divide") || m.starts_with("attempt to calculate"), "an unexpected panic: {m:?}");
             None
         }
     }

@@ -81,8 +81,7 @@ fn parse_literal(body: &[u8], defs: &Defs) -> Option<List> {
     if d < 64 && origins >> d != 0 {
         return None;
     }
-    let entries: Vec<(u16, i32)> =
-        body[8..].chunks(5).map(|e| (e[0] as u16, i32_at(e, 1))).collect();
+    let entries: Vec<(u16, i32)> = body[8..].chunks(5).map(|e| (e[0] as u16, i32_at(e, 1))).collect();
     let rising = entries.windows(2).all(|w| w[0].0 < w[1].0);
     let inside = entries.iter().all(|e| (e.0 as usize) < defs.items());
     (rising && inside).then_some(List { origins, entries })

@@ -8,16 +8,42 @@ pub const LIST: u8 = 3;
 pub const VOID: u8 = 4;
 pub const KIND_NAMES: [&str; 5] = ["Bool", "Int", "Float", "List", "Void"];
 pub const OP_NAMES: [&str; 32] = [
-    "Add", "Subtract", "Divide", "Multiply", "Mod", "Negate", "Equal", "Greater", "Less",
-    "GreaterThanOrEquals", "LessThanOrEquals", "NotEquals", "Not", "And", "Or", "Min", "Max",
-    "Pow", "Floor", "Ceiling", "Int", "Float", "Has", "Hasnt", "Intersect", "ListMin", "ListMax",
-    "All", "Count", "ValueOfList", "Invert", "Range",
+    "Add",
+    "Subtract",
+    "Divide",
+    "Multiply",
+    "Mod",
+    "Negate",
+    "Equal",
+    "Greater",
+    "Less",
+    "GreaterThanOrEquals",
+    "LessThanOrEquals",
+    "NotEquals",
+    "Not",
+    "And",
+    "Or",
+    "Min",
+    "Max",
+    "Pow",
+    "Floor",
+    "Ceiling",
+    "Int",
+    "Float",
+    "Has",
+    "Hasnt",
+    "Intersect",
+    "ListMin",
+    "ListMax",
+    "All",
+    "Count",
+    "ValueOfList",
+    "Invert",
+    "Range",
 ];
 /// Document 01's operators: 0..16, 20..30 and range.
-pub const CARRIED: [u8; 29] = [
-    0, 1, 2, 3, 4, 5, 6, 7, 8, 9, 10, 11, 12, 13, 14, 15, 16, 20, 21, 22, 23, 24, 25, 26, 27, 28,
-    29, 30, 31,
-];
+pub const CARRIED: [u8; 29] =
+    [0, 1, 2, 3, 4, 5, 6, 7, 8, 9, 10, 11, 12, 13, 14, 15, 16, 20, 21, 22, 23, 24, 25, 26, 27, 28, 29, 30, 31];
 pub const RANGE: u8 = 31;
 
 /// How many operands an operator takes.

@@ -63,7 +63,8 @@ impl Sample {
         self.put(&if n == 1 { name.to_string() } else { format!("{name} {n}") }, &b.bytes());
     }
     fn table(&self) -> String {
-        let mut t = format!("{} sheets. How they ended, by the instruction: with a value, or with which refusal.\n\n", self.sheets);
+        let mut t =
+            format!("{} sheets. How they ended, by the instruction: with a value, or with which refusal.\n\n", self.sheets);
         write!(t, "{:22}{:>6}", "", "value").unwrap();
         let shown = [8, 9, 10, 11, 12, 13, 14, 15, 17];
         shown.iter().for_each(|n| write!(t, "{n:>6}").unwrap());
@@ -75,7 +76,11 @@ impl Sample {
         }
         write!(t, "\n\nPacks turned back, by number:").unwrap();
         (1..6).for_each(|n| write!(t, " {n}: {}", self.turned[n]).unwrap());
-        writeln!(t, "\n\nSheets of one operator, by the kinds of its left and right operand (of a one-operand one, by the left kind).\n").unwrap();
+        writeln!(
+            t,
+            "\n\nSheets of one operator, by the kinds of its left and right operand (of a one-operand one, by the left kind).\n"
+        )
+        .unwrap();
         write!(t, "{:22}", "").unwrap();
         for left in KIND_NAMES {
             for right in KIND_NAMES {
@@ -118,8 +123,20 @@ fn on_kinds(s: &mut Sample, r: &mut Rng) {
 fn on_edges(s: &mut Sample) {
     const INTS: [i32; 11] = [0, 1, -1, 2, -7, 46_341, 65_536, i32::MAX, i32::MAX - 1, i32::MIN, i32::MIN + 1];
     const FLOATS: [u32; 14] = [
-        0x0000_0000, 0x8000_0000, 0x0000_0001, 0x007f_ffff, 0x0080_0000, 0x3380_0000, 0x3f80_0000, 0x3f80_0001,
-        0xbfc0_0000, 0x4b80_0000, 0x7f7f_ffff, 0x7f80_0000, 0xff80_0000, 0x7fc0_0000,
+        0x0000_0000,
+        0x8000_0000,
+        0x0000_0001,
+        0x007f_ffff,
+        0x0080_0000,
+        0x3380_0000,
+        0x3f80_0000,
+        0x3f80_0001,
+        0xbfc0_0000,
+        0x4b80_0000,
+        0x7f7f_ffff,
+        0x7f80_0000,
+        0xff80_0000,
+        0x7fc0_0000,
     ];
     let pairs = |values: &[Val], ops: &[u8]| -> Vec<(u8, Vec<Val>)> {
         let with = |op: u8, a: &Val| values.iter().map(move |b| (op, vec![a.clone(), b.clone()])).collect::<Vec<_>>();
@@ -135,7 +152,8 @@ fn on_edges(s: &mut Sample) {
         .map(|n| (ops[n % ops.len()], vec![lists[n / lists.len()].clone(), lists[n % lists.len()].clone()]))
         .collect();
     s.calls("list pairs", &defs, &calls);
-    let calls: Vec<(u8, Vec<Val>)> = lists.iter()
+    let calls: Vec<(u8, Vec<Val>)> = lists
+        .iter()
         .flat_map(|l| [0, 1, -1, i32::MIN].map(|n| [0, 1].map(|op| (op, vec![l.clone(), Val::Int(n)]))).concat())
         .collect();
     s.calls("increments", &defs, &calls);
@@ -177,7 +195,12 @@ fn main() {
     };
     let mut r = Rng::new(seed.parse().expect("a number as seed"));
     let mut s = Sample {
-        packs: Vec::new(), answers: String::new(), sheets: 0, ended: [[0; 18]; 34], turned: [0; 6], kinds: [[0; 25]; 32],
+        packs: Vec::new(),
+        answers: String::new(),
+        sheets: 0,
+        ended: [[0; 18]; 34],
+        turned: [0; 6],
+        kinds: [[0; 25]; 32],
     };
     on_kinds(&mut s, &mut r);
     on_edges(&mut s);

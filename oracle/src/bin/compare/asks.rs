@@ -73,12 +73,37 @@ pub const FORECAST: usize = 2_048;
 #[derive(Clone)]
 pub enum Ask {
     Check,
-    Vet { sheet: usize, kinds: [u8; 16], forecast: usize },
-    Run { sheet: usize, slots: [Words; 16], lent: Lent, work: Room, result: Room },
-    Call { op: u8, count: usize, operands: [Words; 3], lent: Lent, result: Room },
-    Cast { code: u8, operand: Words, lent: Lent, result: Room },
+    Vet {
+        sheet: usize,
+        kinds: [u8; 16],
+        forecast: usize,
+    },
+    Run {
+        sheet: usize,
+        slots: [Words; 16],
+        lent: Lent,
+        work: Room,
+        result: Room,
+    },
+    Call {
+        op: u8,
+        count: usize,
+        operands: [Words; 3],
+        lent: Lent,
+        result: Room,
+    },
+    Cast {
+        code: u8,
+        operand: Words,
+        lent: Lent,
+        result: Room,
+    },
     /// 0 `coerce_to_bool`, 1 `coerce_to_int`, 2 `coerce_to_float`
-    Coerce { to: u8, operand: Words, lent: Lent },
+    Coerce {
+        to: u8,
+        operand: Words,
+        lent: Lent,
+    },
 }
 
 /// What the port owes for an ask.
@@ -174,7 +199,9 @@ pub fn owed(judged: &Result<Pack, u8>, ask: &Ask) -> Owed {
 fn shown(lent: &Lent, words: &[Words]) -> String {
     let any = Defs { values: vec![vec![0; 65_536]; 64] };
     let one = |w: &Words| lent.value(&any, w).map_or(format!("{w:x?}"), |v| v.to_string());
-    let rest = if lent.items.len() == lent.values.len() { String::new() } else {
+    let rest = if lent.items.len() == lent.values.len() {
+        String::new()
+    } else {
         format!(" in slices of {} and {}", lent.items.len(), lent.values.len())
     };
     words.iter().map(one).collect::<Vec<_>>().join(" ") + &rest

@@ -54,7 +54,9 @@ fn operators(t: &mut Tally) {
     }
     for op in 0..=255 {
         for count in [0, 1, 2, 3, 4, 5, usize::MAX] {
-            let Ask::Call { operands, lent, result, .. } = call(op, &[Val::Int(6), Val::Int(3), Val::Int(1)]) else { unreachable!() };
+            let Ask::Call { operands, lent, result, .. } = call(op, &[Val::Int(6), Val::Int(3), Val::Int(1)]) else {
+                unreachable!()
+            };
             t.ask(&Ask::Call { op, count, operands, lent, result });
         }
     }
@@ -219,10 +221,37 @@ fn words(t: &mut Tally, list: &Val) {
     let mut lent = Lent::default();
     let good = lent.words(list);
     let mut some: Vec<(Words, Lent)> = vec![
-        [0, 0, 0], [0, 1, 0], [0, 2, 0], [0, 1, 1], [0, u64::MAX, 0], [1, 5, 0], [1, 1 << 32, 0], [1, u64::MAX, 0], [1, 5, 1 << 32],
-        [2, 0x7fc0_0001, 0], [2, 1 << 32, 0], [2, 0, 1], [4, 0, 0], [4, 1, 0], [4, 0, 1], [5, 0, 0], [u64::MAX, 0, 0], [6, 1, 1 << 32],
-        good, [3, 0, 0], [3, 0, 2], [3, 0, 3], [3, 3, 1 + (1 << 32)], [3, 3, 1 + (2 << 32)], [3, 3, 3 << 32], [3, 4, 2 << 32],
-        [3, u64::MAX, 2 << 32], [3, 1 << 63, 0], [3, 3, u64::MAX], [3, 3, u32::MAX as u64], [3, 3, u64::MAX << 32],
+        [0, 0, 0],
+        [0, 1, 0],
+        [0, 2, 0],
+        [0, 1, 1],
+        [0, u64::MAX, 0],
+        [1, 5, 0],
+        [1, 1 << 32, 0],
+        [1, u64::MAX, 0],
+        [1, 5, 1 << 32],
+        [2, 0x7fc0_0001, 0],
+        [2, 1 << 32, 0],
+        [2, 0, 1],
+        [4, 0, 0],
+        [4, 1, 0],
+        [4, 0, 1],
+        [5, 0, 0],
+        [u64::MAX, 0, 0],
+        [6, 1, 1 << 32],
+        good,
+        [3, 0, 0],
+        [3, 0, 2],
+        [3, 0, 3],
+        [3, 3, 1 + (1 << 32)],
+        [3, 3, 1 + (2 << 32)],
+        [3, 3, 3 << 32],
+        [3, 4, 2 << 32],
+        [3, u64::MAX, 2 << 32],
+        [3, 1 << 63, 0],
+        [3, 3, u64::MAX],
+        [3, 3, u32::MAX as u64],
+        [3, 3, u64::MAX << 32],
     ]
     .into_iter()
     .map(|w| (w, lent.clone()))
@@ -253,7 +282,11 @@ fn words(t: &mut Tally, list: &Val) {
 
 pub fn edges(t: &mut Tally) {
     for (name, some) in [
-        ("operators", operators as fn(&mut Tally)), ("sizes", sizes), ("kinds", kinds), ("limits", limits), ("damage", damage),
+        ("operators", operators as fn(&mut Tally)),
+        ("sizes", sizes),
+        ("kinds", kinds),
+        ("limits", limits),
+        ("damage", damage),
         ("memory", memory),
     ] {
         some(t);
@@ -325,7 +358,12 @@ fn random_conversion(r: &mut Rng, defs: &Defs, edges: &[u32]) -> Ask {
     upset(r, &mut words, &mut lent);
     match r.below(2) {
         0 => Ask::Coerce { to: r.below(3) as u8, operand: words[0], lent },
-        _ => Ask::Cast { code: if r.chance(95) { r.below(5) as u8 } else { r.next() as u8 }, operand: words[0], lent, result: room(r, RESULT) },
+        _ => Ask::Cast {
+            code: if r.chance(95) { r.below(5) as u8 } else { r.next() as u8 },
+            operand: words[0],
+            lent,
+            result: room(r, RESULT),
+        },
     }
 }
 

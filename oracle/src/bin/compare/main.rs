@@ -36,8 +36,17 @@ fn row(ask: &Ask) -> usize {
 fn row_name(row: usize) -> String {
     match row {
         0..32 => format!("{row:2} {}", OP_NAMES[row]),
-        _ => ["   operator 32 to 255", "   cast", "   coerce_to_bool", "   coerce_to_int", "   coerce_to_float", "   run", "   vet", "   check"]
-            [row - 32].to_string(),
+        _ => [
+            "   operator 32 to 255",
+            "   cast",
+            "   coerce_to_bool",
+            "   coerce_to_int",
+            "   coerce_to_float",
+            "   run",
+            "   vet",
+            "   check",
+        ][row - 32]
+            .to_string(),
     }
 }
 
@@ -60,8 +69,17 @@ pub struct Tally {
 impl Tally {
     fn new(mistake: Option<usize>, first: bool) -> Self {
         Tally {
-            port: Port::new(mistake), bytes: Vec::new(), judged: Err(1), cases: 0, differing: 0, counts: [[0; 19]; ROWS],
-            ended: [[0; 19]; 34], smallest: None, first, began: Instant::now(), said: Instant::now(),
+            port: Port::new(mistake),
+            bytes: Vec::new(),
+            judged: Err(1),
+            cases: 0,
+            differing: 0,
+            counts: [[0; 19]; ROWS],
+            ended: [[0; 19]; 34],
+            smallest: None,
+            first,
+            began: Instant::now(),
+            said: Instant::now(),
         }
     }
 
@@ -151,7 +169,11 @@ impl Tally {
 }
 
 fn usage(text: &str, status: i32) -> ! {
-    if status == 0 { println!("{text}") } else { eprintln!("{text}") }
+    if status == 0 {
+        println!("{text}")
+    } else {
+        eprintln!("{text}")
+    }
     exit(status)
 }
 
