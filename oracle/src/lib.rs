@@ -11,4 +11,5 @@ mod differences;
 pub mod generate;
 pub mod original;
 pub mod pack;
+mod remainder;
 pub mod values;

@@ -6,6 +6,7 @@ use crate::{
     list_definitions_origin::ListDefinitionsOrigin,
     native_function_call::{NativeFunctionCall, Op},
     object::RTObject,
+    remainder::remainder,
     story::error::StoryError,
     value::Value,
     value_type::ValueType,
@@ -221,10 +222,13 @@ impl World {
             Answer::Panic => Answer::Refused(15),
             Answer::Val(Val::Float(b)) => {
                 let x = f32::from_bits(b);
-                let left = operands[0].clone();
-                Answer::Val(match left {
+                if op == 4 {
+                    let [m, n] = [0, 1].map(|i| as_float(&operands[i]));
+                    assert_eq!(remainder(m, n), (!x.is_nan()).then_some(b), "the remainder of {m:08x} and {n:08x}");
+                }
+                Answer::Val(match op {
                     _ if x.is_nan() => Val::Float(0x7fc00000),
-                    _ if (op == 15 || op == 16) && x == 0.0 => zero_of_min_max(operands),
+                    15 | 16 if x == 0.0 => zero_of_min_max(operands),
                     _ => Val::Float(b),
                 })
             }
@@ -259,6 +263,16 @@ impl World {
 
     pub fn cast(&self, code: u8, v: &Val) -> Answer {
         if code > 3 { Answer::Refused(18) } else { self.cast_raw(code, v) }
+    }
+}
+
+/// A number's Float.
+fn as_float(v: &Val) -> u32 {
+    match v {
+        Val::Bool(b) => (*b as u8 as f32).to_bits(),
+        Val::Int(i) => (*i as f32).to_bits(),
+        Val::Float(b) => *b,
+        _ => unreachable!(),
     }
 }
 

@@ -203,6 +203,10 @@ fn main() {
         kinds: [[0; 25]; 32],
     };
     on_kinds(&mut s, &mut r);
+    for op in 0..=RANGE {
+        let every = if arity(op) == 1 { 5 } else { 1 };
+        assert!(s.kinds[op as usize].iter().step_by(every).all(|n| *n > 0), "operator {op} on every pair of kinds");
+    }
     on_edges(&mut s);
     on_sizes(&mut s, &mut r);
     pack::at_limits().iter().for_each(|(name, bytes)| s.put(name, bytes));

@@ -126,12 +126,19 @@ fn limits(t: &mut Tally) {
     }
 }
 
-/// The check of a pack, and each of its sheets vetted and run with all slots Void.
+/// The check of a pack, and each of its sheets vetted and run with all slots Void; of one that is turned back, every call.
 fn sheets(t: &mut Tally) {
     t.ask(&Ask::Check);
     for s in 0..t.sheets() {
         t.ask(&vet(s, &[]));
         t.ask(&run(s, &[]));
+    }
+    if t.turned_back() {
+        t.ask(&vet(0, &[]));
+        t.ask(&run(0, &[]));
+        t.ask(&call(0, &[Val::Int(1), Val::Int(2)]));
+        t.ask(&cast(0, &Val::Int(1)));
+        (0..3).for_each(|to| t.ask(&coerce(to, &Val::Int(1))));
     }
 }
 
@@ -168,11 +175,6 @@ fn damage(t: &mut Tally) {
         for p in shorter.chain(longer) {
             t.pack(&p);
             sheets(t);
-            t.ask(&vet(0, &[]));
-            t.ask(&run(0, &[]));
-            t.ask(&call(0, &[Val::Int(1), Val::Int(2)]));
-            t.ask(&cast(0, &Val::Int(1)));
-            (0..3).for_each(|to| t.ask(&coerce(to, &Val::Int(1))));
         }
     }
 }
@@ -294,19 +296,25 @@ pub fn edges(t: &mut Tally) {
     }
 }
 
-/// Words for values, lists at random places of the slices.
+/// Words for values, lists at random places of the slices, now and then a part of one that is there already.
 fn lend(r: &mut Rng, values: &[Val]) -> (Vec<Words>, Lent) {
     let mut lent = Lent::default();
-    let words = values
-        .iter()
-        .map(|v| {
-            for _ in 0..r.below(3) {
-                lent.items.push(r.next() as u16);
-                lent.values.push(r.next() as i32);
-            }
-            lent.words(v)
-        })
-        .collect();
+    let mut words: Vec<Words> = Vec::new();
+    for v in values {
+        let before = words.iter().rev().find(|w| w[0] == LIST as u64);
+        if let (Some([kind, origins, place]), true) = (before, v.kind() == LIST && r.chance(15)) {
+            let (start, len) = (*place as u32 as u64, place >> 32);
+            let skip = r.below(len as usize + 1) as u64;
+            let take = r.below((len - skip) as usize + 1) as u64;
+            words.push([*kind, *origins, start + skip + (take << 32)]);
+            continue;
+        }
+        for _ in 0..r.below(3) {
+            lent.items.push(r.next() as u16);
+            lent.values.push(r.next() as i32);
+        }
+        words.push(lent.words(v));
+    }
     (words, lent)
 }
 

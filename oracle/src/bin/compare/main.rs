@@ -95,6 +95,10 @@ impl Tally {
         self.judged.as_ref().map_or(0, |p| p.sheets.len())
     }
 
+    pub fn turned_back(&self) -> bool {
+        self.judged.is_err()
+    }
+
     /// One case.
     pub fn ask(&mut self, ask: &Ask) {
         let owed = owed(&self.judged, ask);
