@@ -1,8 +1,8 @@
 // Checks the packs of the standard input, and prints a line for each: its name, then the number of the question that said no,
 // or what the readers give. That is one past each definition's last item and the last item's value; each literal's origin set,
 // how many entries it has and the last one; and how many instructions each sheet has, with these where they are at most 8.
-// Values and Floats are printed as their bits, in hexadecimal. In the input each pack comes after its name, the name after its
-// length of one byte, the pack after its length of three.
+// Values and Floats are printed as their bits, in hexadecimal.
+use named_packs::Named;
 use pack::Checked;
 use pack::instruction::Instruction;
 use pack::instruction::instruction_width;
@@ -26,9 +26,7 @@ const STDOUT: i32 = 1;
 
 const SHOWN: usize = 8;
 
-fn widen(x: u8) -> usize
-    ensures { λ r. ⌜ r < 256 ⌝ }
-{
+fn widen(x: u8) -> usize {
     x as usize
 }
 
@@ -220,27 +218,32 @@ fn report(p: &[u8]) {
     io::write_all(STDOUT, b"\n");
 }
 
+// Reports on a pack after its name.
+fn report_named(s: &[u8], name: usize, after: usize, start: usize, end: usize)
+    requires { ⌜ (name ≤ after) × (after ≤ length (now s)) × (start ≤ end) × (end ≤ length (now s)) ⌝ }
+{
+    io::write_all(STDOUT, &s[name..after]);
+    io::write_all(STDOUT, b":");
+    report(&s[start..end]);
+}
+
 // Reports on the pack whose name's length is at a position, and says where the next one is.
 fn report_at(s: &[u8], at: usize) -> usize
     requires { ⌜ at < length (now s) ⌝ }
     ensures { λ r. ⌜ (at < r) × (r ≤ length (now (s .entry))) ⌝ }
 {
-    let named = at + 1;
-    let n = widen(s[at]);
-    if s.len() - named < n + 3 {
-        return s.len();
+    match named_packs::read(s, at) {
+        Named::Pack {
+            name,
+            after,
+            start,
+            end,
+        } => {
+            report_named(s, name, after, start, end);
+            end
+        }
+        Named::Cut => s.len(),
     }
-    let from = named + n;
-    let size = widen(s[from]) + 256 * widen(s[from + 1]) + 65536 * widen(s[from + 2]);
-    let start = from + 3;
-    if s.len() - start < size {
-        return s.len();
-    }
-    let end = start + size;
-    io::write_all(STDOUT, &s[named..from]);
-    io::write_all(STDOUT, b":");
-    report(&s[start..end]);
-    end
 }
 
 fn report_all(s: &[u8]) {

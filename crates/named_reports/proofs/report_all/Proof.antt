@@ -1,9 +1,9 @@
--- `sheet_points::report_all` is safe and ends: each turn moves on. Assumes nothing.
+-- `named_reports::report_all` is safe and ends: each turn moves on. Assumes nothing.
 use Prim.Native.Nat.{_-_, _≤_}
 use lib.ListN.{length}
 use borrow.Author.Needs.{needs}
-use Rattle.sheet_points.proofs.report_all.Statement.{statement}
-use Rattle.sheet_points.proofs.report_all.Tie as tie
+use Rattle.named_reports.proofs.report_all.Statement.{statement}
+use Rattle.named_reports.proofs.report_all.Tie as tie
 
 abbrev Inv-loop : tie.InvT-loop
 Inv-loop s at₀ at = at ≤ length s

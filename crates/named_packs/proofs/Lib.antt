@@ -1,0 +1,2 @@
+-- What a reader of a stream goes by.
+pub mod Inside

@@ -1,0 +1,2 @@
+-- A stream of named packs.
+pub mod Stream
