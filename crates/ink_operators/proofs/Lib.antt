@@ -1,0 +1,4 @@
+-- The laws of the boundary.
+mod Reading
+mod Clearing
+mod Saying
