@@ -2,3 +2,4 @@
 mod Reading
 mod Clearing
 mod Saying
+mod Few

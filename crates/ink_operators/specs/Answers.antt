@@ -23,7 +23,7 @@ use Rattle.running.specs.declared.Ran.the-variants as Rn
 use Rattle.vetting.specs.Vet.{Answers}
 use Rattle.vetting.specs.declared.Vetted.{Vetted}
 use Rattle.vetting.specs.declared.Vetted.the-variants as Vet
-use Rattle.ink_operators.specs.Words.{valueAt, wordsOf}
+use Rattle.ink_operators.specs.Words.{valueAt, wordsOf, Small}
 
 -- 0, or the number of the question that said no
 abbrev pub numberOf {ℓ} : {X : Type ℓ} → Answer X → ℕ
@@ -43,6 +43,11 @@ outcomeNumber (Out.Refused r) = r
 abbrev pub outcomeWords : Outcome → List ℕ
 outcomeWords (Out.Value v) = wordsOf v
 outcomeWords (Out.Refused r) = indexWords 0
+
+-- a List that it gives has room in its word
+abbrev pub SmallOutcome : Outcome → Type 0
+SmallOutcome (Out.Value v) = Small v
+SmallOutcome (Out.Refused r) = Unit {0}
 
 -- the words of three operands
 abbrev pub operandsIn : List ℕ → List Value
@@ -68,6 +73,10 @@ ranNumber (Rn.Stopped r k) = r
 abbrev pub ranWords : Ran → List ℕ
 ranWords (Rn.Ended v) = wordsOf v
 ranWords (Rn.Stopped r k) = indexWords k
+
+abbrev pub SmallRan : Ran → Type 0
+SmallRan (Rn.Ended v) = Small v
+SmallRan (Rn.Stopped r k) = Unit {0}
 
 -- the end is answered, and the slices are left as `Runs` says
 pub record RunSays (a : Answer Pack) (s : ℕ) (slots : List Val) (n : ℕ) (ws wi wi′ : List ℕ) (wv wv′ : List ℤ) (ri ri′ : List ℕ) (rv rv′ : List ℤ) : Type 0 where

@@ -1,7 +1,7 @@
 -- A value as three words: the code of its kind, what it holds, and where a List's entries stand. Assumes nothing.
 use mathlib.Core.Bool.{Bool, true, false, cond}
 use mathlib.Core.List.{List, [], _∷_}
-use Prim.Native.Nat.{ℕ, _+_, _*_, _-_, _/_, _%_, _^_}
+use Prim.Native.Nat.{ℕ, _+_, _*_, _-_, _/_, _%_, _^_, _<_}
 use lib.Dec.{eqb, ltb}
 use lib.ListN.{getD}
 use Rattle.ink_number.specs.Int.{signed, residue}
@@ -60,10 +60,17 @@ abbrev pub bitOf : Bool → ℕ
 bitOf true = 1
 bitOf false = 0
 
--- a List's start and length by their low 32 bits
 abbrev pub wordsOf : Value → List ℕ
 wordsOf (Is.Bool b) = 0 ∷ bitOf b ∷ 0 ∷ []
 wordsOf (Is.Int z) = 1 ∷ residue z ∷ 0 ∷ []
 wordsOf (Is.Float x) = 2 ∷ toBits32 x ∷ 0 ∷ []
-wordsOf (Is.List o s n) = 3 ∷ o ∷ (s % 2 ^ 32 + 2 ^ 32 * (n % 2 ^ 32)) ∷ []
+wordsOf (Is.List o s n) = 3 ∷ o ∷ (s + 2 ^ 32 * n) ∷ []
 wordsOf Is.Void = 4 ∷ 0 ∷ 0 ∷ []
+
+-- a List's start and length have room in one word
+abbrev pub Small : Value → Type 0
+Small (Is.Bool b) = Unit {0}
+Small (Is.Int z) = Unit {0}
+Small (Is.Float x) = Unit {0}
+Small (Is.List o s n) = (s < 2 ^ 32) × (n < 2 ^ 32)
+Small Is.Void = Unit {0}

@@ -4,7 +4,7 @@ use ink_value::Outcome;
 use running::Ran;
 use vetting::Vetted;
 ghost use mathlib.Core.Path.{_≡_};
-ghost use Rattle.ink_operators.specs.Answers.{outcomeNumber, outcomeWords, ranNumber, ranWords, vettedNumber, vettedIndex};
+ghost use Rattle.ink_operators.specs.Answers.{outcomeNumber, outcomeWords, SmallOutcome, ranNumber, ranWords, SmallRan, vettedNumber, vettedIndex};
 
 // A question's number, as it is returned.
 pub fn number(n: u8) -> u32
@@ -15,6 +15,7 @@ pub fn number(n: u8) -> u32
 
 // A direct call's or a conversion's answer.
 pub fn outcome(o: Outcome, answer: &mut [u64; 3]) -> u32
+    requires { ⌜ SmallOutcome o ⌝ }
     ensures { λ r. ⌜ (r ≡ outcomeNumber o) × (now (answer .exit) ≡ outcomeWords o) ⌝ }
 {
     match o {
@@ -31,6 +32,7 @@ pub fn outcome(o: Outcome, answer: &mut [u64; 3]) -> u32
 
 // A run's answer.
 pub fn ran(r: Ran, answer: &mut [u64; 3]) -> u32
+    requires { ⌜ SmallRan r ⌝ }
     ensures { λ n. ⌜ (n ≡ ranNumber r) × (now (answer .exit) ≡ ranWords r) ⌝ }
 {
     match r {

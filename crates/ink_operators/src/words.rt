@@ -2,8 +2,8 @@
 use ink_value::Value;
 ghost use mathlib.Core.Path.{_≡_};
 ghost use mathlib.Core.List.{[], _∷_};
-ghost use Prim.Native.Nat.{_<_, _+_, _*_, _%_, _^_};
-ghost use Rattle.ink_operators.specs.Words.{unheld, boolAt, intAt, floatAt, voidAt, plainAt, valueOf, valueAt, slotsIn, bitOf, wordsOf};
+ghost use Prim.Native.Nat.{_<_, _+_, _*_, _^_};
+ghost use Rattle.ink_operators.specs.Words.{unheld, boolAt, intAt, floatAt, voidAt, plainAt, valueOf, valueAt, slotsIn, bitOf, wordsOf, Small};
 
 // The slots of a run.
 const SLOTS: usize = 16;
@@ -144,6 +144,7 @@ pub fn put_index(words: &mut [u64; 3], index: usize)
 
 // A value written as three words.
 pub fn put_value(words: &mut [u64; 3], v: Value)
+    requires { ⌜ Small v ⌝ }
     ensures { λ _. ⌜ now (words .exit) ≡ wordsOf v ⌝ }
 {
     match v {
@@ -161,7 +162,8 @@ pub fn put_value(words: &mut [u64; 3], v: Value)
 
 // Where a List's entries stand, in one word.
 fn place_of(start: u64, len: u64) -> u64
-    ensures { λ r. ⌜ r ≡ start % 2 ^ 32 + 2 ^ 32 * (len % 2 ^ 32) ⌝ }
+    requires { ⌜ (start < 2 ^ 32) × (len < 2 ^ 32) ⌝ }
+    ensures { λ r. ⌜ r ≡ start + 2 ^ 32 * len ⌝ }
 {
-    start % HALF + HALF * (len % HALF)
+    start + HALF * len
 }

@@ -1,10 +1,11 @@
 -- `ink_operators::ink_call_checked` meets its contract: the answer of `calls::call_with` on the operands that the words hold. Assumes nothing.
-use mathlib.Core.List.{List}
+use mathlib.Core.List.{List, [], _∷_}
 use Rattle.ink_value.specs.declared.Value.{Value}
 use Rattle.calls.specs.Call.{called}
 use Rattle.native_function_call.specs.Lists.{definitions}
 use Rattle.pack.specs.Format.{format1}
 use Rattle.ink_operators.proofs.Saying.{calls, operands}
+use Rattle.ink_operators.proofs.Few.{small-outcome, called-few}
 use borrow.Author.Needs.{needs}
 use Rattle.ink_operators.proofs.ink_call_checked.Statement.{statement}
 use Rattle.ink_operators.proofs.ink_call_checked.Tie as tie
@@ -22,7 +23,10 @@ call-with-requires : tie.Need-call-with-requires
 call-with-requires c κs = search needs
 
 outcome-requires : tie.Need-outcome-requires
-outcome-requires c κs = search needs
+outcome-requires c κs =
+    let s = c .before .before .before .before .before .before .before .before .before .before .before .before .before in
+    let l = c .before .before .before .before .before .before .before .before .before .operand-at .result ∷ c .before .before .before .before .before .before .before .before .operand-at2 .result ∷ c .before .before .before .before .before .before .before .operand-at3 .result ∷ [] in
+    small-outcome (called (s .args .items .now) (s .args .values .now) (s .args .result-items .now) (s .args .result-values .now) (s .args .op) (s .args .count) l (definitions (s .args .ends .now) (s .args .defined .now) (format1 .limit))) _ (c .before .before .before .before .call-with .ensures .answered) (called-few (s .args .ends .now) (s .args .defined .now) (s .pre .within) (s .args .items .now) (s .args .values .now) (s .args .result-items .now) (s .args .result-values .now) (s .args .op) (s .args .count) l)
 
 same-length : tie.Need-same-length
 same-length c = search needs

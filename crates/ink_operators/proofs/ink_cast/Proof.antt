@@ -4,6 +4,7 @@ use Rattle.ink_value.specs.declared.Value.{Value}
 use Rattle.calls.specs.Call.{castTo, onPack}
 use Rattle.pack.specs.Format.{format1}
 use Rattle.ink_operators.proofs.Saying.{calls}
+use Rattle.ink_operators.proofs.Few.{small-outcome, pack-few, cast-to-few}
 use borrow.Author.Needs.{needs}
 use Rattle.ink_operators.proofs.ink_cast.Statement.{statement}
 use Rattle.ink_operators.proofs.ink_cast.Tie as tie
@@ -15,7 +16,10 @@ cast-requires : tie.Need-cast-requires
 cast-requires c κs = search needs
 
 outcome-requires : tie.Need-outcome-requires
-outcome-requires c κs = search needs
+outcome-requires c κs =
+    let s = c .before .before .before .before .before .before .before .before .before .before .before in
+    let f = castTo (s .args .items .now) (s .args .values .now) (s .args .result-items .now) (s .args .result-values .now) (s .args .code) (c .before .before .before .before .before .before .before .value-in .result) in
+    small-outcome (onPack format1 (s .args .pack .now) f) _ (c .before .before .before .before .cast .ensures .answered) (pack-few (s .args .pack .now) f (λ ends defined within. cast-to-few ends defined within (s .args .items .now) (s .args .values .now) (c .before .before .before .before .before .before .before .value-in .result) (s .args .result-items .now) (s .args .result-values .now) (s .args .code)))
 
 same-length : tie.Need-same-length
 same-length c = search needs

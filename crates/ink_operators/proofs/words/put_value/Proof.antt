@@ -1,10 +1,10 @@
 -- `ink_operators::words::put_value` meets its contract: each arm the words of its case. Assumes nothing.
-use mathlib.Core.Path.{sym, ap, _∙_}
+use mathlib.Core.Path.{sym, ap, subst, _∙_}
 use mathlib.Core.List.{[], _∷_}
 use Prim.Native.Nat.{ℕ}
 use Rattle.ink_number.specs.Int.{residue}
 use Rattle.ink_number.proofs.Signed.{returned}
-use Rattle.ink_operators.specs.Words.{wordsOf}
+use Rattle.ink_operators.specs.Words.{wordsOf, Small}
 use borrow.Author.Needs.{needs}
 use Rattle.ink_operators.proofs.words.put_value.Statement.{statement}
 use Rattle.ink_operators.proofs.words.put_value.Tie as tie
@@ -46,7 +46,8 @@ enum-known-v-4 : tie.Need-enum-known-v-4
 enum-known-v-4 c = search needs
 
 place-of-requires : tie.Need-place-of-requires
-place-of-requires c κs = search needs
+place-of-requires c κs =
+    subst Small (c .before .before .v4 .given .1) (c .before .before .before .before .pre)
 
 put-requires-4 : tie.Need-put-requires-4
 put-requires-4 c κs = search needs
