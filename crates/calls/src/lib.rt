@@ -63,7 +63,7 @@ fn used(yes: bool, v: Value) -> Value
 }
 
 // An operator with the definitions at hand: question 7, then 8 and 10 to 16.
-fn call_with(
+pub fn call_with(
     op: u8,
     count: usize,
     a: Value,

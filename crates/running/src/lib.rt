@@ -226,7 +226,7 @@ pub fn run_checked(
 const WORK_LIMIT: usize = STACK_LIMIT * ITEM_LIMIT;
 
 // Question 7 of the slots.
-fn all_formed(
+pub fn all_formed(
     slots: [Value; 16],
     items: &[u16],
     values: &[i32],
@@ -250,7 +250,7 @@ fn all_formed(
 }
 
 // Question 7 of the slices that a run writes.
-fn long_enough(
+pub fn long_enough(
     work_items: &[u16],
     work_values: &[i32],
     result_items: &[u16],

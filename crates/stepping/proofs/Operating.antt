@@ -70,7 +70,7 @@ scalar-plain u o vs k h = compute-plain u o vs (kindAt k) (other-kind k h)
 
 -- ---- a call
 
-wf-in : (is : List ℕ) (vs : List ℤ) (v : Value) → Formed (format1 .limit) is vs v → Wf (format1 .limit) (valOf is vs v)
+pub wf-in : (is : List ℕ) (vs : List ℤ) (v : Value) → Formed (format1 .limit) is vs v → Wf (format1 .limit) (valOf is vs v)
 wf-in is vs (Is.Bool b) f = tt
 wf-in is vs (Is.Int z) f = tt
 wf-in is vs (Is.Float x) f = tt

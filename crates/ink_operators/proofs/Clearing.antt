@@ -1,0 +1,48 @@
+-- Work slices that are clear stay as they are. Assumes nothing.
+use mathlib.Core.Path.{_≡_, sym, ap, _∙_, subst}
+use mathlib.Core.List.{List, _++_}
+use Prim.Native.Nat.{ℕ, _≤_, _<_}
+use native.Mathlib.Omega.{arith}
+use lib.IntN.{ℤ, pos}
+use lib.ListN.{length, getD, take, drop, replicate, length-replicate, getD-replicate, take-append-drop}
+use lib.Seq.{length-take-le, getD-take, ext-getD}
+use Rattle.ink_number.specs.Answer.{Answer, gives}
+use Rattle.ink_list.specs.Filled.{over}
+use Rattle.ink_value.specs.Val.{Val}
+use Rattle.pack.specs.Bodies.{Pack, decoded}
+use Rattle.pack.specs.Format.{format1}
+use Rattle.stepping.specs.Steps.{workLimit}
+use Rattle.running.specs.Run.{RanTo, Memory, runOf, Runs}
+use Rattle.running.specs.declared.Ran.{Ran}
+use Rattle.running.proofs.Opening.{Long}
+use Rattle.ink_operators.specs.Answers.{Clear}
+
+pub stays : {A : Type 0} (d : A) (n : ℕ) (l : List A) → n ≤ length l → ((j : ℕ) → j < n → getD l j d ≡ d) → over (replicate n d) l ≡ l
+stays {A} d n l h z =
+    let long : length (take n l) ≡ n = length-take-le n l h in
+    let t : take n l ≡ replicate n d =
+    ext-getD d (take n l) (replicate n d) (long ∙ sym (length-replicate n d))
+    (λ i q. getD-take n l i d (omega (arith, long)) ∙ z i (omega (arith, long)) ∙ sym (getD-replicate n i d d (omega (arith, long)))) in
+    ap (λ (m : ℕ). replicate n d ++ drop m l) (length-replicate n d) ∙ ap (λ (r : List A). r ++ drop n l) (sym t) ∙ take-append-drop n l
+
+pub clear-memory : (wi : List ℕ) (wv : List ℤ) (ri : List ℕ) (rv : List ℤ) → Clear wi wv → Long wi wv ri rv → Memory wi wv ri rv
+clear-memory wi wv ri rv z l =
+    record {
+      items-room = l .work-items;
+      values-room = l .work-values;
+      items-zero = z .items-clear;
+      values-zero = z .values-clear;
+      result-items = l .result-items;
+      result-values = l .result-values;
+    }
+
+pub runs-clear : (a : Answer Pack) (p : List ℕ) (s : ℕ) (slots : List Val) (r : Ran) (wi wi′ : List ℕ) (wv wv′ : List ℤ) (ri ri′ : List ℕ) (rv rv′ : List ℤ)
+    → Clear wi wv → Long wi wv ri rv → a ≡ gives (decoded format1 p) → RanTo (runOf p s slots) r ri ri′ rv rv′ → wi′ ≡ wi → wv′ ≡ wv
+    → Runs a s slots r wi wi′ wv wv′ ri ri′ rv rv′
+runs-clear a p s slots r wi wi′ wv wv′ ri ri′ rv rv′ z l e w hi hv =
+    subst (λ (x : Answer Pack). Runs x s slots r wi wi′ wv wv′ ri ri′ rv rv′) (sym e)
+    (record {
+      ran = w;
+      items-left = hi ∙ sym (stays 0 (workLimit format1) wi (l .work-items) (z .items-clear));
+      values-left = hv ∙ sym (stays (pos 0) (workLimit format1) wv (l .work-values) (z .values-clear));
+    })

@@ -1,0 +1,5 @@
+-- The laws of the boundary.
+mod Reading
+mod Clearing
+mod Saying
+mod Few

@@ -1,0 +1,33 @@
+-- `ink_operators::ink_coerce_to_bool` meets its contract: the answer of `calls::coerce_to_bool` on the operand that the words hold. Assumes nothing.
+use mathlib.Core.Path.{ap}
+use Rattle.ink_value.specs.Convert.{coerceBool}
+use Rattle.ink_value.specs.declared.Value.{Value}
+use Rattle.calls.specs.Call.{coerced, onPack}
+use Rattle.pack.specs.Format.{format1}
+use Rattle.native_function_call.specs.Lists.{definitions}
+use Rattle.ink_operators.proofs.Saying.{says}
+use Rattle.ink_operators.proofs.Few.{small-outcome, pack-few, coerced-few, bool-few}
+use borrow.Author.Needs.{needs}
+use Rattle.ink_operators.proofs.ink_coerce_to_bool.Statement.{statement}
+use Rattle.ink_operators.proofs.ink_coerce_to_bool.Tie as tie
+
+value-in-requires : tie.Need-value-in-requires
+value-in-requires c κs = search needs
+
+coerce-to-bool-requires : tie.Need-coerce-to-bool-requires
+coerce-to-bool-requires c κs = search needs
+
+outcome-requires : tie.Need-outcome-requires
+outcome-requires c κs =
+    let s = c .before .before .before .before .before in
+    let f = coerced (s .args .items .now) (s .args .values .now) coerceBool (c .before .before .value-in .result) in
+    small-outcome (onPack format1 (s .args .pack .now) f) _ (c .before .coerce-to-bool .ensures) (pack-few (s .args .pack .now) f (λ ends defined within. coerced-few (s .args .items .now) (s .args .values .now) coerceBool (c .before .before .value-in .result) (definitions ends defined (format1 .limit)) bool-few))
+
+returns : tie.Need-returns
+returns c =
+    let s = c .before .before .before .before .before .before in
+    says _ _ _ _ _ (ap (λ (v : Value). onPack format1 (s .args .pack .now) (coerced (s .args .items .now) (s .args .values .now) coerceBool v)) (c .before .before .before .value-in .ensures)) (c .before .before .coerce-to-bool .ensures) (c .outcome .ensures)
+
+pub ink-coerce-to-bool-spec : {M : Type 1} → statement M
+ink-coerce-to-bool-spec =
+    tie.close (tie.spec value-in-requires coerce-to-bool-requires outcome-requires returns)

@@ -1,0 +1,52 @@
+-- `ink_operators::ink_run_checked` meets its contract: the answer of `run_ready` on the slots that the words hold. Assumes nothing.
+use mathlib.Core.List.{map}
+use Rattle.ink_value.specs.Value.{valOf}
+use Rattle.pack.specs.Format.{format1}
+use Rattle.sheet.specs.Whole.{opened}
+use Rattle.running.specs.Run.{memory, endAfter}
+use Rattle.ink_operators.proofs.Saying.{run-says}
+use Rattle.ink_operators.proofs.Few.{small-ran, end-wf}
+use borrow.Author.Needs.{needs}
+use Rattle.ink_operators.proofs.ink_run_checked.Statement.{statement}
+use Rattle.ink_operators.proofs.ink_run_checked.Tie as tie
+
+slots-in-requires : tie.Need-slots-in-requires
+slots-in-requires c κs = search needs
+
+run-ready-requires : tie.Need-run-ready-requires
+run-ready-requires c κs = search needs
+
+ran-requires : tie.Need-ran-requires
+ran-requires c κs =
+    let s = c .before .before .before .before .before .before .before .before .before .before .before .before .before .before .before .before .before .before in
+    let l = c .before .before .before .before .before .before .before .before .before .before .before .before .slots-in .result in
+    small-ran (endAfter (s .args .sheet) (map (valOf (s .args .slot-items .now) (s .args .slot-values .now)) l) (opened format1 (s .args .pack .now) (s .args .sheet) (memory format1 l (s .args .slot-items .now) (s .args .slot-values .now) (s .args .work-items .now) (s .args .work-values .now) (s .args .result-items .now) (s .args .result-values .now)))) _ (c .before .before .before .before .before .before .before .run-ready .ensures .0 .ran .answered) (end-wf (s .args .pack .now) (s .args .sheet) l (s .args .slot-items .now) (s .args .slot-values .now) (s .args .work-items .now) (s .args .work-values .now) (s .args .result-items .now) (s .args .result-values .now))
+
+same-length : tie.Need-same-length
+same-length c = search needs
+
+same-length-2 : tie.Need-same-length-2
+same-length-2 c = search needs
+
+same-length-3 : tie.Need-same-length-3
+same-length-3 c = search needs
+
+same-length-4 : tie.Need-same-length-4
+same-length-4 c = search needs
+
+returns : tie.Need-returns
+returns c =
+    (run-says _ _ _ _ _ _ _ _ _ _ _ _ _ _ _ _ _ (c .before .before .before .before .before .before .before .before .before .before .before .before .before .slots-in .ensures) (c .before .before .before .before .before .before .before .before .run-ready .ensures .0) (c .ran .ensures), c .before .before .before .before .before .before .before .before .run-ready .ensures .1)
+
+pub ink-run-checked-spec : {M : Type 1} → statement M
+ink-run-checked-spec =
+    tie.close
+    (tie.spec
+    slots-in-requires
+    run-ready-requires
+    ran-requires
+    same-length
+    same-length-2
+    same-length-3
+    same-length-4
+    returns)

@@ -1,0 +1,30 @@
+-- `ink_operators::words::value_of` meets its contract: a List, or the third word is 0, or neither. Assumes nothing.
+use borrow.Author.Tests.{eq-eqb, ne-eqb}
+use Rattle.ink_operators.specs.Words.{valueOf}
+use borrow.Author.Needs.{needs}
+use Rattle.ink_operators.proofs.words.value_of.Statement.{statement}
+use Rattle.ink_operators.proofs.words.value_of.Tie as tie
+
+returns : tie.Need-returns
+unfolding valueOf
+returns c =
+    rw (eq-eqb (c .before .args .kind) 3 (c .if1 .taken))
+
+plain-at-requires : tie.Need-plain-at-requires
+plain-at-requires c κs = search needs
+
+unheld-requires : tie.Need-unheld-requires
+unheld-requires c κs = search needs
+
+returns-2 : tie.Need-returns-2
+unfolding valueOf
+returns-2 c =
+    rw (ne-eqb (c .before .before .before .args .kind) 3 (c .before .before .if1 .left), eq-eqb (c .before .before .before .args .place) 0 (c .before .if2 .taken)) (c .plain-at .ensures)
+
+returns-3 : tie.Need-returns-3
+unfolding valueOf
+returns-3 c =
+    rw (ne-eqb (c .before .before .before .args .kind) 3 (c .before .before .if1 .left), ne-eqb (c .before .before .before .args .place) 0 (c .before .if2 .left)) (c .unheld .ensures)
+
+pub value-of-spec : {M : Type 1} → statement M
+value-of-spec = tie.close (tie.spec returns plain-at-requires unheld-requires returns-2 returns-3)

@@ -1,0 +1,282 @@
+// The library as C sees it: numbers, slices and words. A slice is passed as a pointer and a length, an array or a number that is written as
+// a pointer. The header hosts/include/ink_operators.h says how values stand in words.
+mod answers;
+mod ready;
+mod words;
+
+use pack::Checked;
+ghost use mathlib.Core.Path.{_≡_};
+ghost use mathlib.Core.List.{[], _∷_, map};
+ghost use lib.IntN.{pos};
+ghost use lib.ListN.{replicate};
+ghost use denote.Ref.{now};
+ghost use Rattle.ink_list.specs.Filled.{over};
+ghost use Rattle.ink_value.specs.Convert.{coerceBool, coerceInt, coerceFloat};
+ghost use Rattle.ink_value.specs.Slices.{valIn};
+ghost use Rattle.native_function_call.specs.Lists.{definitionsIn};
+ghost use Rattle.pack.specs.Bodies.{decoded};
+ghost use Rattle.pack.specs.Format.{format1, definitionLimit};
+ghost use Rattle.pack.specs.Judge.{judge};
+ghost use Rattle.pack.specs.Read.{endsOf, definedOf};
+ghost use Rattle.calls.specs.Call.{called, castTo, coerced, onPack, PackLists};
+ghost use Rattle.sheet.specs.Whole.{opened};
+ghost use Rattle.running.specs.Run.{memory};
+ghost use Rattle.ink_operators.specs.Words.{valueAt, slotsIn};
+ghost use Rattle.ink_operators.specs.Answers.{numberOf, operandsIn, Says, Calls, RunSays, VetSays, Passed, Reads, Ready, Clear};
+
+// Questions 1 to 5 of a pack: 0, or the number of the first no.
+#[no_mangle]
+pub extern "C" fn ink_check(pack: &[u8]) -> u32
+    ensures { λ r. ⌜ r ≡ numberOf (judge format1 (now (pack .entry))) ⌝ }
+{
+    match pack::check(pack) {
+        Checked::Passed => 0,
+        Checked::Refused(n) => answers::number(n),
+    }
+}
+
+// Vets a sheet of any bytes for slots of sixteen kinds.
+#[no_mangle]
+pub extern "C" fn ink_vet(
+    pack: &[u8],
+    sheet: usize,
+    kinds: &[u8; 16],
+    forecast: &mut [u8],
+    index: &mut u64,
+) -> u32
+    ensures { λ r. ⌜ VetSays (now (pack .entry)) sheet (now (kinds .entry)) r (now (index .exit)) (now (forecast .entry)) (now (forecast .exit)) ⌝ }
+{
+    let codes = *kinds;
+    let vetted = vetting::vet(pack, sheet, codes, forecast);
+    answers::vetted(vetted, index)
+}
+
+// Runs a sheet of any bytes.
+#[no_mangle]
+pub extern "C" fn ink_run(
+    pack: &[u8],
+    sheet: usize,
+    slots: &[u64; 48],
+    slot_items: &[u16],
+    slot_values: &[i32],
+    work_items: &mut [u16],
+    work_values: &mut [i32],
+    result_items: &mut [u16],
+    result_values: &mut [i32],
+    answer: &mut [u64; 3],
+) -> u32
+    ensures { λ r. ⌜ RunSays (opened format1 (now (pack .entry)) sheet (memory format1 (slotsIn (now (slots .entry))) (now («slot_items» .entry)) (now («slot_values» .entry)) (now («work_items» .entry)) (now («work_values» .entry)) (now («result_items» .entry)) (now («result_values» .entry))))
+        sheet (map (valIn «slot_items» «slot_values») (slotsIn (now (slots .entry)))) r (now (answer .exit))
+        (now («work_items» .entry)) (now («work_items» .exit)) (now («work_values» .entry)) (now («work_values» .exit))
+        (now («result_items» .entry)) (now («result_items» .exit)) (now («result_values» .entry)) (now («result_values» .exit)) ⌝ }
+{
+    let values = words::slots_in(slots);
+    let ran = running::run(
+        pack,
+        sheet,
+        values,
+        slot_items,
+        slot_values,
+        work_items,
+        work_values,
+        result_items,
+        result_values,
+    );
+    answers::ran(ran, answer)
+}
+
+// An operator on the first `count` of three operands, with a pack of any bytes.
+#[no_mangle]
+pub extern "C" fn ink_call(
+    pack: &[u8],
+    op: u8,
+    count: usize,
+    operands: &[u64; 9],
+    items: &[u16],
+    values: &[i32],
+    result_items: &mut [u16],
+    result_values: &mut [i32],
+    answer: &mut [u64; 3],
+) -> u32
+    ensures { λ r. ⌜ Calls (onPack format1 (now (pack .entry)) (called (now (items .entry)) (now (values .entry)) (now («result_items» .entry)) (now («result_values» .entry)) op count (operandsIn (now (operands .entry)))))
+        r (now (answer .exit)) (now («result_items» .entry)) (now («result_items» .exit)) (now («result_values» .entry)) (now («result_values» .exit)) ⌝ }
+{
+    let a = words::operand_at(operands, 0);
+    let b = words::operand_at(operands, 1);
+    let c = words::operand_at(operands, 2);
+    let outcome = calls::call(
+        pack,
+        op,
+        count,
+        a,
+        b,
+        c,
+        items,
+        values,
+        result_items,
+        result_values,
+    );
+    answers::outcome(outcome, answer)
+}
+
+// `cast` to a kind code, with a pack of any bytes.
+#[no_mangle]
+pub extern "C" fn ink_cast(
+    pack: &[u8],
+    code: u8,
+    operand: &[u64; 3],
+    items: &[u16],
+    values: &[i32],
+    result_items: &mut [u16],
+    result_values: &mut [i32],
+    answer: &mut [u64; 3],
+) -> u32
+    ensures { λ r. ⌜ Calls (onPack format1 (now (pack .entry)) (castTo (now (items .entry)) (now (values .entry)) (now («result_items» .entry)) (now («result_values» .entry)) code (valueAt (now (operand .entry)) 0)))
+        r (now (answer .exit)) (now («result_items» .entry)) (now («result_items» .exit)) (now («result_values» .entry)) (now («result_values» .exit)) ⌝ }
+{
+    let v = words::value_in(operand);
+    let outcome = calls::cast(pack, code, v, items, values, result_items, result_values);
+    answers::outcome(outcome, answer)
+}
+
+// The three `coerce_to_`, with a pack of any bytes.
+#[no_mangle]
+pub extern "C" fn ink_coerce_to_bool(
+    pack: &[u8],
+    operand: &[u64; 3],
+    items: &[u16],
+    values: &[i32],
+    answer: &mut [u64; 3],
+) -> u32
+    ensures { λ r. ⌜ Says (onPack format1 (now (pack .entry)) (coerced (now (items .entry)) (now (values .entry)) coerceBool (valueAt (now (operand .entry)) 0))) r (now (answer .exit)) ⌝ }
+{
+    let v = words::value_in(operand);
+    let outcome = calls::coerce_to_bool(pack, v, items, values);
+    answers::outcome(outcome, answer)
+}
+
+#[no_mangle]
+pub extern "C" fn ink_coerce_to_int(
+    pack: &[u8],
+    operand: &[u64; 3],
+    items: &[u16],
+    values: &[i32],
+    answer: &mut [u64; 3],
+) -> u32
+    ensures { λ r. ⌜ Says (onPack format1 (now (pack .entry)) (coerced (now (items .entry)) (now (values .entry)) coerceInt (valueAt (now (operand .entry)) 0))) r (now (answer .exit)) ⌝ }
+{
+    let v = words::value_in(operand);
+    let outcome = calls::coerce_to_int(pack, v, items, values);
+    answers::outcome(outcome, answer)
+}
+
+#[no_mangle]
+pub extern "C" fn ink_coerce_to_float(
+    pack: &[u8],
+    operand: &[u64; 3],
+    items: &[u16],
+    values: &[i32],
+    answer: &mut [u64; 3],
+) -> u32
+    ensures { λ r. ⌜ Says (onPack format1 (now (pack .entry)) (coerced (now (items .entry)) (now (values .entry)) coerceFloat (valueAt (now (operand .entry)) 0))) r (now (answer .exit)) ⌝ }
+{
+    let v = words::value_in(operand);
+    let outcome = calls::coerce_to_float(pack, v, items, values);
+    answers::outcome(outcome, answer)
+}
+
+// The definitions of a pack that has passed: how many, how many items, and the two tables, 0 in the places that they leave.
+#[no_mangle]
+pub extern "C" fn ink_definitions(
+    pack: &[u8],
+    ends: &mut [u16; 64],
+    defined: &mut [i32; 256],
+    counts: &mut [u64; 2],
+)
+    requires { ⌜ Passed (now pack) ⌝ }
+    ensures { λ _. ⌜ Reads (decoded format1 (now (pack .entry))) (now (ends .exit)) (now (defined .exit)) (now (counts .exit)) ⌝ }
+{
+    let mut e = [0u16; 64];
+    let mut d = [0i32; 256];
+    let read = pack_read::read_definitions(pack, &mut e, &mut d);
+    *ends = e;
+    *defined = d;
+    *counts = [read.definitions as u64, read.items as u64];
+}
+
+// Runs a sheet of a pack that has passed, its definitions read, in work slices that are clear. It answers and leaves what `ink_run` does.
+#[no_mangle]
+pub extern "C" fn ink_run_checked(
+    pack: &[u8],
+    ends: &[u16],
+    defined: &[i32],
+    sheet: usize,
+    slots: &[u64; 48],
+    slot_items: &[u16],
+    slot_values: &[i32],
+    work_items: &mut [u16],
+    work_values: &mut [i32],
+    result_items: &mut [u16],
+    result_values: &mut [i32],
+    answer: &mut [u64; 3],
+) -> u32
+    requires { ⌜ Ready (now pack) (now ends) (now defined) × Clear (now «work_items») (now «work_values») ⌝ }
+    ensures { λ r. ⌜ RunSays (opened format1 (now (pack .entry)) sheet (memory format1 (slotsIn (now (slots .entry))) (now («slot_items» .entry)) (now («slot_values» .entry)) (now («work_items» .entry)) (now («work_values» .entry)) (now («result_items» .entry)) (now («result_values» .entry))))
+        sheet (map (valIn «slot_items» «slot_values») (slotsIn (now (slots .entry)))) r (now (answer .exit))
+        (now («work_items» .entry)) (now («work_items» .exit)) (now («work_values» .entry)) (now («work_values» .exit))
+        (now («result_items» .entry)) (now («result_items» .exit)) (now («result_values» .entry)) (now («result_values» .exit)) ⌝ }
+    ensures { λ _. ⌜ (now («work_items» .exit) ≡ now («work_items» .entry)) × (now («work_values» .exit) ≡ now («work_values» .entry)) ⌝ }
+{
+    let values = words::slots_in(slots);
+    let ran = ready::run_ready(
+        pack,
+        ends,
+        defined,
+        sheet,
+        values,
+        slot_items,
+        slot_values,
+        work_items,
+        work_values,
+        result_items,
+        result_values,
+    );
+    answers::ran(ran, answer)
+}
+
+// An operator with the definitions of a pack that has passed.
+#[no_mangle]
+pub extern "C" fn ink_call_checked(
+    ends: &[u16],
+    defined: &[i32],
+    op: u8,
+    count: usize,
+    operands: &[u64; 9],
+    items: &[u16],
+    values: &[i32],
+    result_items: &mut [u16],
+    result_values: &mut [i32],
+    answer: &mut [u64; 3],
+) -> u32
+    requires { ⌜ PackLists (now ends) (now defined) ⌝ }
+    ensures { λ r. ⌜ Calls (called (now (items .entry)) (now (values .entry)) (now («result_items» .entry)) (now («result_values» .entry)) op count (operandsIn (now (operands .entry))) (definitionsIn ends defined (format1 .limit)))
+        r (now (answer .exit)) (now («result_items» .entry)) (now («result_items» .exit)) (now («result_values» .entry)) (now («result_values» .exit)) ⌝ }
+{
+    let a = words::operand_at(operands, 0);
+    let b = words::operand_at(operands, 1);
+    let c = words::operand_at(operands, 2);
+    let outcome = calls::call_with(
+        op,
+        count,
+        a,
+        b,
+        c,
+        items,
+        values,
+        ends,
+        defined,
+        result_items,
+        result_values,
+    );
+    answers::outcome(outcome, answer)
+}

@@ -1,0 +1,146 @@
+//! Document 01's sample pack, known points and misreadings, through the safe interface.
+mod common;
+
+use common::{int, pack, sheet, six_items, SAMPLE, VOID_SLOTS};
+use ink_operators::{op, Forecast, Kind, Pack, Refusal, Value, Workspace};
+use Value::{Bool, Float, Int, Void};
+
+fn no(number: u32) -> Refusal {
+    Refusal { number, index: 0 }
+}
+
+#[test]
+fn the_sample_pack() {
+    let pack = Pack::new(SAMPLE).unwrap();
+    let mut workspace = Workspace::new();
+    assert_eq!((pack.sheets(), pack.definitions(), pack.items()), (2, 1, 3));
+    assert_eq!(pack.run(&mut workspace, 0, &VOID_SLOTS), Ok(Value::list(1, &[(2, 3)])));
+    assert_eq!(pack.run(&mut workspace, 1, &VOID_SLOTS), Err(Refusal { number: 15, index: 2 }));
+}
+
+#[test]
+fn starred_points() {
+    let p = six_items();
+    let empty = Value::list(0, &[]);
+    let one = Value::list(1, &[(0, 1)]);
+    let cases: &[(u8, &[Value], Result<Value, Refusal>)] = &[
+        (op::ADD, &[Bool(true), Bool(true)], Ok(Int(2))),
+        (op::NOT, &[empty.clone()], Ok(Int(1))),
+        (op::NOT, &[Int(0)], Ok(Bool(true))),
+        (op::LESS, &[empty.clone(), empty.clone()], Ok(Bool(false))),
+        (op::LESS, &[empty.clone(), one.clone()], Ok(Bool(true))),
+        (op::HASNT, &[empty.clone(), empty.clone()], Ok(Bool(true))),
+        (op::DIVIDE, &[Int(-7), Int(2)], Ok(Int(-3))),
+        (op::MOD, &[Int(-7), Int(2)], Ok(Int(-1))),
+        (op::DIVIDE, &[Int(i32::MIN), Int(-1)], Err(no(15))),
+    ];
+    for (op, operands, answer) in cases {
+        assert_eq!(p.call(*op, operands), *answer, "{op} of {operands:?}");
+    }
+    for (z, x) in [(16_777_216, 16_777_216.0), (16_777_217, 16_777_216.0), (16_777_219, 16_777_220.0)] {
+        assert_eq!(p.cast(2, &Int(z)), Ok(Float(x)));
+        assert_eq!(p.coerce_to_float(&Int(z)), Ok(x));
+        assert_eq!(p.call(op::FLOAT, &[Int(z)]), Ok(Float(x)));
+    }
+}
+
+#[test]
+fn other_points() {
+    let p = six_items();
+    assert_eq!(p.call(op::INT, &[Float(2_147_483_648.0)]), Ok(Int(2_147_483_647)));
+    assert_eq!(p.coerce_to_bool(&Int(2)), Ok(false));
+    assert_eq!(p.coerce_to_bool(&Int(1)), Ok(true));
+    assert_eq!(p.cast(0, &Int(2)), Ok(Bool(true)));
+    // 64 pushes pass question 9, the 65th not; an empty sheet is 17 at 0
+    let pushes = |n: usize| sheet(&vec![int(1).as_slice(); n]);
+    let q = pack(&[], &[], &[pushes(64), pushes(65), Vec::new()]);
+    let mut workspace = Workspace::new();
+    assert_eq!(q.run(&mut workspace, 0, &VOID_SLOTS), Err(Refusal { number: 17, index: 64 }));
+    assert_eq!(q.run(&mut workspace, 1, &VOID_SLOTS), Err(Refusal { number: 9, index: 64 }));
+    assert_eq!(q.run(&mut workspace, 2, &VOID_SLOTS), Err(Refusal { number: 17, index: 0 }));
+    // 256 items pass, 257 do not
+    assert!(Pack::new(common::bytes(&[vec![0; 255], vec![0; 1]], &[], &[])).is_ok());
+    assert_eq!(Pack::new(common::bytes(&[vec![0; 255], vec![0; 2]], &[], &[])).err(), Some(no(3)));
+}
+
+#[test]
+fn misreadings() {
+    let p = six_items();
+    let empty = Value::list(0, &[]);
+    let three = Value::list(1, &[(0, 1), (1, 2), (2, 3)]);
+    // Has on an empty right side is no
+    assert_eq!(p.call(op::HAS, &[three.clone(), empty.clone()]), Ok(Bool(false)));
+    // range's lower bound, when it is a Float, is 0
+    let low = Value::list(1, &[(0, -5), (1, 2)]);
+    assert_eq!(p.call(op::RANGE, &[low, Float(-9.0), Int(9)]), Ok(Value::list(1, &[(1, 2)])));
+    // two Bools become Ints under Min
+    assert_eq!(p.call(op::MIN, &[Bool(true), Bool(false)]), Ok(Int(0)));
+    // Int to Float rounds, it does not cut
+    assert_eq!(p.coerce_to_float(&Int(16_777_219)), Ok(16_777_220.0));
+}
+
+#[test]
+fn floats() {
+    let p = six_items();
+    assert_eq!(p.call(op::ADD, &[Float(0.1), Float(0.2)]), Ok(Float(0.1 + 0.2)));
+    assert_eq!(p.call(op::MOD, &[Float(-7.5), Float(2.0)]), Ok(Float(-1.5)));
+    for nan in [f32::NAN, -f32::NAN, f32::from_bits(0x7f80_0001)] {
+        let Ok(Float(x)) = p.call(op::ADD, &[Float(nan), Int(1)]) else { panic!("a Float") };
+        assert_eq!(x.to_bits(), 0x7fc0_0000);
+    }
+    assert_eq!(p.call(op::INT, &[Float(f32::NAN)]), Ok(Int(0)));
+    assert_eq!(p.call(op::NEGATE, &[Float(0.0)]).map(|v| matches!(v, Float(x) if x.to_bits() == 0x8000_0000)), Ok(true));
+}
+
+#[test]
+fn lists() {
+    let p = six_items();
+    let a = Value::list(1, &[(0, 1), (2, 3)]);
+    let b = Value::list(2, &[(2, 7), (4, 2)]);
+    assert_eq!(p.call(op::ADD, &[a.clone(), b.clone()]), Ok(Value::list(3, &[(0, 1), (2, 7), (4, 2)])));
+    assert_eq!(p.call(op::SUBTRACT, &[a.clone(), b.clone()]), Ok(Value::list(1, &[(0, 1)])));
+    assert_eq!(p.call(op::INTERSECT, &[a.clone(), b.clone()]), Ok(Value::list(1, &[(2, 3)])));
+    assert_eq!(p.call(op::ADD, &[a.clone(), Int(1)]), Ok(Value::list(1, &[(1, 2)])));
+    assert_eq!(p.call(op::ALL, &[a.clone()]), Ok(Value::list(1, &[(0, 1), (1, 2), (2, 3)])));
+    assert_eq!(p.call(op::INVERT, &[a.clone()]), Ok(Value::list(1, &[(1, 2)])));
+    assert_eq!(p.call(op::COUNT, &[a.clone()]), Ok(Int(2)));
+    assert_eq!(p.call(op::VALUE_OF_LIST, &[a.clone()]), Ok(Int(3)));
+    assert_eq!(p.cast(3, &a), Ok(a.clone()));
+    assert_eq!(p.cast(1, &a), Ok(Int(3)));
+}
+
+#[test]
+fn conversions_refused() {
+    let p = six_items();
+    let list = Value::list(1, &[(0, 1)]);
+    assert_eq!(p.cast(0, &list), Err(no(18)));
+    assert_eq!(p.cast(4, &Int(0)), Err(no(18)));
+    assert_eq!(p.cast(255, &Int(0)), Err(no(18)));
+    assert_eq!(p.cast(3, &Int(0)), Err(no(18)));
+    assert_eq!(p.cast(1, &Void), Err(no(18)));
+    assert_eq!(p.coerce_to_bool(&Float(1.0)), Err(no(18)));
+    assert_eq!(p.coerce_to_int(&list), Err(no(18)));
+    assert_eq!(p.coerce_to_float(&Void), Err(no(18)));
+    assert_eq!(p.coerce_to_int(&Float(-1.9)), Ok(-1));
+    assert_eq!(p.coerce_to_int(&Bool(true)), Ok(1));
+}
+
+#[test]
+fn vetting_foretells() {
+    // slot 0, Int 2, Add
+    let p = pack(&[vec![1, 2, 3]], &[], &[sheet(&[&[36, 0], &int(2), &[0]])]);
+    let mut kinds = [Kind::Void; 16];
+    kinds[0] = Kind::List;
+    let told = p.vet(0, &kinds).unwrap();
+    let tops: Vec<_> = told.iter().map(|f| (f.count, f.top)).collect();
+    assert_eq!(tops, [(1, Kind::List), (2, Kind::Int), (1, Kind::List)]);
+    assert_eq!(told.last(), Some(&Forecast { count: 1, top: Kind::List }));
+    let mut slots = VOID_SLOTS;
+    slots[0] = Value::list(1, &[(0, 1)]);
+    let mut workspace = Workspace::new();
+    assert_eq!(p.run(&mut workspace, 0, &slots), Ok(Value::list(1, &[(2, 3)])));
+    kinds[0] = Kind::Void;
+    assert_eq!(p.vet(0, &kinds), Err(Refusal { number: 11, index: 2 }));
+    assert_eq!(p.run(&mut workspace, 0, &VOID_SLOTS), Err(Refusal { number: 11, index: 2 }));
+    assert_eq!(p.vet(1, &kinds), Err(no(6)));
+}
