@@ -4,10 +4,12 @@ use ink_value::Value;
 use pack::Checked;
 use pack::format::DEFINITION_LIMIT;
 ghost use mathlib.Core.Path.{_≡_};
-ghost use mathlib.Core.Bool.{cond};
+ghost use mathlib.Core.Bool.{true, cond};
 ghost use mathlib.Core.List.{[], _∷_};
+ghost use Prim.Native.Nat.{_≤_};
+ghost use lib.ListN.{length, take};
 ghost use denote.Ref.{now};
-ghost use Rattle.native_function_call.specs.Lists.{definitionsIn};
+ghost use Rattle.native_function_call.specs.Lists.{definitions, definitionsIn};
 ghost use Rattle.pack.specs.Read.{definitionsOf};
 ghost use Rattle.ink_value.specs.Convert.{cast, coerceBool, coerceInt, coerceFloat};
 ghost use Rattle.ink_value.specs.Value.{placed, allFormed};
@@ -62,6 +64,44 @@ fn used(yes: bool, v: Value) -> Value
     if yes { v } else { Value::Void }
 }
 
+// An operator on operands of which question 7 says yes, with the definitions at hand: questions 8 and 10 to 16.
+pub fn call_formed(
+    op: u8,
+    count: usize,
+    a: Value,
+    b: Value,
+    c: Value,
+    items: &[u16],
+    values: &[i32],
+    ends: &[u16],
+    defined: &[i32],
+    oi: &mut [u16],
+    ov: &mut [i32],
+) -> Outcome
+    requires { ⌜ PackLists (now ends) (now defined) ⌝ }
+    requires { ⌜ operandsOk (definitions (now ends) (now defined) (format1 .limit)) (now items) (now values) (take count (a ∷ b ∷ c ∷ [])) ≡ true ⌝ }
+    requires { ⌜ (format1 .limit ≤ length (now oi)) × (format1 .limit ≤ length (now ov)) ⌝ }
+    ensures { λ r. ⌜ Gives (called (now (items .entry)) (now (values .entry)) (now (oi .entry)) (now (ov .entry)) op count (a ∷ b ∷ c ∷ []) (definitionsIn ends defined (format1 .limit))) r oi ov ⌝ }
+{
+    let x = used(0 < count, a);
+    let y = used(1 < count, b);
+    let z = used(2 < count, c);
+    native_function_call::apply(
+        op,
+        count,
+        x,
+        y,
+        z,
+        items,
+        values,
+        ends,
+        defined,
+        ITEM_LIMIT,
+        oi,
+        ov,
+    )
+}
+
 // An operator with the definitions at hand: question 7, then 8 and 10 to 16.
 pub fn call_with(
     op: u8,
@@ -91,19 +131,8 @@ pub fn call_with(
     if ov.len() < ITEM_LIMIT {
         return Outcome::Refused(7);
     }
-    native_function_call::apply(
-        op,
-        count,
-        x,
-        y,
-        z,
-        items,
-        values,
-        ends,
-        defined,
-        ITEM_LIMIT,
-        oi,
-        ov,
+    call_formed(
+        op, count, a, b, c, items, values, ends, defined, oi, ov,
     )
 }
 
