@@ -64,6 +64,30 @@ fn used(yes: bool, v: Value) -> Value
     if yes { v } else { Value::Void }
 }
 
+// Question 7 of the first `count` of three.
+fn used_formed(
+    count: usize,
+    a: Value,
+    b: Value,
+    c: Value,
+    items: &[u16],
+    values: &[i32],
+    total: usize,
+    definitions: usize,
+) -> bool
+    ensures { λ r. ⌜ r ≡ allFormed total definitions (now (items .entry)) (now (values .entry)) (take count (a ∷ b ∷ c ∷ [])) ⌝ }
+{
+    three_formed(
+        used(0 < count, a),
+        used(1 < count, b),
+        used(2 < count, c),
+        items,
+        values,
+        total,
+        definitions,
+    )
+}
+
 // An operator on operands of which question 7 says yes, with the definitions at hand: questions 8 and 10 to 16.
 pub fn call_formed(
     op: u8,
@@ -119,10 +143,7 @@ pub fn call_with(
     requires { ⌜ PackLists (now ends) (now defined) ⌝ }
     ensures { λ r. ⌜ Gives (called (now (items .entry)) (now (values .entry)) (now (oi .entry)) (now (ov .entry)) op count (a ∷ b ∷ c ∷ []) (definitionsIn ends defined (format1 .limit))) r oi ov ⌝ }
 {
-    let x = used(0 < count, a);
-    let y = used(1 < count, b);
-    let z = used(2 < count, c);
-    if !three_formed(x, y, z, items, values, defined.len(), ends.len()) {
+    if !used_formed(count, a, b, c, items, values, defined.len(), ends.len()) {
         return Outcome::Refused(7);
     }
     if oi.len() < ITEM_LIMIT {
@@ -131,9 +152,7 @@ pub fn call_with(
     if ov.len() < ITEM_LIMIT {
         return Outcome::Refused(7);
     }
-    call_formed(
-        op, count, a, b, c, items, values, ends, defined, oi, ov,
-    )
+    call_formed(op, count, a, b, c, items, values, ends, defined, oi, ov)
 }
 
 // A call on a pack that has passed.
