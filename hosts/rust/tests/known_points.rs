@@ -1,6 +1,8 @@
 //! Document 01's sample pack, known points and misreadings, through the safe interface.
 mod common;
 
+use std::slice::from_ref;
+
 use common::{int, pack, sheet, six_items, SAMPLE, VOID_SLOTS};
 use ink_operators::{op, Forecast, Kind, Pack, Refusal, Value, Workspace};
 use Value::{Bool, Float, Int, Void};
@@ -101,10 +103,10 @@ fn lists() {
     assert_eq!(p.call(op::SUBTRACT, &[a.clone(), b.clone()]), Ok(Value::list(1, &[(0, 1)])));
     assert_eq!(p.call(op::INTERSECT, &[a.clone(), b.clone()]), Ok(Value::list(1, &[(2, 3)])));
     assert_eq!(p.call(op::ADD, &[a.clone(), Int(1)]), Ok(Value::list(1, &[(1, 2)])));
-    assert_eq!(p.call(op::ALL, &[a.clone()]), Ok(Value::list(1, &[(0, 1), (1, 2), (2, 3)])));
-    assert_eq!(p.call(op::INVERT, &[a.clone()]), Ok(Value::list(1, &[(1, 2)])));
-    assert_eq!(p.call(op::COUNT, &[a.clone()]), Ok(Int(2)));
-    assert_eq!(p.call(op::VALUE_OF_LIST, &[a.clone()]), Ok(Int(3)));
+    assert_eq!(p.call(op::ALL, from_ref(&a)), Ok(Value::list(1, &[(0, 1), (1, 2), (2, 3)])));
+    assert_eq!(p.call(op::INVERT, from_ref(&a)), Ok(Value::list(1, &[(1, 2)])));
+    assert_eq!(p.call(op::COUNT, from_ref(&a)), Ok(Int(2)));
+    assert_eq!(p.call(op::VALUE_OF_LIST, from_ref(&a)), Ok(Int(3)));
     assert_eq!(p.cast(3, &a), Ok(a.clone()));
     assert_eq!(p.cast(1, &a), Ok(Int(3)));
 }
