@@ -27,7 +27,7 @@ fn starred_points() {
     let one = Value::list(1, &[(0, 1)]);
     let cases: &[(u8, &[Value], Result<Value, Refusal>)] = &[
         (op::ADD, &[Bool(true), Bool(true)], Ok(Int(2))),
-        (op::NOT, &[empty.clone()], Ok(Int(1))),
+        (op::NOT, from_ref(&empty), Ok(Int(1))),
         (op::NOT, &[Int(0)], Ok(Bool(true))),
         (op::LESS, &[empty.clone(), empty.clone()], Ok(Bool(false))),
         (op::LESS, &[empty.clone(), one.clone()], Ok(Bool(true))),
