@@ -3,3 +3,4 @@ mod Reading
 mod Clearing
 mod Saying
 mod Few
+mod Duties

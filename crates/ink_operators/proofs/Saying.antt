@@ -8,14 +8,11 @@ use Rattle.ink_value.specs.Val.{Val}
 use Rattle.ink_value.specs.Value.{valOf, placed, Gave}
 use Rattle.ink_value.specs.declared.Value.{Value}
 use Rattle.ink_value.specs.declared.Outcome.{Outcome}
-use Rattle.list_definitions.specs.Defs.{ListDefinitions}
-use Rattle.native_function_call.specs.Lists.{definitions}
-use Rattle.calls.specs.Call.{onPack}
 use Rattle.pack.specs.Format.{format1}
 use Rattle.sheet.specs.Whole.{opened}
 use Rattle.running.specs.Run.{memory, Runs}
 use Rattle.running.specs.declared.Ran.{Ran}
-use Rattle.ink_operators.specs.Answers.{outcomeNumber, outcomeWords, Says, Calls, ranNumber, ranWords, RunSays, Ready}
+use Rattle.ink_operators.specs.Answers.{outcomeNumber, outcomeWords, Says, Calls, ranNumber, ranWords, RunSays}
 
 -- what was written of an outcome
 abbrev pub Put : Outcome → ℕ → List ℕ → Type 0
@@ -56,8 +53,3 @@ run-says p s l m si sv r n ws wi wi′ wv wv′ ri ri′ rv rv′ q w h =
       words = h .1 ∙ ap ranWords (w .ran .answered);
       leaves = subst (λ (x : Ran). Runs (opened format1 p s (memory format1 l si sv wi wv ri rv)) s (map (valOf si sv) l) x wi wi′ wv wv′ ri ri′ rv rv′) (w .ran .answered) w;
     })
-
--- with the definitions of a pack that has passed, a call answers what it answers with the pack
-pub same-call : (p ends : List ℕ) (defined : List ℤ) (f : ListDefinitions → Answer Val) → Ready p ends defined
-    → onPack format1 p f ≡ f (definitions ends defined (format1 .limit))
-same-call p ends defined f r = rw (r .passed, r .ends-are, r .defined-are)

@@ -289,3 +289,86 @@ fn definitions_and_the_checked_calls() {
         assert!((checked.work_items, checked.work_values) == before);
     }
 }
+
+#[test]
+fn the_checked_call_answers_what_the_call_answers() {
+    let pack = bytes(&[vec![1, 2, 3], vec![1, 5]], &[], &[]);
+    let (mut ends, mut defined, mut counts) = ([0u16; 64], [0i32; 256], [0u64; 2]);
+    // SAFETY: the pack is well formed, and the three arrays are lent to the call alone.
+    unsafe {
+        assert_eq!(sys::ink_check(pack.as_ptr(), pack.len()), 0);
+        sys::ink_definitions(pack.as_ptr(), pack.len(), &mut ends, &mut defined, &mut counts);
+    }
+    let (items, values) = ([0u16, 2, 3, 4, 9], [1i32, 3, -1, 5, 0]);
+    let half = 1u64 << 32;
+    let operands: [[u64; 3]; 12] = [
+        [0, 1, 0],
+        [1, 0, 0],
+        [1, 0xffff_ffff, 0],
+        [1, 0x8000_0000, 0],
+        [2, 0x3fc0_0000, 0],
+        [2, 0x7fc0_0000, 0],
+        [3, 3, 4 * half],
+        [3, 2, 2 + 2 * half],
+        [3, 0, 0],
+        [3, 0, 4 + half],
+        [4, 0, 0],
+        [6, 0, 0],
+    ];
+    let mut answered = [0; 19];
+    for op in 0..=33u8 {
+        for (a, b) in operands.iter().flat_map(|a| operands.iter().map(move |b| (a, b))) {
+            for count in 0..=4 {
+                let words: [u64; 9] = [*a, *b, [1, 2, 0]].concat().try_into().unwrap();
+                let (mut one, mut two) = (Run::new(0, 260), Run::new(0, 260));
+                // SAFETY: each pointer and length are those of one slice or array, and what is written is lent to the calls alone; the pack
+                // passed, and its definitions were read.
+                let (whole, checked) = unsafe {
+                    let whole = sys::ink_call(
+                        pack.as_ptr(),
+                        pack.len(),
+                        op,
+                        count,
+                        &words,
+                        items.as_ptr(),
+                        5,
+                        values.as_ptr(),
+                        5,
+                        one.result_items.as_mut_ptr(),
+                        260,
+                        one.result_values.as_mut_ptr(),
+                        260,
+                        &mut one.answer,
+                    );
+                    let checked = sys::ink_call_checked(
+                        ends.as_ptr(),
+                        counts[0] as usize,
+                        defined.as_ptr(),
+                        counts[1] as usize,
+                        op,
+                        count,
+                        &words,
+                        items.as_ptr(),
+                        5,
+                        values.as_ptr(),
+                        5,
+                        two.result_items.as_mut_ptr(),
+                        260,
+                        two.result_values.as_mut_ptr(),
+                        260,
+                        &mut two.answer,
+                    );
+                    (whole, checked)
+                };
+                assert_eq!((whole, one.answer), (checked, two.answer), "{op} of {count}: {words:?}");
+                assert!(one.result_items == two.result_items && one.result_values == two.result_values);
+                let written = if whole == 0 && one.answer[0] == 3 { (one.answer[2] >> 32) as usize } else { 0 };
+                one.results_are(&Run::new(0, 260), written);
+                answered[whole as usize] += 1;
+            }
+        }
+    }
+    // every number that a direct call on a sound pack can answer was met, and no other (16 never is)
+    let met: Vec<usize> = (0..19).filter(|&n| answered[n] > 0).collect();
+    assert_eq!(met, [0, 7, 8, 10, 11, 12, 13, 14, 15]);
+}

@@ -1,6 +1,8 @@
 //! Document 01's sample pack, known points and misreadings, through the safe interface.
 mod common;
 
+use std::slice::from_ref;
+
 use common::{int, pack, sheet, six_items, SAMPLE, VOID_SLOTS};
 use ink_operators::{op, Forecast, Kind, Pack, Refusal, Value, Workspace};
 use Value::{Bool, Float, Int, Void};
@@ -25,7 +27,7 @@ fn starred_points() {
     let one = Value::list(1, &[(0, 1)]);
     let cases: &[(u8, &[Value], Result<Value, Refusal>)] = &[
         (op::ADD, &[Bool(true), Bool(true)], Ok(Int(2))),
-        (op::NOT, &[empty.clone()], Ok(Int(1))),
+        (op::NOT, from_ref(&empty), Ok(Int(1))),
         (op::NOT, &[Int(0)], Ok(Bool(true))),
         (op::LESS, &[empty.clone(), empty.clone()], Ok(Bool(false))),
         (op::LESS, &[empty.clone(), one.clone()], Ok(Bool(true))),
@@ -101,10 +103,10 @@ fn lists() {
     assert_eq!(p.call(op::SUBTRACT, &[a.clone(), b.clone()]), Ok(Value::list(1, &[(0, 1)])));
     assert_eq!(p.call(op::INTERSECT, &[a.clone(), b.clone()]), Ok(Value::list(1, &[(2, 3)])));
     assert_eq!(p.call(op::ADD, &[a.clone(), Int(1)]), Ok(Value::list(1, &[(1, 2)])));
-    assert_eq!(p.call(op::ALL, &[a.clone()]), Ok(Value::list(1, &[(0, 1), (1, 2), (2, 3)])));
-    assert_eq!(p.call(op::INVERT, &[a.clone()]), Ok(Value::list(1, &[(1, 2)])));
-    assert_eq!(p.call(op::COUNT, &[a.clone()]), Ok(Int(2)));
-    assert_eq!(p.call(op::VALUE_OF_LIST, &[a.clone()]), Ok(Int(3)));
+    assert_eq!(p.call(op::ALL, from_ref(&a)), Ok(Value::list(1, &[(0, 1), (1, 2), (2, 3)])));
+    assert_eq!(p.call(op::INVERT, from_ref(&a)), Ok(Value::list(1, &[(1, 2)])));
+    assert_eq!(p.call(op::COUNT, from_ref(&a)), Ok(Int(2)));
+    assert_eq!(p.call(op::VALUE_OF_LIST, from_ref(&a)), Ok(Int(3)));
     assert_eq!(p.cast(3, &a), Ok(a.clone()));
     assert_eq!(p.cast(1, &a), Ok(Int(3)));
 }

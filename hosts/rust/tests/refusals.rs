@@ -1,6 +1,8 @@
 //! Bad input through the safe interface: the numbers, and nothing else.
 mod common;
 
+use std::slice::from_ref;
+
 use common::{bytes, float, int, pack, sheet, six_items, SAMPLE, VOID_SLOTS};
 use ink_operators::{op, Kind, Pack, Refusal, Value, Workspace};
 use Value::{Bool, Int, Void};
@@ -86,11 +88,11 @@ fn malformed_lists() {
             // the sheet number is asked before the slots
             assert_eq!(p.run(&mut workspace, 1, &slots), Err(no(6)));
         }
-        assert_eq!(p.call(op::COUNT, &[list.clone()]), Err(no(7)));
+        assert_eq!(p.call(op::COUNT, from_ref(list)), Err(no(7)));
         assert_eq!(p.call(op::ADD, &[Value::list(0, &[]), list.clone()]), Err(no(7)));
         // 7 comes before 8 and 10
-        assert_eq!(p.call(op::RANGE, &[list.clone()]), Err(no(7)));
-        assert_eq!(p.call(17, &[list.clone()]), Err(no(7)));
+        assert_eq!(p.call(op::RANGE, from_ref(list)), Err(no(7)));
+        assert_eq!(p.call(17, from_ref(list)), Err(no(7)));
         assert_eq!(p.cast(1, list), Err(no(7)));
         assert_eq!(p.coerce_to_int(list), Err(no(7)));
     }
