@@ -111,6 +111,16 @@ uint32_t ink_call_checked(const uint16_t *ends, size_t definitions, const int32_
                           uint16_t *result_items, size_t result_items_len, int32_t *result_values, size_t result_values_len,
                           uint64_t answer[3]);
 
+/* The same without question 7, for operands that are known to be well formed: lists that a call or a run with this pack gave, or
+   that ink_call_checked has taken before. A caller's duty, beside that of ink_call_checked: of the first `count` operands and of the
+   result slices question 7 says yes (lists formed as literals of the pack, the two entry slices equally long, 256 places or more
+   in each result slice). It answers and writes what ink_call_checked does. */
+uint32_t ink_apply(const uint16_t *ends, size_t definitions, const int32_t *defined, size_t items,
+                   uint8_t op, size_t count, const uint64_t operands[9],
+                   const uint16_t *list_items, size_t list_items_len, const int32_t *list_values, size_t list_values_len,
+                   uint16_t *result_items, size_t result_items_len, int32_t *result_values, size_t result_values_len,
+                   uint64_t answer[3]);
+
 #ifdef __cplusplus
 }
 #endif

@@ -6,19 +6,21 @@ mod words;
 
 use pack::Checked;
 ghost use mathlib.Core.Path.{_≡_};
+ghost use mathlib.Core.Bool.{true};
 ghost use mathlib.Core.List.{[], _∷_, map};
+ghost use Prim.Native.Nat.{_≤_};
 ghost use lib.IntN.{pos};
-ghost use lib.ListN.{replicate};
+ghost use lib.ListN.{length, take, replicate};
 ghost use denote.Ref.{now};
 ghost use Rattle.ink_list.specs.Filled.{over};
 ghost use Rattle.ink_value.specs.Convert.{coerceBool, coerceInt, coerceFloat};
 ghost use Rattle.ink_value.specs.Slices.{valIn};
-ghost use Rattle.native_function_call.specs.Lists.{definitionsIn};
+ghost use Rattle.native_function_call.specs.Lists.{definitions, definitionsIn};
 ghost use Rattle.pack.specs.Bodies.{decoded};
 ghost use Rattle.pack.specs.Format.{format1, definitionLimit};
 ghost use Rattle.pack.specs.Judge.{judge};
 ghost use Rattle.pack.specs.Read.{endsOf, definedOf};
-ghost use Rattle.calls.specs.Call.{called, castTo, coerced, onPack, PackLists};
+ghost use Rattle.calls.specs.Call.{operandsOk, called, castTo, coerced, onPack, PackLists};
 ghost use Rattle.sheet.specs.Whole.{opened};
 ghost use Rattle.running.specs.Run.{memory};
 ghost use Rattle.ink_operators.specs.Words.{valueAt, slotsIn};
@@ -266,6 +268,45 @@ pub extern "C" fn ink_call_checked(
     let b = words::operand_at(operands, 1);
     let c = words::operand_at(operands, 2);
     let outcome = calls::call_with(
+        op,
+        count,
+        a,
+        b,
+        c,
+        items,
+        values,
+        ends,
+        defined,
+        result_items,
+        result_values,
+    );
+    answers::outcome(outcome, answer)
+}
+
+// The same on operands and result slices of which question 7 says yes.
+#[no_mangle]
+pub extern "C" fn ink_apply(
+    ends: &[u16],
+    defined: &[i32],
+    op: u8,
+    count: usize,
+    operands: &[u64; 9],
+    items: &[u16],
+    values: &[i32],
+    result_items: &mut [u16],
+    result_values: &mut [i32],
+    answer: &mut [u64; 3],
+) -> u32
+    requires { ⌜ PackLists (now ends) (now defined) ⌝ }
+    requires { ⌜ operandsOk (definitions (now ends) (now defined) (format1 .limit)) (now items) (now values) (take count (operandsIn (now operands))) ≡ true ⌝ }
+    requires { ⌜ (format1 .limit ≤ length (now «result_items»)) × (format1 .limit ≤ length (now «result_values»)) ⌝ }
+    ensures { λ r. ⌜ Calls (called (now (items .entry)) (now (values .entry)) (now («result_items» .entry)) (now («result_values» .entry)) op count (operandsIn (now (operands .entry))) (definitionsIn ends defined (format1 .limit)))
+        r (now (answer .exit)) (now («result_items» .entry)) (now («result_items» .exit)) (now («result_values» .entry)) (now («result_values» .exit)) ⌝ }
+{
+    let a = words::operand_at(operands, 0);
+    let b = words::operand_at(operands, 1);
+    let c = words::operand_at(operands, 2);
+    let outcome = calls::call_formed(
         op,
         count,
         a,
