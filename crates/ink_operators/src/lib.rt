@@ -5,6 +5,8 @@ mod ready;
 mod words;
 
 use pack::Checked;
+use pack::format::DEFINITION_LIMIT;
+use pack::format::FORMAT1;
 ghost use mathlib.Core.Path.{_≡_};
 ghost use mathlib.Core.Bool.{true};
 ghost use mathlib.Core.List.{[], _∷_, map};
@@ -198,8 +200,8 @@ pub extern "C" fn ink_definitions(
     requires { ⌜ Passed (now pack) ⌝ }
     ensures { λ _. ⌜ Reads (decoded format1 (now (pack .entry))) (now (ends .exit)) (now (defined .exit)) (now (counts .exit)) ⌝ }
 {
-    let mut e = [0u16; 64];
-    let mut d = [0i32; 256];
+    let mut e = [0u16; DEFINITION_LIMIT];
+    let mut d = [0i32; FORMAT1.limit];
     let read = pack_read::read_definitions(pack, &mut e, &mut d);
     *ends = e;
     *defined = d;

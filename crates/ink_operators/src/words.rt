@@ -1,12 +1,10 @@
 // Values as words: three for each, the code of its kind, what it holds, and where a List's entries stand.
 use ink_value::Value;
+use pack::format::SLOT_LIMIT;
 ghost use mathlib.Core.Path.{_≡_};
 ghost use mathlib.Core.List.{[], _∷_};
 ghost use Prim.Native.Nat.{_<_, _+_, _*_, _^_};
 ghost use Rattle.ink_operators.specs.Words.{unheld, boolAt, intAt, floatAt, voidAt, plainAt, valueOf, valueAt, slotsIn, bitOf, wordsOf, Small};
-
-// The slots of a run.
-const SLOTS: usize = 16;
 
 // A start and a length stand in one word, the start in the lower half.
 const HALF: u64 = 0x1_0000_0000;
@@ -113,9 +111,9 @@ pub fn slots_in(words: &[u64; 48]) -> [Value; 16]
     ensures { λ r. ⌜ r ≡ slotsIn (now (words .entry)) ⌝ }
 {
     let void = Value::Void;
-    let mut slots = [void; SLOTS];
+    let mut slots = [void; SLOT_LIMIT];
     let mut k: usize = 0;
-    while k < SLOTS {
+    while k < SLOT_LIMIT {
         let v = slot_at(words, k);
         slots[k] = v;
         k += 1;

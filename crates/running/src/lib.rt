@@ -223,7 +223,7 @@ pub fn run_checked(
 }
 
 // The places of the work slices: the entries of the list at each place of the stack.
-const WORK_LIMIT: usize = STACK_LIMIT * ITEM_LIMIT;
+pub const WORK_LIMIT: usize = STACK_LIMIT * ITEM_LIMIT;
 
 // Question 7 of the slots.
 pub fn all_formed(

@@ -30,9 +30,13 @@ forecast (st ∷ sts) = length st ∷ topCode st ∷ forecast sts
 abbrev pub Begins : List ℕ → List (List Kind) → Type 0
 Begins f ks = (i : ℕ) → i < 2 * length ks → getD f i 0 ≡ getD (forecast ks) i 0
 
--- a run stops with 15 or 16, at an index of which P holds
+-- "15 or 16", which depend on values: x is the end, or the answer, that f gives for one of them at an index of which P holds
+abbrev pub ByValue : {X : Type 0} → (ℕ → ℕ → X) → (ℕ → Type 0) → X → Type 0
+ByValue f P x = (i : ℕ) × P i × ((x ≡ f 15 i) ⊎ (x ≡ f 16 i))
+
+-- a run stops with one of them
 abbrev pub StopsByValue : (ℕ → Type 0) → End Val → Type 0
-StopsByValue P e = (i : ℕ) × P i × ((e ≡ stopped 15 i) ⊎ (e ≡ stopped 16 i))
+StopsByValue = ByValue stopped
 
 -- what an answer, with the forecast's bytes f, says of the run of a sheet of n instructions. Passed: after every instruction that the run
 -- completes, count and top kind are those forecast for it; and the run ends in one value of the kind forecast last, or stops with 15 or 16.

@@ -5,8 +5,12 @@ use pack::Checked;
 use printing::natural;
 use printing::text;
 use running::Ran;
+use running::WORK_LIMIT;
 ghost use Rattle.pack.specs.Format.{format1};
 ghost use Rattle.pack.specs.Judge.{Sound};
+
+// The most entries of a list.
+const ITEM_LIMIT: usize = pack::format::FORMAT1.limit;
 
 fn answer(r: Ran, items: &[u16], values: &[i32]) {
     match r {
@@ -25,10 +29,10 @@ fn answer(r: Ran, items: &[u16], values: &[i32]) {
 fn sheet_line(pack: &[u8], sheet: usize) {
     let no_items = [0u16; 1];
     let no_values = [0i32; 1];
-    let mut work_items = [0u16; 16384];
-    let mut work_values = [0i32; 16384];
-    let mut items = [0u16; 256];
-    let mut values = [0i32; 256];
+    let mut work_items = [0u16; WORK_LIMIT];
+    let mut work_values = [0i32; WORK_LIMIT];
+    let mut items = [0u16; ITEM_LIMIT];
+    let mut values = [0i32; ITEM_LIMIT];
     let r = running::run(
         pack,
         sheet,

@@ -31,7 +31,7 @@ use Rattle.pack.proofs.Values.{pack-tables}
 use Rattle.sheet.specs.Machine.{stackLimit, topped, stepOp, stepPush, step}
 use Rattle.sheet.specs.Stack.{stackOf}
 use Rattle.sheet.proofs.Stack.{op-unknown, op-few, op-one, op-two, op-three, stack-length, getD-any}
-use Rattle.stepping.specs.Steps.{ByStep, Answered, StepBy, Steps, Tops, TopsFormed, Picks, Known, startAt, Put, pushed, Inputs}
+use Rattle.stepping.specs.Steps.{AnswerCase, Answered, StepCase, Steps, Tops, TopsFormed, Picks, Known, startAt, Put, pushed, Inputs}
 use Rattle.stepping.specs.declared.Step.{Step}
 use Rattle.stepping.specs.declared.Step.the-variants as St
 use Rattle.stepping.proofs.Putting.{Plain}
@@ -127,7 +127,7 @@ pub steps-of : (n place : ℕ) (a : Answer Val) (b : Answer (List Val)) (f : ℕ
     → topped (stackOf f place) a ≡ b → place ≤ n → Answered a place r wi wi′ wv wv′ → Steps n b f r wi wi′ wv wv′
 steps-of n place a b f r wi wi′ wv wv′ e h w = record { by = go r (w .by) }
   where
-    go : (r : Step) → ByStep a place r wi wi′ wv wv′ → StepBy n b f r wi wi′ wv wv′
+    go : (r : Step) → AnswerCase a place r wi wi′ wv wv′ → StepCase n b f r wi wi′ wv wv′
     go (St.Put p v) x =
         record {
           value = x .value;

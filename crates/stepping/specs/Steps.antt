@@ -70,12 +70,12 @@ pub record PutAt (a : Answer Val) (place p : ℕ) (v : Value) (wi wi′ : List �
   pub depth : place < stackLimit
   pub put : Put value (startAt place) v wi wi′ wv wv′
 
-abbrev pub ByStep : Answer Val → ℕ → Step → List ℕ → List ℕ → List ℤ → List ℤ → Type 0
-ByStep a place (St.Put p v) wi wi′ wv wv′ = PutAt a place p v wi wi′ wv wv′
-ByStep a place (St.No q) wi wi′ wv wv′ = Refuses a q wi wi′ wv wv′
+abbrev pub AnswerCase : Answer Val → ℕ → Step → List ℕ → List ℕ → List ℤ → List ℤ → Type 0
+AnswerCase a place (St.Put p v) wi wi′ wv wv′ = PutAt a place p v wi wi′ wv wv′
+AnswerCase a place (St.No q) wi wi′ wv wv′ = Refuses a q wi wi′ wv wv′
 
 pub record Answered (a : Answer Val) (place : ℕ) (r : Step) (wi wi′ : List ℕ) (wv wv′ : List ℤ) : Type 0 where
-  pub by : ByStep a place r wi wi′ wv wv′
+  pub by : AnswerCase a place r wi wi′ wv wv′
 
 -- a push on a stack of n: question 9
 abbrev pub pushed : ℕ → Val → Answer Val
@@ -89,12 +89,12 @@ pub record Grown (n : ℕ) (a : Answer (List Val)) (f : ℕ → Val) (p : ℕ) (
   pub depth : p < stackLimit
   pub put : Put value (startAt p) v wi wi′ wv wv′
 
-abbrev pub StepBy : ℕ → Answer (List Val) → (ℕ → Val) → Step → List ℕ → List ℕ → List ℤ → List ℤ → Type 0
-StepBy n a f (St.Put p v) wi wi′ wv wv′ = Grown n a f p v wi wi′ wv wv′
-StepBy n a f (St.No q) wi wi′ wv wv′ = Refuses a q wi wi′ wv wv′
+abbrev pub StepCase : ℕ → Answer (List Val) → (ℕ → Val) → Step → List ℕ → List ℕ → List ℤ → List ℤ → Type 0
+StepCase n a f (St.Put p v) wi wi′ wv wv′ = Grown n a f p v wi wi′ wv wv′
+StepCase n a f (St.No q) wi wi′ wv wv′ = Refuses a q wi wi′ wv wv′
 
 pub record Steps (n : ℕ) (a : Answer (List Val)) (f : ℕ → Val) (r : Step) (wi wi′ : List ℕ) (wv wv′ : List ℤ) : Type 0 where
-  pub by : StepBy n a f r wi wi′ wv wv′
+  pub by : StepCase n a f r wi wi′ wv wv′
 
 -- the three topmost of a stack of n, as far as there are three
 pub record Tops (wi : List ℕ) (wv : List ℤ) (third second top : Value) (n : ℕ) (f : ℕ → Val) : Type 0 where

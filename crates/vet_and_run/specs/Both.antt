@@ -13,7 +13,7 @@ use Rattle.ink_value.specs.declared.Value.{Value}
 use Rattle.pack.specs.Bodies.{Pack}
 use Rattle.pack.specs.Format.{format1}
 use Rattle.pack.specs.Judge.{judge}
-use Rattle.sheet.specs.Foretold.{Foretold}
+use Rattle.sheet.specs.Foretold.{ByValue, Foretold}
 use Rattle.sheet.specs.Whole.{opened, countOf, sheetRun}
 use Rattle.vetting.specs.Vet.{Answers, verdictOf, memory as vettingMemory}
 use Rattle.vetting.specs.declared.Vetted.{Vetted}
@@ -23,9 +23,9 @@ use Rattle.running.specs.declared.Ran.{Ran}
 use Rattle.running.specs.declared.Ran.the-variants as Rn
 use Rattle.vet_and_run.specs.declared.VettedRun.{VettedRun}
 
--- a run's answer is 15 or 16, at an index of which P holds
+-- a run's answer is 15 or 16
 abbrev pub StoppedByValue : (ℕ → Type 0) → Ran → Type 0
-StoppedByValue P r = (i : ℕ) × P i × ((r ≡ Rn.Stopped 15 i) ⊎ (r ≡ Rn.Stopped 16 i))
+StoppedByValue = ByValue Rn.Stopped
 
 -- what vetting's answer, with the forecast's bytes f, says of the run's answer. Passed: "the run ends in one value of the kind forecast last or
 -- stops with 15 or 16"; turned back with q at k: "the run stops before k with 15 or 16, or exactly at k with" q

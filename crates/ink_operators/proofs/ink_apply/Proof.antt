@@ -24,7 +24,8 @@ operand-at-requires-3 c κs = search needs
 call-formed-requires : tie.Need-call-formed-requires
 call-formed-requires c κs =
     let s = c .before .before .before .before .before .before .before .before in (
-      s .pre .0, (
+      s .pre .0,
+      (
         operands (λ (l : List Value). operandsOk (definitions (s .args .ends .now) (s .args .defined .now) (format1 .limit)) (s .args .items .now) (s .args .values .now) (take (s .args .count) l)) _ _ _ _ _ _ (c .before .before .before .before .operand-at .ensures) (c .before .before .before .operand-at2 .ensures) (c .before .before .operand-at3 .ensures) ∙ s .pre .1 .0,
         s .pre .1 .1,
       ),
