@@ -34,7 +34,8 @@
 extern "C" {
 #endif
 
-/* The places that slices must have at least, or question 7 says no. */
+/* The places that slices must have at least, or question 7 says no: each of the two result slices, each of the two work slices, and the
+ * forecast of vetting. */
 #define INK_RESULT_PLACES 256
 #define INK_WORK_PLACES 16384
 #define INK_FORECAST_BYTES 2048
@@ -75,12 +76,18 @@ uint32_t ink_cast(const uint8_t *pack, size_t pack_len, uint8_t code, const uint
                   uint16_t *result_items, size_t result_items_len, int32_t *result_values, size_t result_values_len,
                   uint64_t answer[3]);
 
-/* Coerce one operand to a Bool (Bool and Int only, and only Int 1 is true), an Int or a Float (not List or Void): questions 1 to 5, 7 and
- * 18. `answer` is always written, and nothing else. */
+/* Coerces one operand to a Bool: Bool and Int only, and only Int 1 is true. Questions 1 to 5, 7 and 18. `answer` is always written, and
+ * nothing else. */
 uint32_t ink_coerce_to_bool(const uint8_t *pack, size_t pack_len, const uint64_t operand[3],
                             const uint16_t *items, size_t items_len, const int32_t *values, size_t values_len, uint64_t answer[3]);
+
+/* Coerces one operand to an Int: not List or Void; a Float is cut toward zero and held within the range of an Int, NaN is 0. Questions 1
+ * to 5, 7 and 18. `answer` is always written, and nothing else. */
 uint32_t ink_coerce_to_int(const uint8_t *pack, size_t pack_len, const uint64_t operand[3],
                            const uint16_t *items, size_t items_len, const int32_t *values, size_t values_len, uint64_t answer[3]);
+
+/* Coerces one operand to a Float: not List or Void; an Int goes to the nearest, ties to the even significand. Questions 1 to 5, 7 and 18.
+ * `answer` is always written, and nothing else. */
 uint32_t ink_coerce_to_float(const uint8_t *pack, size_t pack_len, const uint64_t operand[3],
                              const uint16_t *items, size_t items_len, const int32_t *values, size_t values_len, uint64_t answer[3]);
 

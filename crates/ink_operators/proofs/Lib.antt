@@ -4,3 +4,4 @@ mod Clearing
 mod Saying
 mod Few
 mod Duties
+mod Round
