@@ -21,7 +21,7 @@ returns c =
     ap (λ (z : ℤ). Out.Value (Is.Int z)) (returned (c .known-told .given .0 .1)) ∙ sym (ap (λ d. placed (ofInt (divided d))) (c .before .d .given .1))
 
 returns-2 : tie.Need-returns-2
-returns-2 c = search needs
+returns-2 c = sym (ap (λ d. placed (ofInt (divided d))) (c .enum-told .given .1))
 
 pub whole-outcome-spec : {M : Type 1} → statement M
 whole-outcome-spec = tie.close (tie.spec enum-known-d enum-told returns returns-2)
