@@ -136,6 +136,24 @@ unsafe extern "C" {
         result_values_len: usize,
         answer: *mut u64,
     ) -> u32;
+    fn ink_apply(
+        ends: *const u16,
+        definitions: usize,
+        defined: *const i32,
+        total: usize,
+        op: u8,
+        count: usize,
+        operands: *const u64,
+        items: *const u16,
+        items_len: usize,
+        values: *const i32,
+        values_len: usize,
+        result_items: *mut u16,
+        result_items_len: usize,
+        result_values: *mut i32,
+        result_values_len: usize,
+        answer: *mut u64,
+    ) -> u32;
 }
 
 const GUARD: usize = 8;
@@ -249,8 +267,14 @@ impl Port {
             return Some(what);
         }
         let (d, n) = (defs.values.len(), defs.items());
-        self.ask_checked(pack, &ends[..d], &defined[..n], ask);
-        self.compare(ask, owed, true).map(|what| format!("checked: {what}"))
+        self.ask_checked(pack, &ends[..d], &defined[..n], ask, false);
+        let differing = self.compare(ask, owed, true).map(|what| format!("checked: {what}"));
+        // `ink_apply` is for operands and slices of which question 7 says yes
+        if differing.is_some() || owed.number == 7 || !matches!(ask, Ask::Call { .. }) {
+            return differing;
+        }
+        self.ask_checked(pack, &ends[..d], &defined[..n], ask, true);
+        self.compare(ask, owed, true).map(|what| format!("applied: {what}"))
     }
 
     fn prepare(&mut self, ask: &Ask) {
@@ -346,7 +370,7 @@ impl Port {
         };
     }
 
-    fn ask_checked(&mut self, pack: &[u8], ends: &[u16], defined: &[i32], ask: &Ask) {
+    fn ask_checked(&mut self, pack: &[u8], ends: &[u16], defined: &[i32], ask: &Ask, formed: bool) {
         self.prepare(ask);
         let (wi, wv) = (&mut self.work_items, &mut self.work_values);
         let (ri, rv) = (&mut self.result_items, &mut self.result_values);
@@ -382,7 +406,8 @@ impl Port {
                 }
             }
             Ask::Call { op, count, operands, lent, .. } => unsafe {
-                ink_call_checked(
+                let call = if formed { ink_apply } else { ink_call_checked };
+                call(
                     ends.as_ptr(),
                     ends.len(),
                     defined.as_ptr(),
