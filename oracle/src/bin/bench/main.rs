@@ -38,7 +38,9 @@ struct Ours<'a> {
 impl Bench {
     /// Times the port's sides beside the original's, in the same rounds.
     fn measure(&mut self, group: Group, name: &str, entries: usize, bytes: usize, ours: Vec<Ours>, rust: Option<Side>) {
-        if !report::title(name, entries).contains(&self.options.only) {
+        let title = report::title(name, entries);
+        let only = &self.options.only;
+        if !(only.is_empty() || title == *only || entries == 0 && name.contains(only) || name == only) {
             return;
         }
         if self.options.spin > 0 {
@@ -119,13 +121,27 @@ impl Bench {
 
     /// Vetting, which the original does not have.
     fn vet(&mut self, name: &str, entries: usize, port: &Checked) {
+        let name = &format!("vetting: {name}");
         let mut lent = Lent::new();
         assert_eq!(port.vet(&mut lent), 0, "{name} passes");
         let side = side(|| {
             black_box(port.vet(&mut lent));
             black_box(&mut lent);
         });
-        self.measure(Group::Vetting, name, entries, port.bytes(), vec![Ours { through: "ink_vet", aim: None, side }], None);
+        self.measure(Group::Alone, name, entries, 0, vec![Ours { through: "ink_vet", aim: None, side }], None);
+    }
+
+    /// A sheet that pushes an Int: what a run costs beside its instructions.
+    fn least_run(&mut self) {
+        let port = packed(&Defs::default(), &words("3", &[]));
+        for (through, public) in [("ink_run_checked", false), ("ink_run", true)] {
+            let mut lent = Lent::new();
+            let side = side(|| {
+                black_box(port.run(public, &mut lent));
+                black_box(&mut lent);
+            });
+            self.measure(Group::Alone, "1 instruction", 0, 0, vec![Ours { through, aim: None, side }], None);
+        }
     }
 
     fn check(&mut self, name: &str, pack: Vec<u8>) {
@@ -340,6 +356,7 @@ fn sheets(bench: &mut Bench) {
     for (name, entries, defs, words) in &all {
         bench.sheet(name, *entries, defs, words);
     }
+    bench.least_run();
     for (name, entries, defs, words) in &all {
         bench.vet(name, *entries, &packed(defs, words));
     }

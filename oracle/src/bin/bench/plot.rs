@@ -33,9 +33,18 @@ impl Frame {
         while value <= self.most * 1.001 {
             let (y, right) = (self.y(value), self.left + self.width);
             writeln!(svg, r##"<line x1="{}" y1="{y:.1}" x2="{right}" y2="{y:.1}" stroke="#dddddd"/>"##, self.left).unwrap();
-            text(svg, self.left - 6.0, y + 4.0, "end", 11, GREY, &format!("{value}{unit}"));
+            text(svg, self.left - 6.0, y + 4.0, "end", 11, GREY, &format!("{}{unit}", grouped(value)));
             value *= 10.0;
         }
+    }
+}
+
+/// A power of ten, with a comma before the last three digits.
+fn grouped(value: f64) -> String {
+    let plain = if value < 1.0 { format!("{value:.1}") } else { format!("{value:.0}") };
+    match plain.len() {
+        4.. => format!("{},{}", &plain[..plain.len() - 3], &plain[plain.len() - 3..]),
+        _ => plain,
     }
 }
 
@@ -53,7 +62,7 @@ fn slanted(svg: &mut String, x: f64, y: f64, words: &str) {
     .unwrap();
 }
 
-/// Bars of one name side by side, one for each size; a line across a bar is its aim.
+/// Bars from 1× on, up or down, those of one name side by side, one for each size; a line across a bar is its aim.
 fn bars(svg: &mut String, frame: &Frame, groups: &[(&str, Vec<&Row>)]) {
     frame.lines(svg, "×");
     let places: usize = groups.iter().map(|g| g.1.len() + 1).sum();
@@ -62,8 +71,8 @@ fn bars(svg: &mut String, frame: &Frame, groups: &[(&str, Vec<&Row>)]) {
     for (name, rows) in groups {
         let middle = x + step * rows.len() as f64 / 2.0;
         for row in rows {
-            let (y, colour) = (frame.y(row.score()), colour(row.entries));
-            let (wide, tall) = (step * 0.92, frame.bottom() - y);
+            let (even, y, colour) = (frame.y(1.0), frame.y(row.score()), colour(row.entries));
+            let (y, wide, tall) = (y.min(even), step * 0.92, (y - even).abs());
             writeln!(svg, r#"<rect x="{x:.1}" y="{y:.1}" width="{wide:.1}" height="{tall:.1}" fill="{colour}"/>"#).unwrap();
             if let Some(aim) = row.aim {
                 let y = frame.y(aim);
@@ -145,12 +154,13 @@ pub fn svg(rows: &[Row]) -> String {
     text(&mut svg, 20.0, 28.0, "start", 16, "#222222", &format!("How many times as fast as the Rust: operators, by {through}"));
     let sizes = [(GREY, "numbers"), (COLOURS[0], "5 entries"), (COLOURS[1], "50"), (COLOURS[2], "250"), (RUST, "the aim")];
     legend(&mut svg, 620.0, 28.0, &sizes);
-    let frame = Frame { left: 70.0, top: 50.0, width: WIDTH - 90.0, height: 350.0, least: 1.0, most: 1_000.0 };
+    let most = operators.iter().flat_map(|g| &g.1).map(|r| r.score()).fold(100.0, f64::max);
+    let frame = Frame { left: 70.0, top: 50.0, width: WIDTH - 90.0, height: 350.0, least: 0.1, most: most * 1.1 };
     bars(&mut svg, &frame, &operators);
 
     let (growing, through) = named(rows, Group::Growth);
     text(&mut svg, 20.0, 528.0, "start", 16, "#222222", &format!("Union of n entries and n others, by {through}"));
-    legend(&mut svg, 400.0, 528.0, &[(OURS, "this"), (RUST, "the Rust")]);
+    legend(&mut svg, 110.0, 572.0, &[(OURS, "this"), (RUST, "the Rust")]);
     let frame = Frame { left: 90.0, top: 545.0, width: 440.0, height: 290.0, least: 10.0, most: 100_000.0 };
     if let Some((_, rows)) = growing.first() {
         growth(&mut svg, &frame, rows);
@@ -159,7 +169,7 @@ pub fn svg(rows: &[Row]) -> String {
 
     let (sheets, through) = named(rows, Group::Sheets);
     text(&mut svg, 600.0, 528.0, "start", 16, "#222222", &format!("Sheets, by {through}"));
-    let frame = Frame { left: 660.0, top: 545.0, width: 500.0, height: 260.0, least: 1.0, most: 1_000.0 };
+    let frame = Frame { left: 660.0, top: 545.0, width: 500.0, height: 260.0, least: 0.1, most: 1_000.0 };
     bars(&mut svg, &frame, &sheets);
     svg + "</svg>\n"
 }

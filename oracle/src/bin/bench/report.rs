@@ -7,18 +7,19 @@ pub enum Group {
     Numbers,
     Lists,
     Sheets,
-    Vetting,
+    Alone,
     Checks,
     Growth,
 }
 
-const GROUPS: [(Group, &str); 6] = [
-    (Group::Numbers, "Numbers"),
-    (Group::Lists, "Lists"),
-    (Group::Sheets, "Sheets"),
-    (Group::Vetting, "Vetting"),
-    (Group::Checks, "Pack check"),
-    (Group::Growth, "Growth"),
+/// A group's heading, and what its first column has where there is no Rust beside it.
+const GROUPS: [(Group, &str, &str); 6] = [
+    (Group::Numbers, "Numbers", "ratio"),
+    (Group::Lists, "Lists", "ratio"),
+    (Group::Sheets, "Sheets", "ratio"),
+    (Group::Growth, "Growth", "ratio"),
+    (Group::Alone, "Without a counterpart", "M/s"),
+    (Group::Checks, "Pack check", "MB/s"),
 ];
 
 pub struct Row {
@@ -36,11 +37,11 @@ pub struct Row {
 }
 
 impl Row {
-    /// What the aim is for: how many times as fast as the original, or megabytes in a second.
+    /// How many times as fast as the original; without one, megabytes or millions of calls in a second.
     pub fn score(&self) -> f64 {
         match self.rust {
             Some(rust) => rust.least / self.ours.least,
-            None => self.bytes as f64 * 1e3 / self.ours.least,
+            None => self.bytes.max(1) as f64 * 1e3 / self.ours.least,
         }
     }
     /// The greater of the two sides' noises, in percent.
@@ -57,9 +58,9 @@ impl Row {
     fn fields(&self) -> [String; 7] {
         let score = self.score();
         [
-            if score < 99.95 { format!("{score:.1}") } else { format!("{score:.0}") },
-            nanoseconds(self.ours.least),
-            self.rust.map_or("-".to_string(), |t| nanoseconds(t.least)),
+            if score < 0.995 { format!("{score:.2}") } else { short(score, 99.95) },
+            short(self.ours.least, 999.95),
+            self.rust.map_or("-".to_string(), |t| short(t.least, 999.95)),
             format!("{:.0} %", self.noise()),
             self.title(),
             self.aim.map_or(String::new(), |aim| aim.to_string()),
@@ -72,8 +73,9 @@ pub fn title(name: &str, entries: usize) -> String {
     if entries == 0 { name.to_string() } else { format!("{name} {entries}") }
 }
 
-fn nanoseconds(t: f64) -> String {
-    if t < 999.95 { format!("{t:.1}") } else { format!("{t:.0}") }
+/// With one decimal below a bound.
+fn short(x: f64, bound: f64) -> String {
+    if x < bound { format!("{x:.1}") } else { format!("{x:.0}") }
 }
 
 impl fmt::Display for Row {
@@ -87,13 +89,12 @@ impl fmt::Display for Row {
 /// A table's heading, the name of its first column, and its rows.
 fn tables(rows: &[Row]) -> Vec<(String, &'static str, Vec<&Row>)> {
     let mut all = Vec::new();
-    for (group, name) in GROUPS {
+    for (group, name, first) in GROUPS {
         let mut functions: Vec<&str> = rows.iter().filter(|r| r.group == group).map(|r| r.through).collect();
         functions.sort();
         functions.dedup();
         for through in functions {
             let these: Vec<&Row> = rows.iter().filter(|r| r.group == group && r.through == through).collect();
-            let first = if these[0].rust.is_some() { "ratio" } else { "MB/s" };
             all.push((format!("{name}, by {through}"), first, these));
         }
     }
