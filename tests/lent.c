@@ -147,6 +147,14 @@ static void call(const uint8_t *pack, size_t len, const struct checked *c, uint8
         calls++;
         uint32_t m = ink_call_checked(c->ends, c->definitions, c->defined, c->items, op, count, operands, PAIR(lent), PAIR(again), second);
         same(number, answer, result, m, second, again);
+#ifdef INK_APPLY
+        /* its caller's duty is that question 7 says yes */
+        if (m != 7) {
+            calls++;
+            m = ink_apply(c->ends, c->definitions, c->defined, c->items, op, count, operands, PAIR(lent), PAIR(again), second);
+            same(number, answer, result, m, second, again);
+        }
+#endif
     }
     release(again);
     free(answer);
