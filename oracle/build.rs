@@ -41,9 +41,11 @@ fn main() {
     );
     fs::write(PathBuf::from(env::var_os("OUT_DIR").unwrap()).join("ink_modules.rs"), text).unwrap();
 
-    // only `compare` calls the port
+    // only these call the port
     let archive = folder("INK_LIB_DIR", "../target/staticlib").join("libink_operators.a");
     println!("cargo:rerun-if-changed={}", archive.display());
-    println!("cargo:rustc-link-arg-bin=compare={}", archive.display());
-    println!("cargo:rustc-link-arg-bin=compare=-lm");
+    for bin in ["compare", "bench"] {
+        println!("cargo:rustc-link-arg-bin={bin}={}", archive.display());
+        println!("cargo:rustc-link-arg-bin={bin}=-lm");
+    }
 }

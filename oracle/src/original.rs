@@ -355,3 +355,43 @@ pub fn kind(op: u8, kinds: &[u8]) -> Result<u8, u8> {
     let k = |i: usize| kinds.get(i).map_or(0, |k| *k as usize);
     table[op as usize * 125 + k(0) * 25 + k(1) * 5 + k(2)]
 }
+
+/// The original's own calls and objects, for timing.
+pub mod bare {
+    use super::{InkList, StoryError};
+    pub use super::{OPS, World};
+    pub use crate::{native_function_call::NativeFunctionCall, object::RTObject, value::Value, value_type::ValueType};
+    pub use std::rc::Rc;
+
+    #[inline(always)]
+    pub fn call(f: &NativeFunctionCall, params: Vec<Rc<dyn RTObject>>) -> Result<Rc<dyn RTObject>, StoryError> {
+        f.call(params)
+    }
+
+    pub fn parameters(f: &NativeFunctionCall) -> usize {
+        f.get_number_of_parameters()
+    }
+
+    pub fn range(l: &InkList, low: &ValueType, high: &ValueType) -> InkList {
+        l.list_with_sub_range(low, high)
+    }
+
+    pub fn as_list(o: &Rc<dyn RTObject>) -> Option<&InkList> {
+        Value::get_value::<&InkList>(o.as_ref())
+    }
+
+    /// What the runtime does when it pushes a list, reconstructed, since that file is not among the published ones: the
+    /// list's origins become those of its items.
+    pub fn set_origins(world: &World, o: &Rc<dyn RTObject>) {
+        if let Some(list) = as_list(o) {
+            let names = list.get_origin_names();
+            let mut origins = list.origins.borrow_mut();
+            origins.clear();
+            for n in &names {
+                if !origins.iter().any(|d| d.get_name() == n) {
+                    origins.push(world.origins.get_list_definition(n).unwrap().clone());
+                }
+            }
+        }
+    }
+}

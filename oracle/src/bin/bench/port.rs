@@ -1,0 +1,322 @@
+//! The port: this repository's compiled code, called through its C interface (hosts/include/ink_operators.h).
+use ink_oracle::values::{LIST, List, Val};
+use std::hint::black_box;
+
+unsafe extern "C" {
+    fn ink_check(pack: *const u8, pack_len: usize) -> u32;
+    fn ink_vet(
+        pack: *const u8,
+        pack_len: usize,
+        sheet: usize,
+        kinds: *const u8,
+        forecast: *mut u8,
+        forecast_len: usize,
+        index: *mut u64,
+    ) -> u32;
+    fn ink_run(
+        pack: *const u8,
+        pack_len: usize,
+        sheet: usize,
+        slots: *const u64,
+        slot_items: *const u16,
+        slot_items_len: usize,
+        slot_values: *const i32,
+        slot_values_len: usize,
+        work_items: *mut u16,
+        work_items_len: usize,
+        work_values: *mut i32,
+        work_values_len: usize,
+        result_items: *mut u16,
+        result_items_len: usize,
+        result_values: *mut i32,
+        result_values_len: usize,
+        answer: *mut u64,
+    ) -> u32;
+    fn ink_definitions(pack: *const u8, pack_len: usize, ends: *mut u16, defined: *mut i32, counts: *mut u64);
+    fn ink_run_checked(
+        pack: *const u8,
+        pack_len: usize,
+        ends: *const u16,
+        definitions: usize,
+        defined: *const i32,
+        items: usize,
+        sheet: usize,
+        slots: *const u64,
+        slot_items: *const u16,
+        slot_items_len: usize,
+        slot_values: *const i32,
+        slot_values_len: usize,
+        work_items: *mut u16,
+        work_items_len: usize,
+        work_values: *mut i32,
+        work_values_len: usize,
+        result_items: *mut u16,
+        result_items_len: usize,
+        result_values: *mut i32,
+        result_values_len: usize,
+        answer: *mut u64,
+    ) -> u32;
+}
+
+/// `ink_call_checked` and `ink_apply`, which take the same.
+type Call = unsafe extern "C" fn(
+    ends: *const u16,
+    definitions: usize,
+    defined: *const i32,
+    total: usize,
+    op: u8,
+    count: usize,
+    operands: *const u64,
+    items: *const u16,
+    items_len: usize,
+    values: *const i32,
+    values_len: usize,
+    result_items: *mut u16,
+    result_items_len: usize,
+    result_values: *mut i32,
+    result_values_len: usize,
+    answer: *mut u64,
+) -> u32;
+
+unsafe extern "C" {
+    fn ink_call_checked(
+        ends: *const u16,
+        definitions: usize,
+        defined: *const i32,
+        total: usize,
+        op: u8,
+        count: usize,
+        operands: *const u64,
+        items: *const u16,
+        items_len: usize,
+        values: *const i32,
+        values_len: usize,
+        result_items: *mut u16,
+        result_items_len: usize,
+        result_values: *mut i32,
+        result_values_len: usize,
+        answer: *mut u64,
+    ) -> u32;
+    #[cfg(feature = "apply")]
+    fn ink_apply(
+        ends: *const u16,
+        definitions: usize,
+        defined: *const i32,
+        total: usize,
+        op: u8,
+        count: usize,
+        operands: *const u64,
+        items: *const u16,
+        items_len: usize,
+        values: *const i32,
+        values_len: usize,
+        result_items: *mut u16,
+        result_items_len: usize,
+        result_values: *mut i32,
+        result_values_len: usize,
+        answer: *mut u64,
+    ) -> u32;
+}
+
+pub const CHECKED: Call = ink_call_checked;
+/// The call that does not ask question 7 either, where the archive has it.
+#[cfg(feature = "apply")]
+pub const APPLY: Option<Call> = Some(ink_apply);
+#[cfg(not(feature = "apply"))]
+pub const APPLY: Option<Call> = None;
+
+const RESULT: usize = 256;
+const WORK: usize = 16_384;
+const FORECAST: usize = 2_048;
+
+/// What a host lends: result slices, which are not cleared between calls, and work slices, which a run leaves clear.
+pub struct Lent {
+    result_items: Vec<u16>,
+    result_values: Vec<i32>,
+    work_items: Vec<u16>,
+    work_values: Vec<i32>,
+    forecast: Vec<u8>,
+    answer: [u64; 3],
+}
+
+impl Lent {
+    pub fn new() -> Self {
+        Lent {
+            result_items: vec![0x5a5a; RESULT],
+            result_values: vec![0x5a5a; RESULT],
+            work_items: vec![0; WORK],
+            work_values: vec![0; WORK],
+            forecast: vec![0x5a; FORECAST],
+            answer: [0; 3],
+        }
+    }
+    /// The answer of a call that returned a number.
+    pub fn value(&self, number: u32) -> Result<Val, u32> {
+        if number != 0 {
+            return Err(number);
+        }
+        Ok(match self.answer {
+            [0, b, 0] => Val::Bool(b == 1),
+            [1, n, 0] => Val::Int(n as u32 as i32),
+            [2, n, 0] => Val::Float(n as u32),
+            [3, origins, place] => {
+                let (start, length) = (place as u32 as usize, (place >> 32) as usize);
+                let entry = |i: usize| (self.result_items[i], self.result_values[i]);
+                Val::List(List { origins, entries: (start..start + length).map(entry).collect() })
+            }
+            _ => Val::Void,
+        })
+    }
+}
+
+/// Operands as words, and the slices with their Lists' entries.
+pub struct Operands {
+    count: usize,
+    words: [u64; 9],
+    items: Vec<u16>,
+    values: Vec<i32>,
+}
+
+impl Operands {
+    pub fn new(operands: &[Val]) -> Self {
+        let mut all = Operands { count: operands.len(), words: [0; 9], items: Vec::new(), values: Vec::new() };
+        for (i, v) in operands.iter().enumerate() {
+            let words = all.words_of(v);
+            all.words[3 * i..3 * i + 3].copy_from_slice(&words);
+        }
+        all
+    }
+    fn words_of(&mut self, v: &Val) -> [u64; 3] {
+        match v {
+            Val::Bool(b) => [0, *b as u64, 0],
+            Val::Int(i) => [1, *i as u32 as u64, 0],
+            Val::Float(b) => [2, *b as u64, 0],
+            Val::Void => [4, 0, 0],
+            Val::List(l) => {
+                let start = self.items.len() as u64;
+                self.items.extend(l.entries.iter().map(|e| e.0));
+                self.values.extend(l.entries.iter().map(|e| e.1));
+                [LIST as u64, l.origins, start + ((l.entries.len() as u64) << 32)]
+            }
+        }
+    }
+}
+
+pub fn check(pack: &[u8]) -> u32 {
+    unsafe { ink_check(pack.as_ptr(), pack.len()) }
+}
+
+/// A pack that has passed, with its definitions read.
+pub struct Checked {
+    pack: Vec<u8>,
+    ends: [u16; 64],
+    defined: [i32; 256],
+    counts: [u64; 2],
+    slots: [u64; 48],
+}
+
+impl Checked {
+    pub fn new(pack: Vec<u8>) -> Self {
+        assert_eq!(check(&pack), 0, "the pack passes");
+        let (mut ends, mut defined, mut counts, mut slots) = ([0; 64], [0; 256], [0; 2], [0; 48]);
+        unsafe { ink_definitions(pack.as_ptr(), pack.len(), ends.as_mut_ptr(), defined.as_mut_ptr(), counts.as_mut_ptr()) };
+        slots.iter_mut().step_by(3).for_each(|code| *code = 4);
+        Checked { pack, ends, defined, counts, slots }
+    }
+
+    #[inline(always)]
+    pub fn call(&self, call: Call, op: u8, operands: &Operands, lent: &mut Lent) -> u32 {
+        let o = black_box(operands);
+        unsafe {
+            call(
+                self.ends.as_ptr(),
+                self.counts[0] as usize,
+                self.defined.as_ptr(),
+                self.counts[1] as usize,
+                black_box(op),
+                o.count,
+                o.words.as_ptr(),
+                o.items.as_ptr(),
+                o.items.len(),
+                o.values.as_ptr(),
+                o.values.len(),
+                lent.result_items.as_mut_ptr(),
+                RESULT,
+                lent.result_values.as_mut_ptr(),
+                RESULT,
+                lent.answer.as_mut_ptr(),
+            )
+        }
+    }
+
+    /// Sheet 0, all slots Void; `public` is the call for any bytes.
+    #[inline(always)]
+    pub fn run(&self, public: bool, lent: &mut Lent) -> u32 {
+        let p = black_box(self);
+        let (pack, len, slots, work) = (p.pack.as_ptr(), p.pack.len(), p.slots.as_ptr(), lent.work_items.as_mut_ptr());
+        let (no_items, no_values) = ([0u16; 1], [0i32; 1]);
+        unsafe {
+            if public {
+                return ink_run(
+                    pack,
+                    len,
+                    0,
+                    slots,
+                    no_items.as_ptr(),
+                    0,
+                    no_values.as_ptr(),
+                    0,
+                    work,
+                    WORK,
+                    lent.work_values.as_mut_ptr(),
+                    WORK,
+                    lent.result_items.as_mut_ptr(),
+                    RESULT,
+                    lent.result_values.as_mut_ptr(),
+                    RESULT,
+                    lent.answer.as_mut_ptr(),
+                );
+            }
+            ink_run_checked(
+                pack,
+                len,
+                p.ends.as_ptr(),
+                p.counts[0] as usize,
+                p.defined.as_ptr(),
+                p.counts[1] as usize,
+                0,
+                slots,
+                no_items.as_ptr(),
+                0,
+                no_values.as_ptr(),
+                0,
+                work,
+                WORK,
+                lent.work_values.as_mut_ptr(),
+                WORK,
+                lent.result_items.as_mut_ptr(),
+                RESULT,
+                lent.result_values.as_mut_ptr(),
+                RESULT,
+                lent.answer.as_mut_ptr(),
+            )
+        }
+    }
+
+    /// Sheet 0 for slots that are all Void.
+    #[inline(always)]
+    pub fn vet(&self, lent: &mut Lent) -> u32 {
+        let p = black_box(self);
+        let kinds = [4u8; 16];
+        let (forecast, index) = (lent.forecast.as_mut_ptr(), lent.answer.as_mut_ptr());
+        unsafe { ink_vet(p.pack.as_ptr(), p.pack.len(), 0, kinds.as_ptr(), forecast, FORECAST, index) }
+    }
+
+    #[inline(always)]
+    pub fn check(&self) -> u32 {
+        check(black_box(&self.pack))
+    }
+    pub fn bytes(&self) -> usize {
+        self.pack.len()
+    }
+}
