@@ -55,8 +55,16 @@ fn extreme_value(least: bool, vs: &[i32]) -> i32
     if vs.len() == 0 {
         return 0;
     }
-    let best = extreme_at(least, vs);
-    vs[best]
+    let mut best = vs[0];
+    let mut i = 1;
+    while i < vs.len() {
+        let v = vs[i];
+        i += 1;
+        if beats(least, v, best) {
+            best = v;
+        }
+    }
+    best
 }
 
 // ListMin: a list of one, or empty.
