@@ -140,12 +140,8 @@ abbrev pub Coded : KindAnswer → Type 0
 Coded (Ans.Kind k) = k < 5
 Coded (Ans.Refused r) = Unit {0}
 
-abbrev pub Counted : ℕ → KindAnswer → Type 0
-Counted n (Ans.Kind k) = (1 ≤ n) × (n ≤ 3) × (n ≡ 3 → k ≡ 3)
-Counted n (Ans.Refused r) = Unit {0}
-
--- an operator's answer on the kinds of n operands. Where it gives a kind it takes n operands, one to three, and of three a List
-pub record KindsGiven (o n : ℕ) (ks : List Kind) (r : KindAnswer) : Type 0 where
-  pub answered : kindAnswer r ≡ kindCall o n ks
-  pub coded : Coded r
-  pub counted : Counted n r
+-- the code of an operator's answer on the kinds of n operands. Where it is a kind, the operator takes n operands, one to three, and of three
+-- it gives a List
+pub record KindsGiven (o n : ℕ) (ks : List Kind) (e : ℕ) : Type 0 where
+  pub answered : decoded e ≡ kindCall o n ks
+  pub counted : e < 5 → (1 ≤ n) × (n ≤ 3) × (n ≡ 3 → e ≡ 3)

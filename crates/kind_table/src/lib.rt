@@ -102,19 +102,7 @@ fn answer_in(word: u64, place: u8) -> u8
 }
 
 // The table's answer for an operator below range and two kind codes.
-pub fn kind_entry(op: u8, left: u8, right: u8) -> KindAnswer
-    requires { ⌜ (op < 31) × (left < 5) × (right < 5) ⌝ }
-    ensures { λ r. ⌜ (kindAnswer r ≡ kindEntry op (kindAt left) (kindAt right)) × Coded r ⌝ }
-{
-    let e = table(op, left, right);
-    if e < 5 {
-        KindAnswer::Kind(e)
-    } else {
-        KindAnswer::Refused(e)
-    }
-}
-
-fn table(op: u8, left: u8, right: u8) -> u8
+pub fn table(op: u8, left: u8, right: u8) -> u8
     requires { ⌜ (op < 31) × (left < 5) × (right < 5) ⌝ }
     ensures { λ r. ⌜ decoded r ≡ kindEntry op (kindAt left) (kindAt right) ⌝ }
 {
@@ -123,6 +111,48 @@ fn table(op: u8, left: u8, right: u8) -> u8
         return answer_in(number_answers(op), place);
     }
     answer_in(other_answers(op), place - 15)
+}
+
+// Range's answer for three kind codes.
+pub fn range(list: u8, lower: u8, upper: u8) -> u8
+    requires { ⌜ (list < 5) × (lower < 5) × (upper < 5) ⌝ }
+    ensures { λ r. ⌜ decoded r ≡ kindRange (kindAt list) (kindAt lower) (kindAt upper) ⌝ }
+{
+    if list == 4 {
+        return 11;
+    }
+    if lower == 4 {
+        return 11;
+    }
+    if upper == 4 {
+        return 11;
+    }
+    if list == 3 { 3 } else { 13 }
+}
+
+// What an answer of the table, or of range, says.
+fn decoded(e: u8) -> KindAnswer
+    ensures { λ r. ⌜ (kindAnswer r ≡ decoded e) × Coded r ⌝ }
+{
+    if e < 5 {
+        KindAnswer::Kind(e)
+    } else {
+        KindAnswer::Refused(e)
+    }
+}
+
+pub fn kind_entry(op: u8, left: u8, right: u8) -> KindAnswer
+    requires { ⌜ (op < 31) × (left < 5) × (right < 5) ⌝ }
+    ensures { λ r. ⌜ (kindAnswer r ≡ kindEntry op (kindAt left) (kindAt right)) × Coded r ⌝ }
+{
+    decoded(table(op, left, right))
+}
+
+pub fn kind_range(list: u8, lower: u8, upper: u8) -> KindAnswer
+    requires { ⌜ (list < 5) × (lower < 5) × (upper < 5) ⌝ }
+    ensures { λ r. ⌜ (kindAnswer r ≡ kindRange (kindAt list) (kindAt lower) (kindAt upper)) × Coded r ⌝ }
+{
+    decoded(range(list, lower, upper))
 }
 
 // How many operands an operator takes, 0 where there is no such operator.
@@ -163,26 +193,5 @@ pub fn operands(op: u8) -> usize
         29 => 1,
         30 => 1,
         _ => 3,
-    }
-}
-
-// Range on kinds.
-pub fn kind_range(list: u8, lower: u8, upper: u8) -> KindAnswer
-    requires { ⌜ (list < 5) × (lower < 5) × (upper < 5) ⌝ }
-    ensures { λ r. ⌜ (kindAnswer r ≡ kindRange (kindAt list) (kindAt lower) (kindAt upper)) × Coded r ⌝ }
-{
-    if list == 4 {
-        return KindAnswer::Refused(11);
-    }
-    if lower == 4 {
-        return KindAnswer::Refused(11);
-    }
-    if upper == 4 {
-        return KindAnswer::Refused(11);
-    }
-    if list == 3 {
-        KindAnswer::Kind(3)
-    } else {
-        KindAnswer::Refused(13)
     }
 }

@@ -8,7 +8,7 @@ use native.Mathlib.Omega.{arith}
 use lib.Dec.{eqb, leb}
 use lib.IntN.{ℤ}
 use lib.ListN.{take}
-use borrow.Author.Tests.{eq-eqb, ne-eqb, lt-leb}
+use borrow.Author.Tests.{eq-eqb, ne-eqb, lt-leb, lt-ltb, le-ltb}
 use Rattle.ink_number.specs.Answer.{gives, refuses, ask}
 use Rattle.ink_value.specs.Val.{Val, Kind, boolK, intK, floatK, listK, voidK, kindOf, kindAt, codeOf}
 use Rattle.ink_value.specs.Convert.{asInt}
@@ -18,11 +18,9 @@ use Rattle.ink_value.specs.declared.Outcome.{Outcome}
 use Rattle.ink_value.proofs.Reading.{ap3, code-in}
 use Rattle.ink_value.proofs.Given.{gave-plain}
 use Rattle.native_function_call.specs.Numbers.{arithZ}
-use Rattle.kind_table.specs.Kinds.{isList, known, unary, arity, operandCount, kindApply, kindCall, kindRange, kindEntry, kindAnswer, Coded, Counted, KindsGiven}
+use Rattle.kind_table.specs.Kinds.{isList, known, unary, arity, operandCount, kindApply, kindCall, kindRange, kindEntry, KindsGiven, decoded}
 use Rattle.list_definitions.specs.Defs.{ListDefinitions}
 use Rattle.native_function_call.specs.Apply.{whole, applyOp, compute, call}
-use Rattle.kind_table.specs.declared.KindAnswer.{KindAnswer}
-use Rattle.kind_table.specs.declared.KindAnswer.the-variants as Ans
 use Rattle.native_function_call.proofs.Applying.{takes, entry-one, entry-two, entry-range, is-range, range-kind, apply-gives, apply-refuses, int-none}
 
 -- ---- question 8
@@ -31,12 +29,19 @@ no-operator : (o n : ℕ) (ks : List Kind) → known o ≡ false → kindCall o 
 unfolding kindCall
 no-operator o n ks e = rw e
 
-refused : {o n : ℕ} {ks : List Kind} (q : ℕ) → kindCall o n ks ≡ refuses q → KindsGiven o n ks (Ans.Refused q)
-refused q e = record { answered = sym e; coded = tt; counted = tt }
+-- the code of a kind, and that of a refusal
+pub decoded-kind : (e : ℕ) → e < 5 → decoded e ≡ gives (kindAt e)
+decoded-kind e h = rw (lt-ltb e 5 h)
 
-pub above-all : (o n : ℕ) (ks : List Kind) → 32 ≤ o → KindsGiven o n ks (Ans.Refused 8)
+pub decoded-no : (e : ℕ) → 4 < e → decoded e ≡ refuses e
+decoded-no e h = rw (le-ltb e 5 (omega arith))
+
+refused : {o n : ℕ} {ks : List Kind} (q : ℕ) → 4 < q → kindCall o n ks ≡ refuses q → KindsGiven o n ks q
+refused q h e = record { answered = decoded-no q h ∙ sym e; counted = λ k. absurd (omega arith) }
+
+pub above-all : (o n : ℕ) (ks : List Kind) → 32 ≤ o → KindsGiven o n ks 8
 unfolding known
-above-all o n ks h = refused 8 (no-operator o n ks (rw (lt-leb o 16 (omega arith), lt-leb o 31 (omega arith)) (last (leb 20 o))))
+above-all o n ks h = refused 8 (omega arith) (no-operator o n ks (rw (lt-leb o 16 (omega arith), lt-leb o 31 (omega arith)) (last (leb 20 o))))
   where
     last : (t : Bool) → t && false ≡ false
     last true = refl
@@ -51,9 +56,9 @@ arity-some o = go (unary o) (eqb o 31)
     go false true = inr (inr refl)
     go false false = inr (inl refl)
 
-pub none-taken : (o n : ℕ) (ks : List Kind) → operandCount o ≡ 0 → KindsGiven o n ks (Ans.Refused 8)
+pub none-taken : (o n : ℕ) (ks : List Kind) → operandCount o ≡ 0 → KindsGiven o n ks 8
 unfolding operandCount
-none-taken o n ks e = refused 8 (no-operator o n ks (go (known o) e))
+none-taken o n ks e = refused 8 (omega arith) (no-operator o n ks (go (known o) e))
   where
     go : (t : Bool) → cond t (arity o) 0 ≡ 0 → t ≡ false
     go true q = absurd (⊎-elim (λ h. omega arith) (λ h. ⊎-elim (λ h. omega arith) (λ h. omega arith) h) (arity-some o))
@@ -61,11 +66,11 @@ none-taken o n ks e = refused 8 (no-operator o n ks (go (known o) e))
 
 -- ---- question 10
 
-pub miscounted : (o m n : ℕ) (ks : List Kind) → operandCount o ≡ m → (m ≡ 0 → ⊥) → (m ≡ n → ⊥) → KindsGiven o n ks (Ans.Refused 10)
+pub miscounted : (o m n : ℕ) (ks : List Kind) → operandCount o ≡ m → (m ≡ 0 → ⊥) → (m ≡ n → ⊥) → KindsGiven o n ks 10
 unfolding kindCall
 miscounted o m n ks e some ne =
     let t = takes o m (omega arith) e in
-    refused 10 (rw (t .is-known, t .arity-is, ne-eqb n m (λ q. ne (sym q))))
+    refused 10 (omega arith) (rw (t .is-known, t .arity-is, ne-eqb n m (λ q. ne (sym q))))
 
 counted-call : (o n : ℕ) (ks : List Kind) → 1 ≤ n → operandCount o ≡ n → kindCall o n ks ≡ kindApply o ks
 unfolding kindCall
@@ -98,23 +103,19 @@ module _ (o : ℕ) (a b c : Kind) where
       let q : operandCount o ≡ 2 = e ∙ h in
       ap (λ (m : ℕ). kindCall o m (take m (a ∷ b ∷ c ∷ []))) h ∙ counted-call o 2 (a ∷ b ∷ []) (omega arith) q ∙ entry-two o a b q
 
-  few : (n : ℕ) → (n ≡ 1) ⊎ (n ≡ 2) → (n ≡ 3 → ⊥) → (r : KindAnswer) → Counted n r
-  few n h ne (Ans.Kind k) = (⊎-elim (λ q. omega arith) (λ q. omega arith) h, ⊎-elim (λ q. omega arith) (λ q. omega arith) h, λ q. absurd (ne q))
-  few n h ne (Ans.Refused r) = tt
+  few : (n e : ℕ) → (n ≡ 1) ⊎ (n ≡ 2) → (n ≡ 3 → ⊥) → (1 ≤ n) × (n ≤ 3) × (n ≡ 3 → e ≡ 3)
+  few n e h ne = (⊎-elim (λ q. omega arith) (λ q. omega arith) h, ⊎-elim (λ q. omega arith) (λ q. omega arith) h, λ q. absurd (ne q))
 
-  pub entry-given : (n : ℕ) (r : KindAnswer) → operandCount o ≡ n → 1 ≤ n → (n ≡ 3 → ⊥) → kindAnswer r ≡ kindEntry o a b → Coded r
-      → KindsGiven o n (take n (a ∷ b ∷ c ∷ [])) r
-  entry-given n r e h ne q d =
+  pub entry-given : (n r : ℕ) → operandCount o ≡ n → 1 ≤ n → (n ≡ 3 → ⊥) → decoded r ≡ kindEntry o a b → KindsGiven o n (take n (a ∷ b ∷ c ∷ [])) r
+  entry-given n r e h ne q =
       let w = below-three o n h e ne in
-      record { answered = q ∙ sym (by-entry n e w); coded = d; counted = few n w ne r }
+      record { answered = q ∙ sym (by-entry n e w); counted = λ d. few n r w ne }
 
-  range-counted : (r : KindAnswer) → kindAnswer r ≡ kindRange a b c → Coded r → Counted 3 r
-  range-counted (Ans.Kind k) q d = (omega arith, omega arith, λ e. sym (code-at k d) ∙ ap codeOf (range-kind a b c (kindAt k) (sym q)))
-  range-counted (Ans.Refused r) q d = tt
+  range-list : (r : ℕ) → decoded r ≡ kindRange a b c → r < 5 → r ≡ 3
+  range-list r q d = sym (code-at r d) ∙ ap codeOf (range-kind a b c (kindAt r) (sym q ∙ decoded-kind r d))
 
-  pub range-given : (n : ℕ) (r : KindAnswer) → operandCount o ≡ n → n ≡ 3 → kindAnswer r ≡ kindRange a b c → Coded r
-      → KindsGiven o n (take n (a ∷ b ∷ c ∷ [])) r
-  range-given n r e h q d =
+  pub range-given : (n r : ℕ) → operandCount o ≡ n → n ≡ 3 → decoded r ≡ kindRange a b c → KindsGiven o n (take n (a ∷ b ∷ c ∷ [])) r
+  range-given n r e h q =
       let c3 : operandCount o ≡ 3 = e ∙ h in
       let o31 : o ≡ 31 = is-range o c3 in
       record {
@@ -122,8 +123,7 @@ module _ (o : ℕ) (a b c : Kind) where
             ∙ counted-call o 3 (a ∷ b ∷ c ∷ []) (omega arith) c3
             ∙ ap (λ (p : ℕ). kindApply p (a ∷ b ∷ c ∷ [])) o31
             ∙ entry-range a b c);
-        coded = d;
-        counted = subst (λ (m : ℕ). Counted m r) (sym h) (range-counted r q d);
+        counted = λ d. (omega (arith, h), omega (arith, h), λ t. range-list r q d);
       }
 
 -- ---- the operator on values

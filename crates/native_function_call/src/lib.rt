@@ -2,7 +2,6 @@
 use ink_number::int::Divided;
 use ink_value::Outcome;
 use ink_value::Value;
-use kind_table::KindAnswer;
 ghost use mathlib.Core.Path.{_≡_};
 ghost use mathlib.Core.Bool.{true, _&&_, _||_};
 ghost use mathlib.Core.List.{List, [], _∷_};
@@ -526,26 +525,26 @@ pub fn list(
 
 // ---- a direct call, below the questions on the pack
 
-// Questions 8 and 10 to 14, which ask only for the operator, the count and the kinds.
-pub fn kinds(op: u8, count: usize, a: Value, b: Value, c: Value) -> KindAnswer
+// Questions 8 and 10 to 14, which ask only for the operator, the count and the kinds: the code of the answer.
+pub fn kinds(op: u8, count: usize, a: Value, b: Value, c: Value) -> u8
     ensures { λ r. ⌜ KindsGiven op count (take count (kindAt (codeOfValue a) ∷ kindAt (codeOfValue b) ∷ kindAt (codeOfValue c) ∷ [])) r ⌝ }
 {
     if 32 <= op {
-        return KindAnswer::Refused(8);
+        return 8;
     }
     let n = kind_table::operands(op);
     if n == 0 {
-        return KindAnswer::Refused(8);
+        return 8;
     }
     if n != count {
-        return KindAnswer::Refused(10);
+        return 10;
     }
     let left = ink_value::kind(a);
     let middle = ink_value::kind(b);
     if n == 3 {
-        return kind_table::kind_range(left, middle, ink_value::kind(c));
+        return kind_table::range(left, middle, ink_value::kind(c));
     }
-    kind_table::kind_entry(op, left, middle)
+    kind_table::table(op, left, middle)
 }
 
 // An operator whose operands' kinds are right, by the kind of its result.
@@ -607,23 +606,23 @@ pub fn apply(
     requires { ⌜ Formed limit (now items) (now values) a × Formed limit (now items) (now values) b × Formed limit (now items) (now values) c ⌝ }
     ensures { λ r. ⌜ Gives (call (definitionsIn ends defined limit) op count (take count (valIn items values a ∷ valIn items values b ∷ valIn items values c ∷ []))) r oi ov ⌝ }
 {
-    let answer = kinds(op, count, a, b, c);
-    match answer {
-        KindAnswer::Kind(kind) => computed(
-            op,
-            kind,
-            count,
-            a,
-            b,
-            c,
-            items,
-            values,
-            ends,
-            defined,
-            limit,
-            oi,
-            ov,
-        ),
-        KindAnswer::Refused(number) => Outcome::Refused(number),
+    let kind = kinds(op, count, a, b, c);
+    if 4 < kind {
+        return Outcome::Refused(kind);
     }
+    computed(
+        op,
+        kind,
+        count,
+        a,
+        b,
+        c,
+        items,
+        values,
+        ends,
+        defined,
+        limit,
+        oi,
+        ov,
+    )
 }

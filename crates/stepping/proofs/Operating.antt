@@ -16,14 +16,12 @@ use Rattle.ink_value.specs.Value.{valOf, codeOfValue, written, Formed, Wf, AllW
 use Rattle.ink_value.specs.declared.Value.{Value}
 use Rattle.ink_value.specs.declared.Value.the-variants as Is
 use Rattle.ink_value.proofs.Reading.{rising-in}
-use Rattle.kind_table.specs.Kinds.{known, arity, operandCount, kindCall, kindAnswer, KindsGiven}
+use Rattle.kind_table.specs.Kinds.{known, arity, operandCount, kindCall, decoded, KindsGiven}
 use Rattle.native_function_call.specs.Numbers.{arithZ}
 use Rattle.list_definitions.specs.Defs.{ListDefinitions}
 use Rattle.native_function_call.specs.Apply.{ofInt, whole, compute, applyOp, call}
-use Rattle.kind_table.specs.declared.KindAnswer.{KindAnswer}
-use Rattle.kind_table.specs.declared.KindAnswer.the-variants as Ans
 use Rattle.native_function_call.proofs.Applying.{takes, count-three}
-use Rattle.native_function_call.proofs.Calling.{codes-of, call-gives, call-refuses}
+use Rattle.native_function_call.proofs.Calling.{codes-of, call-gives, call-refuses, decoded-kind, decoded-no}
 use Rattle.native_function_call.proofs.Results.{apply-fine}
 use Rattle.pack.specs.Format.{format1}
 use Rattle.pack.specs.Instruction.{Push, Instr, op, push}
@@ -103,15 +101,15 @@ module _ (is : List ℕ) (vs : List ℤ) (a b c : Value) where
         go true false = tt
         go false t = tt
 
-    module _ (k : KindAnswer) (g : KindsGiven o n (take n (kindAt (codeOfValue a) ∷ kindAt (codeOfValue b) ∷ kindAt (codeOfValue c) ∷ [])) k) where
-      kinds-are : kindCall o n (map kindOf (operandsOf n)) ≡ kindAnswer k
+    module _ (k : ℕ) (g : KindsGiven o n (take n (kindAt (codeOfValue a) ∷ kindAt (codeOfValue b) ∷ kindAt (codeOfValue c) ∷ [])) k) where
+      kinds-are : kindCall o n (map kindOf (operandsOf n)) ≡ decoded k
       kinds-are = ap (kindCall o n) (codes-of is vs n a b c) ∙ sym (g .answered)
 
-      pub call-computes : (j : ℕ) → k ≡ Ans.Kind j → call u o n (operandsOf n) ≡ compute u o (operandsOf n) (kindAt j)
-      call-computes j e = call-gives u o n (operandsOf n) (kindAt j) (kinds-are ∙ ap kindAnswer e)
+      pub call-computes : k < 5 → call u o n (operandsOf n) ≡ compute u o (operandsOf n) (kindAt k)
+      call-computes h = call-gives u o n (operandsOf n) (kindAt k) (kinds-are ∙ decoded-kind k h)
 
-      pub call-stops : (q : ℕ) → k ≡ Ans.Refused q → call u o n (operandsOf n) ≡ refuses q
-      call-stops q e = call-refuses u o n (operandsOf n) q (kinds-are ∙ ap kindAnswer e)
+      pub call-stops : 4 < k → call u o n (operandsOf n) ≡ refuses k
+      call-stops h = call-refuses u o n (operandsOf n) k (kinds-are ∙ decoded-no k h)
 
   call-applies : (u : ListDefinitions) (o n : ℕ) → 1 ≤ n → operandCount o ≡ n → call u o n (operandsOf n) ≡ applyOp u o (operandsOf n)
   unfolding call

@@ -3,7 +3,6 @@
 
 use ink_value::Outcome;
 use ink_value::Value;
-use kind_table::KindAnswer;
 use pack::instruction::Instruction;
 use sheet::STACK_LIMIT;
 ghost use mathlib.Core.Path.{_≡_};
@@ -212,36 +211,34 @@ fn operate(
     ensures { λ r. ⌜ Answered (call (definitionsIn ends defined (format1 .limit)) op count (take count (valIn «work_items» «work_values» a ∷ valIn «work_items» «work_values» b ∷ valIn «work_items» «work_values» c ∷ []))) place r
         (now («work_items» .entry)) (now («work_items» .exit)) (now («work_values» .entry)) (now («work_values» .exit)) ⌝ }
 {
-    let answer = native_function_call::kinds(op, count, a, b, c);
-    match answer {
-        KindAnswer::Kind(kind) => {
-            if kind == 3 {
-                return list_result(
-                    op,
-                    count,
-                    a,
-                    b,
-                    c,
-                    ends,
-                    defined,
-                    place,
-                    work_items,
-                    work_values,
-                );
-            }
-            scalar_result(
-                op,
-                kind,
-                count,
-                a,
-                b,
-                &work_items[..],
-                &work_values[..],
-                place,
-            )
-        }
-        KindAnswer::Refused(number) => Step::No(number),
+    let kind = native_function_call::kinds(op, count, a, b, c);
+    if 4 < kind {
+        return Step::No(kind);
     }
+    if kind == 3 {
+        return list_result(
+            op,
+            count,
+            a,
+            b,
+            c,
+            ends,
+            defined,
+            place,
+            work_items,
+            work_values,
+        );
+    }
+    scalar_result(
+        op,
+        kind,
+        count,
+        a,
+        b,
+        &work_items[..],
+        &work_values[..],
+        place,
+    )
 }
 
 // One of three values, by a count from one to three.

@@ -37,27 +37,27 @@ kind-requires-2 c κs = search needs
 kind-requires-3 : tie.Need-kind-requires-3
 kind-requires-3 c κs = search needs
 
-kind-range-requires : tie.Need-kind-range-requires
-kind-range-requires c κs = search needs
+range-requires : tie.Need-range-requires
+range-requires c κs = search needs
 
 returns-4 : tie.Need-returns-4
 returns-4 c =
     let s = c .before .before .before .before .before .before .before .before .before in
     let n3 : c .before .before .before .before .before .before .before .operands .result ≡ 3 = c .before .before .if4 .taken in
-    subst (λ (m : ℕ). KindsGiven (s .args .op) m (take m (kindAt (codeOfValue (s .args .a)) ∷ kindAt (codeOfValue (s .args .b)) ∷ kindAt (codeOfValue (s .args .c)) ∷ [])) (c .kind-range .result)) (c .before .before .before .before .before .if3 .left)
-    (range-given (s .args .op) (kindAt (codeOfValue (s .args .a))) (kindAt (codeOfValue (s .args .b))) (kindAt (codeOfValue (s .args .c))) (c .before .before .before .before .before .before .before .operands .result) (c .kind-range .result) (sym (c .before .before .before .before .before .before .before .operands .ensures)) n3
-    (c .kind-range .ensures .0 ∙ ap3 (λ (i j k : ℕ). kindRange (kindAt i) (kindAt j) (kindAt k)) (c .before .before .before .before .kind .ensures .0) (c .before .before .before .kind2 .ensures .0) (c .before .kind3 .ensures .0)) (c .kind-range .ensures .1))
+    subst (λ (m : ℕ). KindsGiven (s .args .op) m (take m (kindAt (codeOfValue (s .args .a)) ∷ kindAt (codeOfValue (s .args .b)) ∷ kindAt (codeOfValue (s .args .c)) ∷ [])) (c .range .result)) (c .before .before .before .before .before .if3 .left)
+    (range-given (s .args .op) (kindAt (codeOfValue (s .args .a))) (kindAt (codeOfValue (s .args .b))) (kindAt (codeOfValue (s .args .c))) (c .before .before .before .before .before .before .before .operands .result) (c .range .result) (sym (c .before .before .before .before .before .before .before .operands .ensures)) n3
+    (c .range .ensures ∙ ap3 (λ (i j k : ℕ). kindRange (kindAt i) (kindAt j) (kindAt k)) (c .before .before .before .before .kind .ensures .0) (c .before .before .before .kind2 .ensures .0) (c .before .kind3 .ensures .0)))
 
-kind-entry-requires : tie.Need-kind-entry-requires
-kind-entry-requires c κs =
+table-requires : tie.Need-table-requires
+table-requires c κs =
     (below-range (c .before .before .before .before .before .before .before .args .op) (c .before .before .before .before .before .operands .result) (sym (c .before .before .before .before .before .operands .ensures)) (c .if4 .left) (omega arith), c .before .before .kind .ensures .1, c .before .kind2 .ensures .1)
 
 returns-5 : tie.Need-returns-5
 returns-5 c =
     let s = c .before .before .before .before .before .before .before .before in
-    subst (λ (m : ℕ). KindsGiven (s .args .op) m (take m (kindAt (codeOfValue (s .args .a)) ∷ kindAt (codeOfValue (s .args .b)) ∷ kindAt (codeOfValue (s .args .c)) ∷ [])) (c .kind-entry .result)) (c .before .before .before .before .if3 .left)
-    (entry-given (s .args .op) (kindAt (codeOfValue (s .args .a))) (kindAt (codeOfValue (s .args .b))) (kindAt (codeOfValue (s .args .c))) (c .before .before .before .before .before .before .operands .result) (c .kind-entry .result) (sym (c .before .before .before .before .before .before .operands .ensures)) (omega (arith, c .before .before .before .before .before .if2 .left)) (c .before .if4 .left)
-    (c .kind-entry .ensures .0 ∙ ap2 (λ (i j : ℕ). kindEntry (s .args .op) (kindAt i) (kindAt j)) (c .before .before .before .kind .ensures .0) (c .before .before .kind2 .ensures .0)) (c .kind-entry .ensures .1))
+    subst (λ (m : ℕ). KindsGiven (s .args .op) m (take m (kindAt (codeOfValue (s .args .a)) ∷ kindAt (codeOfValue (s .args .b)) ∷ kindAt (codeOfValue (s .args .c)) ∷ [])) (c .table .result)) (c .before .before .before .before .if3 .left)
+    (entry-given (s .args .op) (kindAt (codeOfValue (s .args .a))) (kindAt (codeOfValue (s .args .b))) (kindAt (codeOfValue (s .args .c))) (c .before .before .before .before .before .before .operands .result) (c .table .result) (sym (c .before .before .before .before .before .before .operands .ensures)) (omega (arith, c .before .before .before .before .before .if2 .left)) (c .before .if4 .left)
+    (c .table .ensures ∙ ap2 (λ (i j : ℕ). kindEntry (s .args .op) (kindAt i) (kindAt j)) (c .before .before .before .kind .ensures .0) (c .before .before .kind2 .ensures .0)))
 
 pub kinds-spec : {M : Type 1} → statement M
 kinds-spec =
@@ -70,7 +70,7 @@ kinds-spec =
     kind-requires
     kind-requires-2
     kind-requires-3
-    kind-range-requires
+    range-requires
     returns-4
-    kind-entry-requires
+    table-requires
     returns-5)
