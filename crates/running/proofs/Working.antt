@@ -3,7 +3,7 @@
 use mathlib.Core.Path.{_≡_, refl, sym, ap, ap₂, _∙_, subst}
 use mathlib.Core.Logic.{inl, inr, ⊎-elim}
 use mathlib.Core.Bool.{false}
-use mathlib.Core.List.{List, _∷_}
+use mathlib.Core.List.{List, [], _∷_}
 use Prim.Native.Nat.{ℕ, zero, suc, _+_, _-_, _≤_, _<_}
 use native.Mathlib.Omega.{arith}
 use native.Mathlib.Decide.{ℕ-discrete}
@@ -25,17 +25,55 @@ use Rattle.ink_value.specs.declared.Value.the-variants as Is
 use Rattle.list_definitions.specs.Defs.{ListDefinitions}
 use Rattle.native_function_call.specs.Apply.{applyOp}
 use Rattle.pack.specs.Bodies.{decoded}
-use Rattle.pack.specs.Format.{format1}
-use Rattle.pack.specs.Instruction.{Instr, op, push, pushBool, pushInt, pushFloat, pushList, pushSlot, pushVoid, width}
+use Rattle.pack.specs.Format.{format1, slotLimit}
+use Rattle.pack.specs.Instruction.{Instr, op, push, pushBool, pushInt, pushFloat, pushList, pushSlot, pushVoid, width, Allowed, instrOf}
+use Rattle.pack.specs.declared.instruction.Instruction.{Instruction}
 use Rattle.pack.specs.Read.{program, sheetEnd, literalOf, Standing, Reads}
 use Rattle.pack.proofs.Programs.{last-of}
 use Rattle.sheet.specs.Machine.{Run, ended, stopped, stackLimit, finish, onward, step, runFrom, valuePushed, run}
 use Rattle.sheet.specs.Stack.{stackOf}
 use Rattle.sheet.proofs.Stack.{stack-put, run-more, run-stop, run-done}
-use Rattle.stepping.specs.Steps.{placedAt, startAt, Roomy, Grown, Tops, TopsFormed}
+use Rattle.stepping.specs.Steps.{placedAt, startAt, Roomy, Grown, Tops, TopsFormed, Inputs, IfOp, IfSlot, SlotIs}
 use Rattle.running.specs.Work.{Outside, Touched, Longest}
 use Rattle.running.proofs.Filling.{part-filled, part-before, getD-outside}
 use Rattle.stepping.proofs.Putting.{place-fits, formed-none}
+
+-- ---- what an instruction takes
+
+-- what holds of the case that an instruction is holds of it
+pub op-told : (X : Type 0) {i j : Instruction} → i ≡ j → IfOp (instrOf j) X → IfOp (instrOf i) X
+op-told X e h = subst (λ (x : Instruction). IfOp (instrOf x) X) (sym e) h
+
+pub slot-told : (P : ℕ → Type 0) {i j : Instruction} → i ≡ j → IfSlot (instrOf j) P → IfSlot (instrOf i) P
+slot-told P e h = subst (λ (x : Instruction). IfSlot (instrOf x) P) (sym e) h
+
+-- what follows for an operator from three facts of operators
+pub if-op3 : (i : Instr) {X A B C : Type 0} → (A → B → C → X) → IfOp i A → IfOp i B → IfOp i C → IfOp i X
+if-op3 (op o) f a b c = f a b c
+if-op3 (push p) f a b c = tt
+
+-- the value that is read at a slot's place
+pub slot-is : (i : Instr) (slots : List Value) (r : ℕ) → r < length slots → IfSlot i (λ s. r ≡ s) → SlotIs slots (getD slots r (Is.Bool false)) i
+slot-is (op o) slots r h e = tt
+slot-is (push (pushBool b)) slots r h e = tt
+slot-is (push (pushInt z)) slots r h e = tt
+slot-is (push (pushFloat b)) slots r h e = tt
+slot-is (push (pushList l)) slots r h e = tt
+slot-is (push (pushSlot s)) slots r h e = (subst (λ (k : ℕ). k < length slots) e h, ap (λ (k : ℕ). getD slots k (Is.Bool false)) e)
+slot-is (push pushVoid) slots r h e = tt
+
+pub allowed-slot : (L : ℕ) (i : Instr) → Allowed L i → IfSlot i (λ s. s < slotLimit)
+allowed-slot L (op o) a = tt
+allowed-slot L (push (pushBool b)) a = tt
+allowed-slot L (push (pushInt z)) a = tt
+allowed-slot L (push (pushFloat b)) a = tt
+allowed-slot L (push (pushList l)) a = tt
+allowed-slot L (push (pushSlot s)) a = a
+allowed-slot L (push pushVoid) a = tt
+
+-- the inputs but for the slots
+pub inputs-none : {p ends : List ℕ} {defined : List ℤ} {slots : List Value} {si : List ℕ} {sv : List ℤ} → Inputs p ends defined slots si sv → Inputs p ends defined [] si sv
+inputs-none g = record { sound = g .sound; ends-are = g .ends-are; defined-are = g .defined-are; slots-formed = λ k h. absurd (omega arith) }
 
 -- ---- a value after it is put, and the values below
 

@@ -5,6 +5,7 @@ use ink_value::Value;
 use pack::Checked;
 use pack::format::DEFINITION_LIMIT;
 use pack::format::SLOT_LIMIT;
+use pack::instruction::Instruction;
 use sheet::STACK_LIMIT;
 use stepping::ITEM_LIMIT;
 use stepping::Step;
@@ -22,12 +23,13 @@ ghost use Rattle.ink_value.specs.Value.{allFormed};
 ghost use Rattle.native_function_call.specs.Lists.{definitions, definitionsIn};
 ghost use Rattle.pack.specs.Bodies.{decoded};
 ghost use Rattle.pack.specs.Contents.{sheetCount};
-ghost use Rattle.pack.specs.Format.{format1};
+ghost use Rattle.pack.specs.Format.{format1, slotLimit};
+ghost use Rattle.pack.specs.Instruction.{instrOf};
 ghost use Rattle.pack.specs.Judge.{Sound};
 ghost use Rattle.pack.specs.Read.{endsOf, definedOf, literalOf, program};
 ghost use Rattle.sheet.specs.Machine.{stackLimit, step, run};
 ghost use Rattle.sheet.specs.Whole.{opened};
-ghost use Rattle.stepping.specs.Steps.{Inputs, Put, Roomy};
+ghost use Rattle.stepping.specs.Steps.{Inputs, Put, Roomy, IfOp, IfSlot};
 ghost use Rattle.running.specs.Run.{longEnough, memory, RanTo, Memory, runOf, Runs};
 ghost use Rattle.running.specs.Work.{Longest, cleared, Worked};
 
@@ -43,6 +45,41 @@ fn below(n: usize, k: usize) -> usize
     ensures { λ r. ⌜ (k ≤ n → r ≡ n - k) × (r < stackLimit) ⌝ }
 {
     if k <= n { n - k } else { 0 }
+}
+
+// The last place of the stack.
+const LAST_PLACE: usize = STACK_LIMIT - 1;
+
+// The same for an operator; for a push, which takes no operand, the last place.
+fn operand_place(i: Instruction, n: usize, k: usize) -> usize
+    requires { ⌜ (n ≤ stackLimit) × (1 ≤ k) ⌝ }
+    ensures { λ r. ⌜ IfOp (instrOf i) (k ≤ n → r ≡ n - k) × (r < stackLimit) ⌝ }
+{
+    match i {
+        Instruction::Op(_) => below(n, k),
+        Instruction::Bool(_) => LAST_PLACE,
+        Instruction::Int(_) => LAST_PLACE,
+        Instruction::Float(_) => LAST_PLACE,
+        Instruction::List(_) => LAST_PLACE,
+        Instruction::Slot(_) => LAST_PLACE,
+        Instruction::Void => LAST_PLACE,
+    }
+}
+
+// The slot that an instruction pushes, or 0.
+fn slot_place(i: Instruction) -> usize
+    requires { ⌜ IfSlot (instrOf i) (λ s. s < slotLimit) ⌝ }
+    ensures { λ r. ⌜ (r < slotLimit) × IfSlot (instrOf i) (λ s. r ≡ s) ⌝ }
+{
+    match i {
+        Instruction::Slot(s) => s as usize,
+        Instruction::Op(_) => 0,
+        Instruction::Bool(_) => 0,
+        Instruction::Int(_) => 0,
+        Instruction::Float(_) => 0,
+        Instruction::List(_) => 0,
+        Instruction::Void => 0,
+    }
 }
 
 // Keeps the greatest length at a place.
@@ -124,9 +161,11 @@ fn work(
     while at < end {
         let instruction = pack::instruction::read_instruction(pack, at);
         let width = pack::instruction::instruction_width(instruction);
-        let p1 = below(n, 1);
-        let p2 = below(n, 2);
-        let p3 = below(n, 3);
+        let k = slot_place(instruction);
+        let slot = slots[k];
+        let p1 = operand_place(instruction, n, 1);
+        let p2 = operand_place(instruction, n, 2);
+        let p3 = operand_place(instruction, n, 3);
         let top = stack[p1];
         let second = stack[p2];
         let third = stack[p3];
@@ -134,7 +173,7 @@ fn work(
             pack,
             ends,
             defined,
-            slots,
+            slot,
             slot_items,
             slot_values,
             instruction,

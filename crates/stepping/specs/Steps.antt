@@ -18,6 +18,7 @@ use Rattle.ink_value.specs.declared.Value.{Value}
 use Rattle.ink_value.specs.declared.Value.the-variants as Is
 use Rattle.pack.specs.Bodies.{decoded}
 use Rattle.pack.specs.Format.{format1, definitionLimit}
+use Rattle.pack.specs.Instruction.{Instr, op, push, pushBool, pushInt, pushFloat, pushList, pushSlot, pushVoid}
 use Rattle.pack.specs.Judge.{Sound}
 use Rattle.pack.specs.Read.{endsOf, definedOf}
 use Rattle.pack.specs.declared.format.Format.{Format}
@@ -112,6 +113,29 @@ pub record Picks (count : ℕ) (one two three r : Value) : Type 0 where
   pub at-one : count ≡ 1 → r ≡ one
   pub at-two : count ≡ 2 → r ≡ two
   pub at-three : count ≡ 3 → r ≡ three
+
+-- of an operator alone
+abbrev pub IfOp : Instr → Type 0 → Type 0
+IfOp (op o) X = X
+IfOp (push p) X = Unit {0}
+
+-- of a slot's push alone
+abbrev pub IfSlot : Instr → (ℕ → Type 0) → Type 0
+IfSlot (op o) P = Unit {0}
+IfSlot (push (pushBool b)) P = Unit {0}
+IfSlot (push (pushInt z)) P = Unit {0}
+IfSlot (push (pushFloat b)) P = Unit {0}
+IfSlot (push (pushList l)) P = Unit {0}
+IfSlot (push (pushSlot s)) P = P s
+IfSlot (push pushVoid) P = Unit {0}
+
+-- the values of slots
+abbrev pub Slots : Type 0
+Slots = List Value
+
+-- the value of the slot that an instruction pushes
+abbrev pub SlotIs : Slots → Value → Instr → Type 0
+SlotIs slots v i = IfSlot i (λ s. (s < length slots) × (v ≡ getD slots s (Is.Bool false)))
 
 -- the definitions' tables
 pub record Known (ends : List ℕ) (defined : List ℤ) : Type 0 where

@@ -25,7 +25,7 @@ ghost use Rattle.pack.specs.Judge.{Sound};
 ghost use Rattle.pack.specs.Read.{literalOf};
 ghost use Rattle.sheet.specs.Machine.{stackLimit, stepOp, step, valuePushed, run};
 ghost use Rattle.sheet.specs.Stack.{stackOf};
-ghost use Rattle.stepping.specs.Steps.{Inputs, Put, Answered, pushed, Steps, Tops, TopsFormed, Picks, Known, Roomy};
+ghost use Rattle.stepping.specs.Steps.{Inputs, IfOp, Slots, SlotIs, Put, Answered, pushed, Steps, Tops, TopsFormed, Picks, Known, Roomy};
 
 // What one instruction does to the stack: a value is put at a place, which is then the top; or a question says no.
 pub enum Step {
@@ -295,12 +295,12 @@ fn run_op(
     )
 }
 
-// An instruction on a stack of n, of which the three topmost are given.
+// An instruction on a stack of n: for an operator the three topmost are given, for a slot its value.
 pub fn run_step(
     pack: &[u8],
     ends: &[u16],
     defined: &[i32],
-    slots: [Value; 16],
+    slot: Value,
     slot_items: &[u16],
     slot_values: &[i32],
     i: Instruction,
@@ -311,10 +311,11 @@ pub fn run_step(
     work_items: &mut [u16],
     work_values: &mut [i32],
 ) -> Step
-    requires { ⌜ Inputs (now pack) (now ends) (now defined) slots (now «slot_items») (now «slot_values») ⌝ }
+    requires { ⌜ Inputs (now pack) (now ends) (now defined) [] (now «slot_items») (now «slot_values») × Formed (format1 .limit) (now «slot_items») (now «slot_values») slot ⌝ }
     requires { ⌜ Allowed (literalCount (now pack)) (instrOf i) × (n ≤ stackLimit) ⌝ }
-    requires { ⌜ Roomy (now «work_items») (now «work_values») × TopsFormed (now «work_items») (now «work_values») third second top n ⌝ }
-    ensures { λ r. ⌜ ((f : ℕ → Val) → Tops (now («work_items» .entry)) (now («work_values» .entry)) third second top n f
+    requires { ⌜ Roomy (now «work_items») (now «work_values») × IfOp (instrOf i) (TopsFormed (now «work_items») (now «work_values») third second top n) ⌝ }
+    ensures { λ r. ⌜ ((slots : Slots) → SlotIs slots slot (instrOf i)
+        → (f : ℕ → Val) → IfOp (instrOf i) (Tops (now («work_items» .entry)) (now («work_values» .entry)) third second top n f)
         → Steps n (step (valuePushed (literalOf (decoded format1 (now (pack .entry)))) (map (valIn «slot_items» «slot_values») slots))
         (applyOp (definitionsIn ends defined (format1 .limit))) (instrOf i) (stackOf f n)) f r
         (now («work_items» .entry)) (now («work_items» .exit)) (now («work_values» .entry)) (now («work_values» .exit))) ⌝ }
@@ -338,11 +339,14 @@ pub fn run_step(
             n,
         ),
         Instruction::List(l) => push_literal(pack, l as usize, n, work_items, work_values),
-        Instruction::Slot(s) => {
-            let k = s as usize;
-            let v = slots[k];
-            push_slot(v, n, slot_items, slot_values, work_items, work_values)
-        }
+        Instruction::Slot(_) => push_slot(
+            slot,
+            n,
+            slot_items,
+            slot_values,
+            work_items,
+            work_values,
+        ),
         Instruction::Void => push_value(Value::Void, n),
     }
 }

@@ -13,26 +13,27 @@ use Rattle.pack.proofs.Allowed.{allowed}
 use Rattle.pack.proofs.Programs.{whole}
 use Rattle.sheet.specs.Machine.{stackLimit}
 use Rattle.running.specs.Work.{Longest}
-use Rattle.running.proofs.Working.{Working, begin, valueOn, tops, tops-formed, roomy, advance, refused, one-left, not-one, width-some}
+use Rattle.running.proofs.Working.{Working, if-op3, slot-is, inputs-none, allowed-slot, begin, valueOn, tops, tops-formed, roomy, advance, refused, one-left, not-one, width-some}
 use borrow.Author.Needs.{needs}
 use Rattle.running.proofs.work.Statement.{statement}
 use Rattle.running.proofs.work.Tie as tie
 
 abbrev Inv-loop : tie.InvT-loop
-Inv-loop pack ends defined sheet slots slot-items slot-values used₀ work-items₀ work-values₀ end at₀ stack₀ n₀ i₀ used work-items work-values at stack n i =
+Inv-loop pack ends defined sheet slot-items slot-values used₀ work-items₀ work-values₀ slots end at₀ stack₀ n₀ i₀ used work-items work-values at stack n i =
     Working pack sheet (definitions ends defined (format1 .limit)) (map (valOf slot-items slot-values) slots) work-items₀ work-values₀ used work-items work-values stack n at i
 
 abbrev μ-loop : tie.MeasureT-loop
-μ-loop pack ends defined sheet slots slot-items slot-values used₀ work-items₀ work-values₀ end at₀ stack₀ n₀ i₀ used work-items work-values at stack n i =
+μ-loop pack ends defined sheet slot-items slot-values used₀ work-items₀ work-values₀ slots end at₀ stack₀ n₀ i₀ used work-items work-values at stack n i =
     end - at
 
 sheet-span-requires : tie.Need-sheet-span-requires Inv-loop μ-loop
-sheet-span-requires c κs = search needs
+sheet-span-requires c κs =
+    search needs
 
 loop-holds : tie.Need-loop-holds Inv-loop μ-loop
 loop-holds c =
     let s = c .before .before .before .before .before .before in
-    begin (s .args .pack .now) (s .args .sheet) (definitions (s .args .ends .now) (s .args .defined .now) (format1 .limit)) (map (valOf (s .args .slot-items .now) (s .args .slot-values .now)) (s .args .slots)) (s .args .work-items .now) (s .args .work-values .now) (s .args .used .now) _ _ (c .sheet-span .ensures .starts) refl (s .pre .1 .0 .1)
+    begin (s .args .pack .now) (s .args .sheet) (definitions (s .args .ends .now) (s .args .defined .now) (format1 .limit)) (map (valOf (s .args .slot-items .now) (s .args .slot-values .now)) (s .args .t5)) (s .args .work-items .now) (s .args .work-values .now) (s .args .used .now) _ _ (c .sheet-span .ensures .starts) refl (s .pre .1 .0 .1)
 
 read-instruction-requires : tie.Need-read-instruction-requires Inv-loop μ-loop
 read-instruction-requires c κs =
@@ -43,149 +44,165 @@ read-instruction-requires c κs =
     whole (s .args .pack .now) (s .args .sheet) (l .i) (l .at) (l .inv .standing) more (omega (arith, sp .ends, sp .within))
 
 instruction-width-requires : tie.Need-instruction-width-requires Inv-loop μ-loop
-instruction-width-requires c κs = search needs
+instruction-width-requires c κs =
+    search needs
 
-below-requires : tie.Need-below-requires Inv-loop μ-loop
-below-requires c κs =
-    (c .before .before .before .loop .inv .depth, omega arith)
+slot-place-requires : tie.Need-slot-place-requires Inv-loop μ-loop
+slot-place-requires c κs =
+    allowed-slot (literalCount (c .before .before .before .before .before .before .before .before .before .before .args .pack .now)) (instrOf (c .before .read-instruction .result)) (allowed (literalCount (c .before .before .before .before .before .before .before .before .before .before .args .pack .now)) (c .before .before .before .before .before .before .before .before .before .before .args .pack .now) (c .before .before .before .loop .at) _ (c .before .read-instruction .ensures .stands))
 
-below-requires-2 : tie.Need-below-requires-2 Inv-loop μ-loop
-below-requires-2 c κs =
-    (c .before .before .before .before .loop .inv .depth, omega arith)
+mul-slot : tie.Need-mul-slot Inv-loop μ-loop
+mul-slot c =
+    omega (arith, c .slot-place .ensures .0)
 
-below-requires-3 : tie.Need-below-requires-3 Inv-loop μ-loop
-below-requires-3 c κs =
+array-copy-out-slot : tie.Need-array-copy-out-slot Inv-loop μ-loop
+array-copy-out-slot c =
+    c .slot-place .ensures .0
+
+operand-place-requires : tie.Need-operand-place-requires Inv-loop μ-loop
+operand-place-requires c κs =
     (c .before .before .before .before .before .loop .inv .depth, omega arith)
+
+operand-place-requires-2 : tie.Need-operand-place-requires-2 Inv-loop μ-loop
+operand-place-requires-2 c κs =
+    (c .before .before .before .before .before .before .loop .inv .depth, omega arith)
+
+operand-place-requires-3 : tie.Need-operand-place-requires-3 Inv-loop μ-loop
+operand-place-requires-3 c κs =
+    (c .before .before .before .before .before .before .before .loop .inv .depth, omega arith)
 
 mul-top : tie.Need-mul-top Inv-loop μ-loop
 mul-top c =
-    omega (arith, c .before .before .below .ensures .1)
+    omega (arith, c .before .before .operand-place .ensures .1)
 
 array-copy-out-top : tie.Need-array-copy-out-top Inv-loop μ-loop
 array-copy-out-top c =
-    c .before .before .below .ensures .1
+    c .before .before .operand-place .ensures .1
 
 mul-second : tie.Need-mul-second Inv-loop μ-loop
 mul-second c =
-    omega (arith, c .before .before .below2 .ensures .1)
+    omega (arith, c .before .before .operand-place2 .ensures .1)
 
 array-copy-out-second : tie.Need-array-copy-out-second Inv-loop μ-loop
 array-copy-out-second c =
-    c .before .before .below2 .ensures .1
+    c .before .before .operand-place2 .ensures .1
 
 mul-third : tie.Need-mul-third Inv-loop μ-loop
 mul-third c =
-    omega (arith, c .before .before .below3 .ensures .1)
+    omega (arith, c .before .before .operand-place3 .ensures .1)
 
 array-copy-out-third : tie.Need-array-copy-out-third Inv-loop μ-loop
 array-copy-out-third c =
-    c .before .before .below3 .ensures .1
+    c .before .before .operand-place3 .ensures .1
 
 run-step-requires : tie.Need-run-step-requires Inv-loop μ-loop
 run-step-requires c κs =
-    let s = c .before .before .before .before .before .before .before .before .before .before .before .before .before .before .before .before .before .before in
-    let l = c .before .before .before .before .before .before .before .before .before .before .before .loop in
-    let sp = c .before .before .before .before .before .before .before .before .before .before .before .before .sheet-span .ensures in
-    let more : l .at < sheetEnd (s .args .pack .now) (s .args .sheet) = omega (arith, sp .ends, c .before .before .before .before .before .before .before .before .before .before .loop-test .taken) in
-    (s .pre .0, ((allowed (literalCount (s .args .pack .now)) (s .args .pack .now) (l .at) _ (c .before .before .before .before .before .before .before .before .before .read-instruction .ensures .stands), l .inv .depth), (roomy (s .args .pack .now) (s .args .sheet) (definitions (s .args .ends .now) (s .args .defined .now) (format1 .limit)) (map (valOf (s .args .slot-items .now) (s .args .slot-values .now)) (s .args .slots)) (s .args .work-items .now) (s .args .work-values .now) (l .used) (l .work-items) (l .work-values) (l .stack) (l .n) (l .at) (l .i) (l .inv) (s .pre .1 .1), tops-formed (s .args .pack .now) (s .args .sheet) (definitions (s .args .ends .now) (s .args .defined .now) (format1 .limit)) (map (valOf (s .args .slot-items .now) (s .args .slot-values .now)) (s .args .slots)) (s .args .work-items .now) (s .args .work-values .now) (l .used) (l .work-items) (l .work-values) (l .stack) (l .n) (l .at) (l .i) (l .inv) (c .before .before .before .before .before .before .before .below .result) (c .before .before .before .before .before .before .below2 .result) (c .before .before .before .before .before .below3 .result) (c .before .before .before .before .before .before .before .below .ensures .0) (c .before .before .before .before .before .before .below2 .ensures .0) (c .before .before .before .before .before .below3 .ensures .0))))
+    let s = c .before .before .before .before .before .before .before .before .before .before .before .before .before .before .before .before .before .before .before .before in
+    let l = c .before .before .before .before .before .before .before .before .before .before .before .before .before .loop in
+    let sp = c .before .before .before .before .before .before .before .before .before .before .before .before .before .before .sheet-span .ensures in
+    let more : l .at < sheetEnd (s .args .pack .now) (s .args .sheet) = omega (arith, sp .ends, c .before .before .before .before .before .before .before .before .before .before .before .before .loop-test .taken) in
+    ((inputs-none (s .pre .0), s .pre .0 .slots-formed (c .before .before .before .before .before .before .before .before .before .slot-place .result) (omega (arith, s .good .1 .1 .1 .1 .0 .1 .0 .1, c .before .before .before .before .before .before .before .before .before .slot-place .ensures .0))), ((allowed (literalCount (s .args .pack .now)) (s .args .pack .now) (l .at) _ (c .before .before .before .before .before .before .before .before .before .before .before .read-instruction .ensures .stands), l .inv .depth), (roomy (s .args .pack .now) (s .args .sheet) (definitions (s .args .ends .now) (s .args .defined .now) (format1 .limit)) (map (valOf (s .args .slot-items .now) (s .args .slot-values .now)) (s .args .t5)) (s .args .work-items .now) (s .args .work-values .now) (l .used) (l .work-items) (l .work-values) (l .stack) (l .n) (l .at) (l .i) (l .inv) (s .pre .1 .1), if-op3 (instrOf (c .before .before .before .before .before .before .before .before .before .before .before .read-instruction .result)) (tops-formed (s .args .pack .now) (s .args .sheet) (definitions (s .args .ends .now) (s .args .defined .now) (format1 .limit)) (map (valOf (s .args .slot-items .now) (s .args .slot-values .now)) (s .args .t5)) (s .args .work-items .now) (s .args .work-values .now) (l .used) (l .work-items) (l .work-values) (l .stack) (l .n) (l .at) (l .i) (l .inv) (c .before .before .before .before .before .before .before .operand-place .result) (c .before .before .before .before .before .before .operand-place2 .result) (c .before .before .before .before .before .operand-place3 .result)) (c .before .before .before .before .before .before .before .operand-place .ensures .0) (c .before .before .before .before .before .before .operand-place2 .ensures .0) (c .before .before .before .before .before .operand-place3 .ensures .0))))
 
 enum-known-step : tie.Need-enum-known-step Inv-loop μ-loop
-enum-known-step c = search needs
+enum-known-step c =
+    search needs
 
 len-of-requires : tie.Need-len-of-requires Inv-loop μ-loop
-len-of-requires c κs = search needs
+len-of-requires c κs =
+    search needs
 
 keep-longest-requires : tie.Need-keep-longest-requires Inv-loop μ-loop
 keep-longest-requires c κs =
-    let l = c .before .before .before .before .before .before .before .before .before .before .before .before .before .before .before .before .before .before .before .before .loop in
-    let s = c .before .before .before .before .before .before .before .before .before .before .before .before .before .before .before .before .before .before .before .before .before .before .before .before .before .before .before in
-    let w = rw (c .before .before .before .step .given .1) at (c .before .before .before .before .before .before .before .before .run-step .ensures (valueOn (l .work-items) (l .work-values) (l .stack)) (tops (s .args .pack .now) (s .args .sheet) (definitions (s .args .ends .now) (s .args .defined .now) (format1 .limit)) (map (valOf (s .args .slot-items .now) (s .args .slot-values .now)) (s .args .slots)) (s .args .work-items .now) (s .args .work-values .now) (l .used) (l .work-items) (l .work-values) (l .stack) (l .n) (l .at) (l .i) (l .inv) (c .before .before .before .before .before .before .before .before .before .before .before .before .before .before .before .before .below .result) (c .before .before .before .before .before .before .before .before .before .before .before .before .before .before .before .below2 .result) (c .before .before .before .before .before .before .before .before .before .before .before .before .before .before .below3 .result) (c .before .before .before .before .before .before .before .before .before .before .before .before .before .before .before .before .below .ensures .0) (c .before .before .before .before .before .before .before .before .before .before .before .before .before .before .before .below2 .ensures .0) (c .before .before .before .before .before .before .before .before .before .before .before .before .before .before .below3 .ensures .0)) .by) in
+    let l = c .before .before .before .before .before .before .before .before .before .before .before .before .before .before .before .before .before .before .before .before .before .before .loop in
+    let s = c .before .before .before .before .before .before .before .before .before .before .before .before .before .before .before .before .before .before .before .before .before .before .before .before .before .before .before .before .before in
+    let w = rw (c .before .before .before .step .given .1) at (c .before .before .before .before .before .before .before .before .run-step .ensures (c .before .before .before .before .before .before .before .before .before .before .before .before .before .before .before .before .before .before .before .before .before .before .before .before .before .before .before .before .before .args .t5) (slot-is (instrOf (c .before .before .before .before .before .before .before .before .before .before .before .before .before .before .before .before .before .before .before .before .read-instruction .result)) (c .before .before .before .before .before .before .before .before .before .before .before .before .before .before .before .before .before .before .before .before .before .before .before .before .before .before .before .before .before .args .t5) (c .before .before .before .before .before .before .before .before .before .before .before .before .before .before .before .before .before .before .slot-place .result) (omega (arith, c .before .before .before .before .before .before .before .before .before .before .before .before .before .before .before .before .before .before .before .before .before .before .before .before .before .before .before .before .before .good .1 .1 .1 .1 .0 .1 .0 .1, c .before .before .before .before .before .before .before .before .before .before .before .before .before .before .before .before .before .before .slot-place .ensures .0)) (c .before .before .before .before .before .before .before .before .before .before .before .before .before .before .before .before .before .before .slot-place .ensures .1)) (valueOn (l .work-items) (l .work-values) (l .stack)) (if-op3 (instrOf (c .before .before .before .before .before .before .before .before .before .before .before .before .before .before .before .before .before .before .before .before .read-instruction .result)) (tops (s .args .pack .now) (s .args .sheet) (definitions (s .args .ends .now) (s .args .defined .now) (format1 .limit)) (map (valOf (s .args .slot-items .now) (s .args .slot-values .now)) (s .args .t5)) (s .args .work-items .now) (s .args .work-values .now) (l .used) (l .work-items) (l .work-values) (l .stack) (l .n) (l .at) (l .i) (l .inv) (c .before .before .before .before .before .before .before .before .before .before .before .before .before .before .before .before .operand-place .result) (c .before .before .before .before .before .before .before .before .before .before .before .before .before .before .before .operand-place2 .result) (c .before .before .before .before .before .before .before .before .before .before .before .before .before .before .operand-place3 .result)) (c .before .before .before .before .before .before .before .before .before .before .before .before .before .before .before .before .operand-place .ensures .0) (c .before .before .before .before .before .before .before .before .before .before .before .before .before .before .before .operand-place2 .ensures .0) (c .before .before .before .before .before .before .before .before .before .before .before .before .before .before .operand-place3 .ensures .0)) .by) in
     omega (arith, w .depth, l .inv .used-is)
 
 mul-stack : tie.Need-mul-stack Inv-loop μ-loop
 mul-stack c =
-    let l = c .before .before .before .before .before .before .before .before .before .before .before .before .before .before .before .before .before .before .before .before .before .before .before .loop in
-    let s = c .before .before .before .before .before .before .before .before .before .before .before .before .before .before .before .before .before .before .before .before .before .before .before .before .before .before .before .before .before .before in
-    let w = rw (c .before .before .before .before .before .before .step .given .1) at (c .before .before .before .before .before .before .before .before .before .before .before .run-step .ensures (valueOn (l .work-items) (l .work-values) (l .stack)) (tops (s .args .pack .now) (s .args .sheet) (definitions (s .args .ends .now) (s .args .defined .now) (format1 .limit)) (map (valOf (s .args .slot-items .now) (s .args .slot-values .now)) (s .args .slots)) (s .args .work-items .now) (s .args .work-values .now) (l .used) (l .work-items) (l .work-values) (l .stack) (l .n) (l .at) (l .i) (l .inv) (c .before .before .before .before .before .before .before .before .before .before .before .before .before .before .before .before .before .before .before .below .result) (c .before .before .before .before .before .before .before .before .before .before .before .before .before .before .before .before .before .before .below2 .result) (c .before .before .before .before .before .before .before .before .before .before .before .before .before .before .before .before .before .below3 .result) (c .before .before .before .before .before .before .before .before .before .before .before .before .before .before .before .before .before .before .before .below .ensures .0) (c .before .before .before .before .before .before .before .before .before .before .before .before .before .before .before .before .before .before .below2 .ensures .0) (c .before .before .before .before .before .before .before .before .before .before .before .before .before .before .before .before .before .below3 .ensures .0)) .by) in
+    let l = c .before .before .before .before .before .before .before .before .before .before .before .before .before .before .before .before .before .before .before .before .before .before .before .before .before .loop in
+    let s = c .before .before .before .before .before .before .before .before .before .before .before .before .before .before .before .before .before .before .before .before .before .before .before .before .before .before .before .before .before .before .before .before in
+    let w = rw (c .before .before .before .before .before .before .step .given .1) at (c .before .before .before .before .before .before .before .before .before .before .before .run-step .ensures (c .before .before .before .before .before .before .before .before .before .before .before .before .before .before .before .before .before .before .before .before .before .before .before .before .before .before .before .before .before .before .before .before .args .t5) (slot-is (instrOf (c .before .before .before .before .before .before .before .before .before .before .before .before .before .before .before .before .before .before .before .before .before .before .before .read-instruction .result)) (c .before .before .before .before .before .before .before .before .before .before .before .before .before .before .before .before .before .before .before .before .before .before .before .before .before .before .before .before .before .before .before .before .args .t5) (c .before .before .before .before .before .before .before .before .before .before .before .before .before .before .before .before .before .before .before .before .before .slot-place .result) (omega (arith, c .before .before .before .before .before .before .before .before .before .before .before .before .before .before .before .before .before .before .before .before .before .before .before .before .before .before .before .before .before .before .before .before .good .1 .1 .1 .1 .0 .1 .0 .1, c .before .before .before .before .before .before .before .before .before .before .before .before .before .before .before .before .before .before .before .before .before .slot-place .ensures .0)) (c .before .before .before .before .before .before .before .before .before .before .before .before .before .before .before .before .before .before .before .before .before .slot-place .ensures .1)) (valueOn (l .work-items) (l .work-values) (l .stack)) (if-op3 (instrOf (c .before .before .before .before .before .before .before .before .before .before .before .before .before .before .before .before .before .before .before .before .before .before .before .read-instruction .result)) (tops (s .args .pack .now) (s .args .sheet) (definitions (s .args .ends .now) (s .args .defined .now) (format1 .limit)) (map (valOf (s .args .slot-items .now) (s .args .slot-values .now)) (s .args .t5)) (s .args .work-items .now) (s .args .work-values .now) (l .used) (l .work-items) (l .work-values) (l .stack) (l .n) (l .at) (l .i) (l .inv) (c .before .before .before .before .before .before .before .before .before .before .before .before .before .before .before .before .before .before .before .operand-place .result) (c .before .before .before .before .before .before .before .before .before .before .before .before .before .before .before .before .before .before .operand-place2 .result) (c .before .before .before .before .before .before .before .before .before .before .before .before .before .before .before .before .before .operand-place3 .result)) (c .before .before .before .before .before .before .before .before .before .before .before .before .before .before .before .before .before .before .before .operand-place .ensures .0) (c .before .before .before .before .before .before .before .before .before .before .before .before .before .before .before .before .before .before .operand-place2 .ensures .0) (c .before .before .before .before .before .before .before .before .before .before .before .before .before .before .before .before .before .operand-place3 .ensures .0)) .by) in
     omega (arith, w .depth)
 
 array-set-from-stack : tie.Need-array-set-from-stack Inv-loop μ-loop
 array-set-from-stack c =
-    let l = c .before .before .before .before .before .before .before .before .before .before .before .before .before .before .before .before .before .before .before .before .before .before .before .loop in
-    let s = c .before .before .before .before .before .before .before .before .before .before .before .before .before .before .before .before .before .before .before .before .before .before .before .before .before .before .before .before .before .before in
-    let w = rw (c .before .before .before .before .before .before .step .given .1) at (c .before .before .before .before .before .before .before .before .before .before .before .run-step .ensures (valueOn (l .work-items) (l .work-values) (l .stack)) (tops (s .args .pack .now) (s .args .sheet) (definitions (s .args .ends .now) (s .args .defined .now) (format1 .limit)) (map (valOf (s .args .slot-items .now) (s .args .slot-values .now)) (s .args .slots)) (s .args .work-items .now) (s .args .work-values .now) (l .used) (l .work-items) (l .work-values) (l .stack) (l .n) (l .at) (l .i) (l .inv) (c .before .before .before .before .before .before .before .before .before .before .before .before .before .before .before .before .before .before .before .below .result) (c .before .before .before .before .before .before .before .before .before .before .before .before .before .before .before .before .before .before .below2 .result) (c .before .before .before .before .before .before .before .before .before .before .before .before .before .before .before .before .before .below3 .result) (c .before .before .before .before .before .before .before .before .before .before .before .before .before .before .before .before .before .before .before .below .ensures .0) (c .before .before .before .before .before .before .before .before .before .before .before .before .before .before .before .before .before .before .below2 .ensures .0) (c .before .before .before .before .before .before .before .before .before .before .before .before .before .before .before .before .before .below3 .ensures .0)) .by) in
+    let l = c .before .before .before .before .before .before .before .before .before .before .before .before .before .before .before .before .before .before .before .before .before .before .before .before .before .loop in
+    let s = c .before .before .before .before .before .before .before .before .before .before .before .before .before .before .before .before .before .before .before .before .before .before .before .before .before .before .before .before .before .before .before .before in
+    let w = rw (c .before .before .before .before .before .before .step .given .1) at (c .before .before .before .before .before .before .before .before .before .before .before .run-step .ensures (c .before .before .before .before .before .before .before .before .before .before .before .before .before .before .before .before .before .before .before .before .before .before .before .before .before .before .before .before .before .before .before .before .args .t5) (slot-is (instrOf (c .before .before .before .before .before .before .before .before .before .before .before .before .before .before .before .before .before .before .before .before .before .before .before .read-instruction .result)) (c .before .before .before .before .before .before .before .before .before .before .before .before .before .before .before .before .before .before .before .before .before .before .before .before .before .before .before .before .before .before .before .before .args .t5) (c .before .before .before .before .before .before .before .before .before .before .before .before .before .before .before .before .before .before .before .before .before .slot-place .result) (omega (arith, c .before .before .before .before .before .before .before .before .before .before .before .before .before .before .before .before .before .before .before .before .before .before .before .before .before .before .before .before .before .before .before .before .good .1 .1 .1 .1 .0 .1 .0 .1, c .before .before .before .before .before .before .before .before .before .before .before .before .before .before .before .before .before .before .before .before .before .slot-place .ensures .0)) (c .before .before .before .before .before .before .before .before .before .before .before .before .before .before .before .before .before .before .before .before .before .slot-place .ensures .1)) (valueOn (l .work-items) (l .work-values) (l .stack)) (if-op3 (instrOf (c .before .before .before .before .before .before .before .before .before .before .before .before .before .before .before .before .before .before .before .before .before .before .before .read-instruction .result)) (tops (s .args .pack .now) (s .args .sheet) (definitions (s .args .ends .now) (s .args .defined .now) (format1 .limit)) (map (valOf (s .args .slot-items .now) (s .args .slot-values .now)) (s .args .t5)) (s .args .work-items .now) (s .args .work-values .now) (l .used) (l .work-items) (l .work-values) (l .stack) (l .n) (l .at) (l .i) (l .inv) (c .before .before .before .before .before .before .before .before .before .before .before .before .before .before .before .before .before .before .before .operand-place .result) (c .before .before .before .before .before .before .before .before .before .before .before .before .before .before .before .before .before .before .operand-place2 .result) (c .before .before .before .before .before .before .before .before .before .before .before .before .before .before .before .before .before .operand-place3 .result)) (c .before .before .before .before .before .before .before .before .before .before .before .before .before .before .before .before .before .before .before .operand-place .ensures .0) (c .before .before .before .before .before .before .before .before .before .before .before .before .before .before .before .before .before .before .operand-place2 .ensures .0) (c .before .before .before .before .before .before .before .before .before .before .before .before .before .before .before .before .before .operand-place3 .ensures .0)) .by) in
     w .depth
 
 add-n : tie.Need-add-n Inv-loop μ-loop
 add-n c =
-    let l = c .before .before .before .before .before .before .before .before .before .before .before .before .before .before .before .before .before .before .before .before .before .before .before .loop in
-    let s = c .before .before .before .before .before .before .before .before .before .before .before .before .before .before .before .before .before .before .before .before .before .before .before .before .before .before .before .before .before .before in
-    let w = rw (c .before .before .before .before .before .before .step .given .1) at (c .before .before .before .before .before .before .before .before .before .before .before .run-step .ensures (valueOn (l .work-items) (l .work-values) (l .stack)) (tops (s .args .pack .now) (s .args .sheet) (definitions (s .args .ends .now) (s .args .defined .now) (format1 .limit)) (map (valOf (s .args .slot-items .now) (s .args .slot-values .now)) (s .args .slots)) (s .args .work-items .now) (s .args .work-values .now) (l .used) (l .work-items) (l .work-values) (l .stack) (l .n) (l .at) (l .i) (l .inv) (c .before .before .before .before .before .before .before .before .before .before .before .before .before .before .before .before .before .before .before .below .result) (c .before .before .before .before .before .before .before .before .before .before .before .before .before .before .before .before .before .before .below2 .result) (c .before .before .before .before .before .before .before .before .before .before .before .before .before .before .before .before .before .below3 .result) (c .before .before .before .before .before .before .before .before .before .before .before .before .before .before .before .before .before .before .before .below .ensures .0) (c .before .before .before .before .before .before .before .before .before .before .before .before .before .before .before .before .before .before .below2 .ensures .0) (c .before .before .before .before .before .before .before .before .before .before .before .before .before .before .before .before .before .below3 .ensures .0)) .by) in
+    let l = c .before .before .before .before .before .before .before .before .before .before .before .before .before .before .before .before .before .before .before .before .before .before .before .before .before .loop in
+    let s = c .before .before .before .before .before .before .before .before .before .before .before .before .before .before .before .before .before .before .before .before .before .before .before .before .before .before .before .before .before .before .before .before in
+    let w = rw (c .before .before .before .before .before .before .step .given .1) at (c .before .before .before .before .before .before .before .before .before .before .before .run-step .ensures (c .before .before .before .before .before .before .before .before .before .before .before .before .before .before .before .before .before .before .before .before .before .before .before .before .before .before .before .before .before .before .before .before .args .t5) (slot-is (instrOf (c .before .before .before .before .before .before .before .before .before .before .before .before .before .before .before .before .before .before .before .before .before .before .before .read-instruction .result)) (c .before .before .before .before .before .before .before .before .before .before .before .before .before .before .before .before .before .before .before .before .before .before .before .before .before .before .before .before .before .before .before .before .args .t5) (c .before .before .before .before .before .before .before .before .before .before .before .before .before .before .before .before .before .before .before .before .before .slot-place .result) (omega (arith, c .before .before .before .before .before .before .before .before .before .before .before .before .before .before .before .before .before .before .before .before .before .before .before .before .before .before .before .before .before .before .before .before .good .1 .1 .1 .1 .0 .1 .0 .1, c .before .before .before .before .before .before .before .before .before .before .before .before .before .before .before .before .before .before .before .before .before .slot-place .ensures .0)) (c .before .before .before .before .before .before .before .before .before .before .before .before .before .before .before .before .before .before .before .before .before .slot-place .ensures .1)) (valueOn (l .work-items) (l .work-values) (l .stack)) (if-op3 (instrOf (c .before .before .before .before .before .before .before .before .before .before .before .before .before .before .before .before .before .before .before .before .before .before .before .read-instruction .result)) (tops (s .args .pack .now) (s .args .sheet) (definitions (s .args .ends .now) (s .args .defined .now) (format1 .limit)) (map (valOf (s .args .slot-items .now) (s .args .slot-values .now)) (s .args .t5)) (s .args .work-items .now) (s .args .work-values .now) (l .used) (l .work-items) (l .work-values) (l .stack) (l .n) (l .at) (l .i) (l .inv) (c .before .before .before .before .before .before .before .before .before .before .before .before .before .before .before .before .before .before .before .operand-place .result) (c .before .before .before .before .before .before .before .before .before .before .before .before .before .before .before .before .before .before .operand-place2 .result) (c .before .before .before .before .before .before .before .before .before .before .before .before .before .before .before .before .before .operand-place3 .result)) (c .before .before .before .before .before .before .before .before .before .before .before .before .before .before .before .before .before .before .before .operand-place .ensures .0) (c .before .before .before .before .before .before .before .before .before .before .before .before .before .before .before .before .before .before .operand-place2 .ensures .0) (c .before .before .before .before .before .before .before .before .before .before .before .before .before .before .before .before .before .operand-place3 .ensures .0)) .by) in
     omega (arith, w .depth)
 
 add-at : tie.Need-add-at Inv-loop μ-loop
 add-at c =
-    let s = c .before .before .before .before .before .before .before .before .before .before .before .before .before .before .before .before .before .before .before .before .before .before .before .before .before .before .before .before .before .before in
-    let l = c .before .before .before .before .before .before .before .before .before .before .before .before .before .before .before .before .before .before .before .before .before .before .before .loop in
-    let sp = c .before .before .before .before .before .before .before .before .before .before .before .before .before .before .before .before .before .before .before .before .before .before .before .before .sheet-span .ensures in
-    let more : l .at < sheetEnd (s .args .pack .now) (s .args .sheet) = omega (arith, sp .ends, c .before .before .before .before .before .before .before .before .before .before .before .before .before .before .before .before .before .before .before .before .before .before .loop-test .taken) in
-    let nx = c .before .before .before .before .before .before .before .before .before .before .before .before .before .before .before .before .before .before .before .before .before .read-instruction .ensures .each (s .args .sheet) (l .i) (l .inv .standing) more in
-    omega (arith, nx .within, sp .ends, sp .within, c .before .before .before .before .before .before .before .before .before .before .before .before .before .before .before .before .before .before .before .before .instruction-width .ensures, s .pre .0 .sound .contents .frame .short)
+    let s = c .before .before .before .before .before .before .before .before .before .before .before .before .before .before .before .before .before .before .before .before .before .before .before .before .before .before .before .before .before .before .before .before in
+    let l = c .before .before .before .before .before .before .before .before .before .before .before .before .before .before .before .before .before .before .before .before .before .before .before .before .before .loop in
+    let sp = c .before .before .before .before .before .before .before .before .before .before .before .before .before .before .before .before .before .before .before .before .before .before .before .before .before .before .sheet-span .ensures in
+    let more : l .at < sheetEnd (s .args .pack .now) (s .args .sheet) = omega (arith, sp .ends, c .before .before .before .before .before .before .before .before .before .before .before .before .before .before .before .before .before .before .before .before .before .before .before .before .loop-test .taken) in
+    let nx = c .before .before .before .before .before .before .before .before .before .before .before .before .before .before .before .before .before .before .before .before .before .before .before .read-instruction .ensures .each (s .args .sheet) (l .i) (l .inv .standing) more in
+    omega (arith, nx .within, sp .ends, sp .within, c .before .before .before .before .before .before .before .before .before .before .before .before .before .before .before .before .before .before .before .before .before .before .instruction-width .ensures, s .pre .0 .sound .contents .frame .short)
 
 add-i : tie.Need-add-i Inv-loop μ-loop
 add-i c =
-    let s = c .before .before .before .before .before .before .before .before .before .before .before .before .before .before .before .before .before .before .before .before .before .before .before .before .before .before .before .before .before .before in
-    let l = c .before .before .before .before .before .before .before .before .before .before .before .before .before .before .before .before .before .before .before .before .before .before .before .loop in
-    let sp = c .before .before .before .before .before .before .before .before .before .before .before .before .before .before .before .before .before .before .before .before .before .before .before .before .sheet-span .ensures in
-    let more : l .at < sheetEnd (s .args .pack .now) (s .args .sheet) = omega (arith, sp .ends, c .before .before .before .before .before .before .before .before .before .before .before .before .before .before .before .before .before .before .before .before .before .before .loop-test .taken) in
-    omega (arith, c .before .before .before .before .before .before .before .before .before .before .before .before .before .before .before .before .before .before .before .before .before .read-instruction .ensures .each (s .args .sheet) (l .i) (l .inv .standing) more .few)
+    let s = c .before .before .before .before .before .before .before .before .before .before .before .before .before .before .before .before .before .before .before .before .before .before .before .before .before .before .before .before .before .before .before .before in
+    let l = c .before .before .before .before .before .before .before .before .before .before .before .before .before .before .before .before .before .before .before .before .before .before .before .before .before .loop in
+    let sp = c .before .before .before .before .before .before .before .before .before .before .before .before .before .before .before .before .before .before .before .before .before .before .before .before .before .before .sheet-span .ensures in
+    let more : l .at < sheetEnd (s .args .pack .now) (s .args .sheet) = omega (arith, sp .ends, c .before .before .before .before .before .before .before .before .before .before .before .before .before .before .before .before .before .before .before .before .before .before .before .before .loop-test .taken) in
+    omega (arith, c .before .before .before .before .before .before .before .before .before .before .before .before .before .before .before .before .before .before .before .before .before .before .before .read-instruction .ensures .each (s .args .sheet) (l .i) (l .inv .standing) more .few)
 
 loop-less : tie.Need-loop-less Inv-loop μ-loop
 loop-less c =
-    omega (arith, c .before .before .before .before .before .before .before .before .before .before .before .before .before .before .before .before .before .before .before .before .before .before .loop-test .taken, c .before .before .before .before .before .before .before .before .before .before .before .before .before .before .before .before .before .before .before .before .instruction-width .ensures, width-some (instrOf (c .before .before .before .before .before .before .before .before .before .before .before .before .before .before .before .before .before .before .before .before .before .read-instruction .result)))
+    omega (arith, c .before .before .before .before .before .before .before .before .before .before .before .before .before .before .before .before .before .before .before .before .before .before .before .before .loop-test .taken, c .before .before .before .before .before .before .before .before .before .before .before .before .before .before .before .before .before .before .before .before .before .before .instruction-width .ensures, width-some (instrOf (c .before .before .before .before .before .before .before .before .before .before .before .before .before .before .before .before .before .before .before .before .before .before .before .read-instruction .result)))
 
 loop-again : tie.Need-loop-again Inv-loop μ-loop
 loop-again c =
-    let s = c .before .before .before .before .before .before .before .before .before .before .before .before .before .before .before .before .before .before .before .before .before .before .before .before .before .before .before .before .before .before in
-    let l = c .before .before .before .before .before .before .before .before .before .before .before .before .before .before .before .before .before .before .before .before .before .before .before .loop in
-    let sp = c .before .before .before .before .before .before .before .before .before .before .before .before .before .before .before .before .before .before .before .before .before .before .before .before .sheet-span .ensures in
-    let more : l .at < sheetEnd (s .args .pack .now) (s .args .sheet) = omega (arith, sp .ends, c .before .before .before .before .before .before .before .before .before .before .before .before .before .before .before .before .before .before .before .before .before .before .loop-test .taken) in
-    let w = rw (c .before .before .before .before .before .before .step .given .1) at (c .before .before .before .before .before .before .before .before .before .before .before .run-step .ensures (valueOn (l .work-items) (l .work-values) (l .stack)) (tops (s .args .pack .now) (s .args .sheet) (definitions (s .args .ends .now) (s .args .defined .now) (format1 .limit)) (map (valOf (s .args .slot-items .now) (s .args .slot-values .now)) (s .args .slots)) (s .args .work-items .now) (s .args .work-values .now) (l .used) (l .work-items) (l .work-values) (l .stack) (l .n) (l .at) (l .i) (l .inv) (c .before .before .before .before .before .before .before .before .before .before .before .before .before .before .before .before .before .before .before .below .result) (c .before .before .before .before .before .before .before .before .before .before .before .before .before .before .before .before .before .before .below2 .result) (c .before .before .before .before .before .before .before .before .before .before .before .before .before .before .before .before .before .below3 .result) (c .before .before .before .before .before .before .before .before .before .before .before .before .before .before .before .before .before .before .before .below .ensures .0) (c .before .before .before .before .before .before .before .before .before .before .before .before .before .before .before .before .before .before .below2 .ensures .0) (c .before .before .before .before .before .before .before .before .before .before .before .before .before .before .before .before .before .below3 .ensures .0)) .by) in
+    let s = c .before .before .before .before .before .before .before .before .before .before .before .before .before .before .before .before .before .before .before .before .before .before .before .before .before .before .before .before .before .before .before .before in
+    let l = c .before .before .before .before .before .before .before .before .before .before .before .before .before .before .before .before .before .before .before .before .before .before .before .before .before .loop in
+    let sp = c .before .before .before .before .before .before .before .before .before .before .before .before .before .before .before .before .before .before .before .before .before .before .before .before .before .before .sheet-span .ensures in
+    let more : l .at < sheetEnd (s .args .pack .now) (s .args .sheet) = omega (arith, sp .ends, c .before .before .before .before .before .before .before .before .before .before .before .before .before .before .before .before .before .before .before .before .before .before .before .before .loop-test .taken) in
+    let w = rw (c .before .before .before .before .before .before .step .given .1) at (c .before .before .before .before .before .before .before .before .before .before .before .run-step .ensures (c .before .before .before .before .before .before .before .before .before .before .before .before .before .before .before .before .before .before .before .before .before .before .before .before .before .before .before .before .before .before .before .before .args .t5) (slot-is (instrOf (c .before .before .before .before .before .before .before .before .before .before .before .before .before .before .before .before .before .before .before .before .before .before .before .read-instruction .result)) (c .before .before .before .before .before .before .before .before .before .before .before .before .before .before .before .before .before .before .before .before .before .before .before .before .before .before .before .before .before .before .before .before .args .t5) (c .before .before .before .before .before .before .before .before .before .before .before .before .before .before .before .before .before .before .before .before .before .slot-place .result) (omega (arith, c .before .before .before .before .before .before .before .before .before .before .before .before .before .before .before .before .before .before .before .before .before .before .before .before .before .before .before .before .before .before .before .before .good .1 .1 .1 .1 .0 .1 .0 .1, c .before .before .before .before .before .before .before .before .before .before .before .before .before .before .before .before .before .before .before .before .before .slot-place .ensures .0)) (c .before .before .before .before .before .before .before .before .before .before .before .before .before .before .before .before .before .before .before .before .before .slot-place .ensures .1)) (valueOn (l .work-items) (l .work-values) (l .stack)) (if-op3 (instrOf (c .before .before .before .before .before .before .before .before .before .before .before .before .before .before .before .before .before .before .before .before .before .before .before .read-instruction .result)) (tops (s .args .pack .now) (s .args .sheet) (definitions (s .args .ends .now) (s .args .defined .now) (format1 .limit)) (map (valOf (s .args .slot-items .now) (s .args .slot-values .now)) (s .args .t5)) (s .args .work-items .now) (s .args .work-values .now) (l .used) (l .work-items) (l .work-values) (l .stack) (l .n) (l .at) (l .i) (l .inv) (c .before .before .before .before .before .before .before .before .before .before .before .before .before .before .before .before .before .before .before .operand-place .result) (c .before .before .before .before .before .before .before .before .before .before .before .before .before .before .before .before .before .before .operand-place2 .result) (c .before .before .before .before .before .before .before .before .before .before .before .before .before .before .before .before .before .operand-place3 .result)) (c .before .before .before .before .before .before .before .before .before .before .before .before .before .before .before .before .before .before .before .operand-place .ensures .0) (c .before .before .before .before .before .before .before .before .before .before .before .before .before .before .before .before .before .before .operand-place2 .ensures .0) (c .before .before .before .before .before .before .before .before .before .before .before .before .before .before .before .before .before .operand-place3 .ensures .0)) .by) in
     let k = subst (λ (x : ℕ). Longest (l .used) (c .before .before .keep-longest .last .0) (c .before .before .before .before .before .before .step .given .0 .0) x) (c .before .before .before .len-of .ensures) (c .before .before .keep-longest .ensures) in
-    rw (c .before .before .before .before .before .before .before .before .before .before .before .before .before .before .before .before .before .before .before .before .instruction-width .ensures) (advance (s .args .pack .now) (s .args .sheet) (definitions (s .args .ends .now) (s .args .defined .now) (format1 .limit)) (map (valOf (s .args .slot-items .now) (s .args .slot-values .now)) (s .args .slots)) (s .args .work-items .now) (s .args .work-values .now) (l .used) (l .work-items) (l .work-values) (l .stack) (l .n) (l .at) (l .i) (l .inv) (instrOf (c .before .before .before .before .before .before .before .before .before .before .before .before .before .before .before .before .before .before .before .before .before .read-instruction .result)) (c .before .before .before .before .before .before .before .before .before .before .before .before .before .before .before .before .before .before .before .before .before .read-instruction .ensures) more _ _ _ _ _ (s .pre .1 .1) w k)
+    rw (c .before .before .before .before .before .before .before .before .before .before .before .before .before .before .before .before .before .before .before .before .before .before .instruction-width .ensures) (advance (s .args .pack .now) (s .args .sheet) (definitions (s .args .ends .now) (s .args .defined .now) (format1 .limit)) (map (valOf (s .args .slot-items .now) (s .args .slot-values .now)) (s .args .t5)) (s .args .work-items .now) (s .args .work-values .now) (l .used) (l .work-items) (l .work-values) (l .stack) (l .n) (l .at) (l .i) (l .inv) (instrOf (c .before .before .before .before .before .before .before .before .before .before .before .before .before .before .before .before .before .before .before .before .before .before .before .read-instruction .result)) (c .before .before .before .before .before .before .before .before .before .before .before .before .before .before .before .before .before .before .before .before .before .before .before .read-instruction .ensures) more _ _ _ _ _ (s .pre .1 .1) w k)
 
 enum-known-step-2 : tie.Need-enum-known-step-2 Inv-loop μ-loop
-enum-known-step-2 c = search needs
+enum-known-step-2 c =
+    search needs
 
 same-length : tie.Need-same-length Inv-loop μ-loop
 same-length c =
-    let l = c .before .before .before .before .before .before .before .before .before .before .before .before .before .before .before .before .before .before .loop in
-    let s = c .before .before .before .before .before .before .before .before .before .before .before .before .before .before .before .before .before .before .before .before .before .before .before .before .before in
+    let l = c .before .before .before .before .before .before .before .before .before .before .before .before .before .before .before .before .before .before .before .before .loop in
+    let s = c .before .before .before .before .before .before .before .before .before .before .before .before .before .before .before .before .before .before .before .before .before .before .before .before .before .before .before in
     l .inv .used-is ∙ sym (ap length (s .pre .1 .0 .1) ∙ length-replicate {A = ℕ} stackLimit 0)
 
 same-length-2 : tie.Need-same-length-2 Inv-loop μ-loop
 same-length-2 c =
-    let l = c .before .before .before .before .before .before .before .before .before .before .before .before .before .before .before .before .before .before .loop in
-    let s = c .before .before .before .before .before .before .before .before .before .before .before .before .before .before .before .before .before .before .before .before .before .before .before .before .before in
-    let w = rw (c .before .step2 .given .1) at (c .before .before .before .before .before .before .run-step .ensures (valueOn (l .work-items) (l .work-values) (l .stack)) (tops (s .args .pack .now) (s .args .sheet) (definitions (s .args .ends .now) (s .args .defined .now) (format1 .limit)) (map (valOf (s .args .slot-items .now) (s .args .slot-values .now)) (s .args .slots)) (s .args .work-items .now) (s .args .work-values .now) (l .used) (l .work-items) (l .work-values) (l .stack) (l .n) (l .at) (l .i) (l .inv) (c .before .before .before .before .before .before .before .before .before .before .before .before .before .before .below .result) (c .before .before .before .before .before .before .before .before .before .before .before .before .before .below2 .result) (c .before .before .before .before .before .before .before .before .before .before .before .before .below3 .result) (c .before .before .before .before .before .before .before .before .before .before .before .before .before .before .below .ensures .0) (c .before .before .before .before .before .before .before .before .before .before .before .before .before .below2 .ensures .0) (c .before .before .before .before .before .before .before .before .before .before .before .before .below3 .ensures .0)) .by) in
+    let l = c .before .before .before .before .before .before .before .before .before .before .before .before .before .before .before .before .before .before .before .before .loop in
+    let s = c .before .before .before .before .before .before .before .before .before .before .before .before .before .before .before .before .before .before .before .before .before .before .before .before .before .before .before in
+    let w = rw (c .before .step2 .given .1) at (c .before .before .before .before .before .before .run-step .ensures (c .before .before .before .before .before .before .before .before .before .before .before .before .before .before .before .before .before .before .before .before .before .before .before .before .before .before .before .args .t5) (slot-is (instrOf (c .before .before .before .before .before .before .before .before .before .before .before .before .before .before .before .before .before .before .read-instruction .result)) (c .before .before .before .before .before .before .before .before .before .before .before .before .before .before .before .before .before .before .before .before .before .before .before .before .before .before .before .args .t5) (c .before .before .before .before .before .before .before .before .before .before .before .before .before .before .before .before .slot-place .result) (omega (arith, c .before .before .before .before .before .before .before .before .before .before .before .before .before .before .before .before .before .before .before .before .before .before .before .before .before .before .before .good .1 .1 .1 .1 .0 .1 .0 .1, c .before .before .before .before .before .before .before .before .before .before .before .before .before .before .before .before .slot-place .ensures .0)) (c .before .before .before .before .before .before .before .before .before .before .before .before .before .before .before .before .slot-place .ensures .1)) (valueOn (l .work-items) (l .work-values) (l .stack)) (if-op3 (instrOf (c .before .before .before .before .before .before .before .before .before .before .before .before .before .before .before .before .before .before .read-instruction .result)) (tops (s .args .pack .now) (s .args .sheet) (definitions (s .args .ends .now) (s .args .defined .now) (format1 .limit)) (map (valOf (s .args .slot-items .now) (s .args .slot-values .now)) (s .args .t5)) (s .args .work-items .now) (s .args .work-values .now) (l .used) (l .work-items) (l .work-values) (l .stack) (l .n) (l .at) (l .i) (l .inv) (c .before .before .before .before .before .before .before .before .before .before .before .before .before .before .operand-place .result) (c .before .before .before .before .before .before .before .before .before .before .before .before .before .operand-place2 .result) (c .before .before .before .before .before .before .before .before .before .before .before .before .operand-place3 .result)) (c .before .before .before .before .before .before .before .before .before .before .before .before .before .before .operand-place .ensures .0) (c .before .before .before .before .before .before .before .before .before .before .before .before .before .operand-place2 .ensures .0) (c .before .before .before .before .before .before .before .before .before .before .before .before .operand-place3 .ensures .0)) .by) in
     ap length (w .items-same) ∙ l .inv .items-touched .long
 
 same-length-3 : tie.Need-same-length-3 Inv-loop μ-loop
 same-length-3 c =
-    let l = c .before .before .before .before .before .before .before .before .before .before .before .before .before .before .before .before .before .before .loop in
-    let s = c .before .before .before .before .before .before .before .before .before .before .before .before .before .before .before .before .before .before .before .before .before .before .before .before .before in
-    let w = rw (c .before .step2 .given .1) at (c .before .before .before .before .before .before .run-step .ensures (valueOn (l .work-items) (l .work-values) (l .stack)) (tops (s .args .pack .now) (s .args .sheet) (definitions (s .args .ends .now) (s .args .defined .now) (format1 .limit)) (map (valOf (s .args .slot-items .now) (s .args .slot-values .now)) (s .args .slots)) (s .args .work-items .now) (s .args .work-values .now) (l .used) (l .work-items) (l .work-values) (l .stack) (l .n) (l .at) (l .i) (l .inv) (c .before .before .before .before .before .before .before .before .before .before .before .before .before .before .below .result) (c .before .before .before .before .before .before .before .before .before .before .before .before .before .below2 .result) (c .before .before .before .before .before .before .before .before .before .before .before .before .below3 .result) (c .before .before .before .before .before .before .before .before .before .before .before .before .before .before .below .ensures .0) (c .before .before .before .before .before .before .before .before .before .before .before .before .before .below2 .ensures .0) (c .before .before .before .before .before .before .before .before .before .before .before .before .below3 .ensures .0)) .by) in
+    let l = c .before .before .before .before .before .before .before .before .before .before .before .before .before .before .before .before .before .before .before .before .loop in
+    let s = c .before .before .before .before .before .before .before .before .before .before .before .before .before .before .before .before .before .before .before .before .before .before .before .before .before .before .before in
+    let w = rw (c .before .step2 .given .1) at (c .before .before .before .before .before .before .run-step .ensures (c .before .before .before .before .before .before .before .before .before .before .before .before .before .before .before .before .before .before .before .before .before .before .before .before .before .before .before .args .t5) (slot-is (instrOf (c .before .before .before .before .before .before .before .before .before .before .before .before .before .before .before .before .before .before .read-instruction .result)) (c .before .before .before .before .before .before .before .before .before .before .before .before .before .before .before .before .before .before .before .before .before .before .before .before .before .before .before .args .t5) (c .before .before .before .before .before .before .before .before .before .before .before .before .before .before .before .before .slot-place .result) (omega (arith, c .before .before .before .before .before .before .before .before .before .before .before .before .before .before .before .before .before .before .before .before .before .before .before .before .before .before .before .good .1 .1 .1 .1 .0 .1 .0 .1, c .before .before .before .before .before .before .before .before .before .before .before .before .before .before .before .before .slot-place .ensures .0)) (c .before .before .before .before .before .before .before .before .before .before .before .before .before .before .before .before .slot-place .ensures .1)) (valueOn (l .work-items) (l .work-values) (l .stack)) (if-op3 (instrOf (c .before .before .before .before .before .before .before .before .before .before .before .before .before .before .before .before .before .before .read-instruction .result)) (tops (s .args .pack .now) (s .args .sheet) (definitions (s .args .ends .now) (s .args .defined .now) (format1 .limit)) (map (valOf (s .args .slot-items .now) (s .args .slot-values .now)) (s .args .t5)) (s .args .work-items .now) (s .args .work-values .now) (l .used) (l .work-items) (l .work-values) (l .stack) (l .n) (l .at) (l .i) (l .inv) (c .before .before .before .before .before .before .before .before .before .before .before .before .before .before .operand-place .result) (c .before .before .before .before .before .before .before .before .before .before .before .before .before .operand-place2 .result) (c .before .before .before .before .before .before .before .before .before .before .before .before .operand-place3 .result)) (c .before .before .before .before .before .before .before .before .before .before .before .before .before .before .operand-place .ensures .0) (c .before .before .before .before .before .before .before .before .before .before .before .before .before .operand-place2 .ensures .0) (c .before .before .before .before .before .before .before .before .before .before .before .before .operand-place3 .ensures .0)) .by) in
     ap length (w .values-same) ∙ l .inv .values-touched .long
 
 returns : tie.Need-returns Inv-loop μ-loop
 returns c =
-    let s = c .before .before .before .before .before .before .before .before .before .before .before .before .before .before .before .before .before .before .before .before .before .before .before .before .before in
-    let l = c .before .before .before .before .before .before .before .before .before .before .before .before .before .before .before .before .before .before .loop in
-    let sp = c .before .before .before .before .before .before .before .before .before .before .before .before .before .before .before .before .before .before .before .sheet-span .ensures in
-    let more : l .at < sheetEnd (s .args .pack .now) (s .args .sheet) = omega (arith, sp .ends, c .before .before .before .before .before .before .before .before .before .before .before .before .before .before .before .before .before .loop-test .taken) in
-    let w = rw (c .before .step2 .given .1) at (c .before .before .before .before .before .before .run-step .ensures (valueOn (l .work-items) (l .work-values) (l .stack)) (tops (s .args .pack .now) (s .args .sheet) (definitions (s .args .ends .now) (s .args .defined .now) (format1 .limit)) (map (valOf (s .args .slot-items .now) (s .args .slot-values .now)) (s .args .slots)) (s .args .work-items .now) (s .args .work-values .now) (l .used) (l .work-items) (l .work-values) (l .stack) (l .n) (l .at) (l .i) (l .inv) (c .before .before .before .before .before .before .before .before .before .before .before .before .before .before .below .result) (c .before .before .before .before .before .before .before .before .before .before .before .before .before .below2 .result) (c .before .before .before .before .before .before .before .before .before .before .before .before .below3 .result) (c .before .before .before .before .before .before .before .before .before .before .before .before .before .before .below .ensures .0) (c .before .before .before .before .before .before .before .before .before .before .before .before .before .below2 .ensures .0) (c .before .before .before .before .before .before .before .before .before .before .before .before .below3 .ensures .0)) .by) in
+    let s = c .before .before .before .before .before .before .before .before .before .before .before .before .before .before .before .before .before .before .before .before .before .before .before .before .before .before .before in
+    let l = c .before .before .before .before .before .before .before .before .before .before .before .before .before .before .before .before .before .before .before .before .loop in
+    let sp = c .before .before .before .before .before .before .before .before .before .before .before .before .before .before .before .before .before .before .before .before .before .sheet-span .ensures in
+    let more : l .at < sheetEnd (s .args .pack .now) (s .args .sheet) = omega (arith, sp .ends, c .before .before .before .before .before .before .before .before .before .before .before .before .before .before .before .before .before .before .before .loop-test .taken) in
+    let w = rw (c .before .step2 .given .1) at (c .before .before .before .before .before .before .run-step .ensures (c .before .before .before .before .before .before .before .before .before .before .before .before .before .before .before .before .before .before .before .before .before .before .before .before .before .before .before .args .t5) (slot-is (instrOf (c .before .before .before .before .before .before .before .before .before .before .before .before .before .before .before .before .before .before .read-instruction .result)) (c .before .before .before .before .before .before .before .before .before .before .before .before .before .before .before .before .before .before .before .before .before .before .before .before .before .before .before .args .t5) (c .before .before .before .before .before .before .before .before .before .before .before .before .before .before .before .before .slot-place .result) (omega (arith, c .before .before .before .before .before .before .before .before .before .before .before .before .before .before .before .before .before .before .before .before .before .before .before .before .before .before .before .good .1 .1 .1 .1 .0 .1 .0 .1, c .before .before .before .before .before .before .before .before .before .before .before .before .before .before .before .before .slot-place .ensures .0)) (c .before .before .before .before .before .before .before .before .before .before .before .before .before .before .before .before .slot-place .ensures .1)) (valueOn (l .work-items) (l .work-values) (l .stack)) (if-op3 (instrOf (c .before .before .before .before .before .before .before .before .before .before .before .before .before .before .before .before .before .before .read-instruction .result)) (tops (s .args .pack .now) (s .args .sheet) (definitions (s .args .ends .now) (s .args .defined .now) (format1 .limit)) (map (valOf (s .args .slot-items .now) (s .args .slot-values .now)) (s .args .t5)) (s .args .work-items .now) (s .args .work-values .now) (l .used) (l .work-items) (l .work-values) (l .stack) (l .n) (l .at) (l .i) (l .inv) (c .before .before .before .before .before .before .before .before .before .before .before .before .before .before .operand-place .result) (c .before .before .before .before .before .before .before .before .before .before .before .before .before .operand-place2 .result) (c .before .before .before .before .before .before .before .before .before .before .before .before .operand-place3 .result)) (c .before .before .before .before .before .before .before .before .before .before .before .before .before .before .operand-place .ensures .0) (c .before .before .before .before .before .before .before .before .before .before .before .before .before .operand-place2 .ensures .0) (c .before .before .before .before .before .before .before .before .before .before .before .before .operand-place3 .ensures .0)) .by) in
     record {
-      end-is = refused (s .args .pack .now) (s .args .sheet) (definitions (s .args .ends .now) (s .args .defined .now) (format1 .limit)) (map (valOf (s .args .slot-items .now) (s .args .slot-values .now)) (s .args .slots)) (s .args .work-items .now) (s .args .work-values .now) (l .used) (l .work-items) (l .work-values) (l .stack) (l .n) (l .at) (l .i) (l .inv) (instrOf (c .before .before .before .before .before .before .before .before .before .before .before .before .before .before .before .before .read-instruction .result)) (c .before .before .before .before .before .before .before .before .before .before .before .before .before .before .before .before .read-instruction .ensures) more _ (w .refused);
+      end-is = refused (s .args .pack .now) (s .args .sheet) (definitions (s .args .ends .now) (s .args .defined .now) (format1 .limit)) (map (valOf (s .args .slot-items .now) (s .args .slot-values .now)) (s .args .t5)) (s .args .work-items .now) (s .args .work-values .now) (l .used) (l .work-items) (l .work-values) (l .stack) (l .n) (l .at) (l .i) (l .inv) (instrOf (c .before .before .before .before .before .before .before .before .before .before .before .before .before .before .before .before .before .before .read-instruction .result)) (c .before .before .before .before .before .before .before .before .before .before .before .before .before .before .before .before .before .before .read-instruction .ensures) more _ (w .refused);
       end-formed = tt;
       items-touched = rw (w .items-same) (l .inv .items-touched);
       values-touched = rw (w .values-same) (l .inv .values-touched);
@@ -193,7 +210,8 @@ returns c =
     }
 
 array-copy-out-last : tie.Need-array-copy-out-last Inv-loop μ-loop
-array-copy-out-last c = search needs
+array-copy-out-last c =
+    search needs
 
 same-length-4 : tie.Need-same-length-4 Inv-loop μ-loop
 same-length-4 c =
@@ -218,7 +236,7 @@ returns-2 c =
     let l = c .before .before .before .loop in
     let s = c .before .before .before .before .before .before .before .before .before .before in
     let sp = c .before .before .before .before .sheet-span .ensures in
-    record { end-is = one-left (s .args .pack .now) (s .args .sheet) (definitions (s .args .ends .now) (s .args .defined .now) (format1 .limit)) (map (valOf (s .args .slot-items .now) (s .args .slot-values .now)) (s .args .slots)) (s .args .work-items .now) (s .args .work-values .now) (l .used) (l .work-items) (l .work-values) (l .stack) (l .n) (l .at) (l .i) (l .inv) (omega (arith, sp .ends, c .before .before .loop-test .left)) (c .before .if1 .taken); end-formed = l .inv .formed 0 (omega (arith, c .before .if1 .taken)); items-touched = l .inv .items-touched; values-touched = l .inv .values-touched; few = l .inv .few }
+    record { end-is = one-left (s .args .pack .now) (s .args .sheet) (definitions (s .args .ends .now) (s .args .defined .now) (format1 .limit)) (map (valOf (s .args .slot-items .now) (s .args .slot-values .now)) (s .args .t5)) (s .args .work-items .now) (s .args .work-values .now) (l .used) (l .work-items) (l .work-values) (l .stack) (l .n) (l .at) (l .i) (l .inv) (omega (arith, sp .ends, c .before .before .loop-test .left)) (c .before .if1 .taken); end-formed = l .inv .formed 0 (omega (arith, c .before .if1 .taken)); items-touched = l .inv .items-touched; values-touched = l .inv .values-touched; few = l .inv .few }
 
 same-length-7 : tie.Need-same-length-7 Inv-loop μ-loop
 same-length-7 c =
@@ -243,7 +261,7 @@ returns-3 c =
     let l = c .before .before .loop in
     let s = c .before .before .before .before .before .before .before .before .before in
     let sp = c .before .before .before .sheet-span .ensures in
-    record { end-is = not-one (s .args .pack .now) (s .args .sheet) (definitions (s .args .ends .now) (s .args .defined .now) (format1 .limit)) (map (valOf (s .args .slot-items .now) (s .args .slot-values .now)) (s .args .slots)) (s .args .work-items .now) (s .args .work-values .now) (l .used) (l .work-items) (l .work-values) (l .stack) (l .n) (l .at) (l .i) (l .inv) (omega (arith, sp .ends, c .before .loop-test .left)) (c .if1 .left); end-formed = tt; items-touched = l .inv .items-touched; values-touched = l .inv .values-touched; few = l .inv .few }
+    record { end-is = not-one (s .args .pack .now) (s .args .sheet) (definitions (s .args .ends .now) (s .args .defined .now) (format1 .limit)) (map (valOf (s .args .slot-items .now) (s .args .slot-values .now)) (s .args .t5)) (s .args .work-items .now) (s .args .work-values .now) (l .used) (l .work-items) (l .work-values) (l .stack) (l .n) (l .at) (l .i) (l .inv) (omega (arith, sp .ends, c .before .loop-test .left)) (c .if1 .left); end-formed = tt; items-touched = l .inv .items-touched; values-touched = l .inv .values-touched; few = l .inv .few }
 
 pub work-spec : {M : Type 1} → statement M
 work-spec =
@@ -255,9 +273,12 @@ work-spec =
     loop-holds
     read-instruction-requires
     instruction-width-requires
-    below-requires
-    below-requires-2
-    below-requires-3
+    slot-place-requires
+    mul-slot
+    array-copy-out-slot
+    operand-place-requires
+    operand-place-requires-2
+    operand-place-requires-3
     mul-top
     array-copy-out-top
     mul-second
