@@ -12,4 +12,6 @@ pub mod generate;
 pub mod original;
 pub mod pack;
 mod remainder;
+#[path = "../../hosts/rust/src/sys.rs"]
+pub mod sys;
 pub mod values;

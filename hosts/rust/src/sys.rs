@@ -1,7 +1,7 @@
 //! The functions of the archive as they are. `hosts/include/ink_operators.h` says what each answers and writes, what it asks of its caller,
 //! and how values stand in words.
 
-extern "C" {
+unsafe extern "C" {
     pub fn ink_check(pack: *const u8, pack_len: usize) -> u32;
 
     pub fn ink_vet(
@@ -144,4 +144,43 @@ extern "C" {
         result_values_len: usize,
         answer: *mut [u64; 3],
     ) -> u32;
+
+    pub fn ink_apply(
+        ends: *const u16,
+        definitions: usize,
+        defined: *const i32,
+        items: usize,
+        op: u8,
+        count: usize,
+        operands: *const [u64; 9],
+        list_items: *const u16,
+        list_items_len: usize,
+        list_values: *const i32,
+        list_values_len: usize,
+        result_items: *mut u16,
+        result_items_len: usize,
+        result_values: *mut i32,
+        result_values_len: usize,
+        answer: *mut [u64; 3],
+    ) -> u32;
 }
+
+/// [`ink_call_checked`] and [`ink_apply`], which take the same.
+pub type Call = unsafe extern "C" fn(
+    *const u16,
+    usize,
+    *const i32,
+    usize,
+    u8,
+    usize,
+    *const [u64; 9],
+    *const u16,
+    usize,
+    *const i32,
+    usize,
+    *mut u16,
+    usize,
+    *mut i32,
+    usize,
+    *mut [u64; 3],
+) -> u32;

@@ -2,128 +2,11 @@
 use ink_oracle::values::{LIST, List, Val};
 use std::hint::black_box;
 
-unsafe extern "C" {
-    fn ink_check(pack: *const u8, pack_len: usize) -> u32;
-    fn ink_vet(
-        pack: *const u8,
-        pack_len: usize,
-        sheet: usize,
-        kinds: *const u8,
-        forecast: *mut u8,
-        forecast_len: usize,
-        index: *mut u64,
-    ) -> u32;
-    fn ink_run(
-        pack: *const u8,
-        pack_len: usize,
-        sheet: usize,
-        slots: *const u64,
-        slot_items: *const u16,
-        slot_items_len: usize,
-        slot_values: *const i32,
-        slot_values_len: usize,
-        work_items: *mut u16,
-        work_items_len: usize,
-        work_values: *mut i32,
-        work_values_len: usize,
-        result_items: *mut u16,
-        result_items_len: usize,
-        result_values: *mut i32,
-        result_values_len: usize,
-        answer: *mut u64,
-    ) -> u32;
-    fn ink_definitions(pack: *const u8, pack_len: usize, ends: *mut u16, defined: *mut i32, counts: *mut u64);
-    fn ink_run_checked(
-        pack: *const u8,
-        pack_len: usize,
-        ends: *const u16,
-        definitions: usize,
-        defined: *const i32,
-        items: usize,
-        sheet: usize,
-        slots: *const u64,
-        slot_items: *const u16,
-        slot_items_len: usize,
-        slot_values: *const i32,
-        slot_values_len: usize,
-        work_items: *mut u16,
-        work_items_len: usize,
-        work_values: *mut i32,
-        work_values_len: usize,
-        result_items: *mut u16,
-        result_items_len: usize,
-        result_values: *mut i32,
-        result_values_len: usize,
-        answer: *mut u64,
-    ) -> u32;
-}
-
-/// `ink_call_checked` and `ink_apply`, which take the same.
-type Call = unsafe extern "C" fn(
-    ends: *const u16,
-    definitions: usize,
-    defined: *const i32,
-    total: usize,
-    op: u8,
-    count: usize,
-    operands: *const u64,
-    items: *const u16,
-    items_len: usize,
-    values: *const i32,
-    values_len: usize,
-    result_items: *mut u16,
-    result_items_len: usize,
-    result_values: *mut i32,
-    result_values_len: usize,
-    answer: *mut u64,
-) -> u32;
-
-unsafe extern "C" {
-    fn ink_call_checked(
-        ends: *const u16,
-        definitions: usize,
-        defined: *const i32,
-        total: usize,
-        op: u8,
-        count: usize,
-        operands: *const u64,
-        items: *const u16,
-        items_len: usize,
-        values: *const i32,
-        values_len: usize,
-        result_items: *mut u16,
-        result_items_len: usize,
-        result_values: *mut i32,
-        result_values_len: usize,
-        answer: *mut u64,
-    ) -> u32;
-    #[cfg(feature = "apply")]
-    fn ink_apply(
-        ends: *const u16,
-        definitions: usize,
-        defined: *const i32,
-        total: usize,
-        op: u8,
-        count: usize,
-        operands: *const u64,
-        items: *const u16,
-        items_len: usize,
-        values: *const i32,
-        values_len: usize,
-        result_items: *mut u16,
-        result_items_len: usize,
-        result_values: *mut i32,
-        result_values_len: usize,
-        answer: *mut u64,
-    ) -> u32;
-}
+use ink_oracle::sys::{Call, ink_apply, ink_call_checked, ink_check, ink_definitions, ink_run, ink_run_checked, ink_vet};
 
 pub const CHECKED: Call = ink_call_checked;
-/// The call that does not ask question 7 either, where the archive has it.
-#[cfg(feature = "apply")]
-pub const APPLY: Option<Call> = Some(ink_apply);
-#[cfg(not(feature = "apply"))]
-pub const APPLY: Option<Call> = None;
+/// The call that does not ask question 7 either.
+pub const APPLY: Call = ink_apply;
 
 const RESULT: usize = 256;
 const WORK: usize = 16_384;
@@ -219,7 +102,7 @@ impl Checked {
     pub fn new(pack: Vec<u8>) -> Self {
         assert_eq!(check(&pack), 0, "the pack passes");
         let (mut ends, mut defined, mut counts, mut slots) = ([0; 64], [0; 256], [0; 2], [0; 48]);
-        unsafe { ink_definitions(pack.as_ptr(), pack.len(), ends.as_mut_ptr(), defined.as_mut_ptr(), counts.as_mut_ptr()) };
+        unsafe { ink_definitions(pack.as_ptr(), pack.len(), &mut ends, &mut defined, &mut counts) };
         slots.iter_mut().step_by(3).for_each(|code| *code = 4);
         Checked { pack, ends, defined, counts, slots }
     }
@@ -235,7 +118,7 @@ impl Checked {
                 self.counts[1] as usize,
                 black_box(op),
                 o.count,
-                o.words.as_ptr(),
+                o.words.as_ptr().cast(),
                 o.items.as_ptr(),
                 o.items.len(),
                 o.values.as_ptr(),
@@ -244,7 +127,7 @@ impl Checked {
                 RESULT,
                 lent.result_values.as_mut_ptr(),
                 RESULT,
-                lent.answer.as_mut_ptr(),
+                lent.answer.as_mut_ptr().cast(),
             )
         }
     }
@@ -253,7 +136,7 @@ impl Checked {
     #[inline(always)]
     pub fn run(&self, public: bool, lent: &mut Lent) -> u32 {
         let p = black_box(self);
-        let (pack, len, slots, work) = (p.pack.as_ptr(), p.pack.len(), p.slots.as_ptr(), lent.work_items.as_mut_ptr());
+        let (pack, len, slots, work) = (p.pack.as_ptr(), p.pack.len(), &raw const p.slots, lent.work_items.as_mut_ptr());
         let (no_items, no_values) = ([0u16; 1], [0i32; 1]);
         unsafe {
             if public {
@@ -274,7 +157,7 @@ impl Checked {
                     RESULT,
                     lent.result_values.as_mut_ptr(),
                     RESULT,
-                    lent.answer.as_mut_ptr(),
+                    lent.answer.as_mut_ptr().cast(),
                 );
             }
             ink_run_checked(
@@ -298,7 +181,7 @@ impl Checked {
                 RESULT,
                 lent.result_values.as_mut_ptr(),
                 RESULT,
-                lent.answer.as_mut_ptr(),
+                lent.answer.as_mut_ptr().cast(),
             )
         }
     }
@@ -309,7 +192,7 @@ impl Checked {
         let p = black_box(self);
         let kinds = [4u8; 16];
         let (forecast, index) = (lent.forecast.as_mut_ptr(), lent.answer.as_mut_ptr());
-        unsafe { ink_vet(p.pack.as_ptr(), p.pack.len(), 0, kinds.as_ptr(), forecast, FORECAST, index) }
+        unsafe { ink_vet(p.pack.as_ptr(), p.pack.len(), 0, &kinds, forecast, FORECAST, index) }
     }
 
     #[inline(always)]

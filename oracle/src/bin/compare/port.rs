@@ -1,160 +1,8 @@
 //! The port: this repository's compiled code, called through its C interface, and held against what it owes.
 //! Every slice that is lent is filled with a pattern first, with more of the pattern before and after it.
 use crate::asks::{Ask, Owed, WORK};
+use ink_oracle::sys::*;
 use ink_oracle::values::{Defs, Val};
-
-unsafe extern "C" {
-    fn ink_check(pack: *const u8, pack_len: usize) -> u32;
-    fn ink_vet(
-        pack: *const u8,
-        pack_len: usize,
-        sheet: usize,
-        kinds: *const u8,
-        forecast: *mut u8,
-        forecast_len: usize,
-        index: *mut u64,
-    ) -> u32;
-    fn ink_run(
-        pack: *const u8,
-        pack_len: usize,
-        sheet: usize,
-        slots: *const u64,
-        slot_items: *const u16,
-        slot_items_len: usize,
-        slot_values: *const i32,
-        slot_values_len: usize,
-        work_items: *mut u16,
-        work_items_len: usize,
-        work_values: *mut i32,
-        work_values_len: usize,
-        result_items: *mut u16,
-        result_items_len: usize,
-        result_values: *mut i32,
-        result_values_len: usize,
-        answer: *mut u64,
-    ) -> u32;
-    fn ink_call(
-        pack: *const u8,
-        pack_len: usize,
-        op: u8,
-        count: usize,
-        operands: *const u64,
-        items: *const u16,
-        items_len: usize,
-        values: *const i32,
-        values_len: usize,
-        result_items: *mut u16,
-        result_items_len: usize,
-        result_values: *mut i32,
-        result_values_len: usize,
-        answer: *mut u64,
-    ) -> u32;
-    fn ink_cast(
-        pack: *const u8,
-        pack_len: usize,
-        code: u8,
-        operand: *const u64,
-        items: *const u16,
-        items_len: usize,
-        values: *const i32,
-        values_len: usize,
-        result_items: *mut u16,
-        result_items_len: usize,
-        result_values: *mut i32,
-        result_values_len: usize,
-        answer: *mut u64,
-    ) -> u32;
-    fn ink_coerce_to_bool(
-        pack: *const u8,
-        pack_len: usize,
-        operand: *const u64,
-        items: *const u16,
-        items_len: usize,
-        values: *const i32,
-        values_len: usize,
-        answer: *mut u64,
-    ) -> u32;
-    fn ink_coerce_to_int(
-        pack: *const u8,
-        pack_len: usize,
-        operand: *const u64,
-        items: *const u16,
-        items_len: usize,
-        values: *const i32,
-        values_len: usize,
-        answer: *mut u64,
-    ) -> u32;
-    fn ink_coerce_to_float(
-        pack: *const u8,
-        pack_len: usize,
-        operand: *const u64,
-        items: *const u16,
-        items_len: usize,
-        values: *const i32,
-        values_len: usize,
-        answer: *mut u64,
-    ) -> u32;
-    fn ink_definitions(pack: *const u8, pack_len: usize, ends: *mut u16, defined: *mut i32, counts: *mut u64);
-    fn ink_run_checked(
-        pack: *const u8,
-        pack_len: usize,
-        ends: *const u16,
-        definitions: usize,
-        defined: *const i32,
-        items: usize,
-        sheet: usize,
-        slots: *const u64,
-        slot_items: *const u16,
-        slot_items_len: usize,
-        slot_values: *const i32,
-        slot_values_len: usize,
-        work_items: *mut u16,
-        work_items_len: usize,
-        work_values: *mut i32,
-        work_values_len: usize,
-        result_items: *mut u16,
-        result_items_len: usize,
-        result_values: *mut i32,
-        result_values_len: usize,
-        answer: *mut u64,
-    ) -> u32;
-    fn ink_call_checked(
-        ends: *const u16,
-        definitions: usize,
-        defined: *const i32,
-        total: usize,
-        op: u8,
-        count: usize,
-        operands: *const u64,
-        items: *const u16,
-        items_len: usize,
-        values: *const i32,
-        values_len: usize,
-        result_items: *mut u16,
-        result_items_len: usize,
-        result_values: *mut i32,
-        result_values_len: usize,
-        answer: *mut u64,
-    ) -> u32;
-    fn ink_apply(
-        ends: *const u16,
-        definitions: usize,
-        defined: *const i32,
-        total: usize,
-        op: u8,
-        count: usize,
-        operands: *const u64,
-        items: *const u16,
-        items_len: usize,
-        values: *const i32,
-        values_len: usize,
-        result_items: *mut u16,
-        result_items_len: usize,
-        result_values: *mut i32,
-        result_values_len: usize,
-        answer: *mut u64,
-    ) -> u32;
-}
 
 const GUARD: usize = 8;
 
@@ -262,7 +110,7 @@ impl Port {
             return None;
         }
         let (mut ends, mut defined, mut counts) = ([1u16; 64], [1i32; 256], [UNSAID; 2]);
-        unsafe { ink_definitions(pack.as_ptr(), pack.len(), ends.as_mut_ptr(), defined.as_mut_ptr(), counts.as_mut_ptr()) };
+        unsafe { ink_definitions(pack.as_ptr(), pack.len(), &mut ends, &mut defined, &mut counts) };
         if let Some(what) = definitions_differ(defs, &ends, &defined, &counts) {
             return Some(what);
         }
@@ -301,13 +149,13 @@ impl Port {
             match ask {
                 Ask::Check => ink_check(p, n),
                 Ask::Vet { sheet, kinds, .. } => {
-                    ink_vet(p, n, *sheet, kinds.as_ptr(), self.forecast.lend(), self.forecast.len, answer)
+                    ink_vet(p, n, *sheet, kinds.as_ptr().cast(), self.forecast.lend(), self.forecast.len, answer)
                 }
                 Ask::Run { sheet, slots, lent, .. } => ink_run(
                     p,
                     n,
                     *sheet,
-                    slots.as_flattened().as_ptr(),
+                    slots.as_flattened().as_ptr().cast(),
                     lent.items.as_ptr(),
                     lent.items.len(),
                     lent.values.as_ptr(),
@@ -320,14 +168,14 @@ impl Port {
                     ri.len,
                     rv.lend(),
                     rv.len,
-                    answer,
+                    answer.cast(),
                 ),
                 Ask::Call { op, count, operands, lent, .. } => ink_call(
                     p,
                     n,
                     *op,
                     *count,
-                    operands.as_flattened().as_ptr(),
+                    operands.as_flattened().as_ptr().cast(),
                     lent.items.as_ptr(),
                     lent.items.len(),
                     lent.values.as_ptr(),
@@ -336,13 +184,13 @@ impl Port {
                     ri.len,
                     rv.lend(),
                     rv.len,
-                    answer,
+                    answer.cast(),
                 ),
                 Ask::Cast { code, operand, lent, .. } => ink_cast(
                     p,
                     n,
                     *code,
-                    operand.as_ptr(),
+                    operand.as_ptr().cast(),
                     lent.items.as_ptr(),
                     lent.items.len(),
                     lent.values.as_ptr(),
@@ -351,19 +199,19 @@ impl Port {
                     ri.len,
                     rv.lend(),
                     rv.len,
-                    answer,
+                    answer.cast(),
                 ),
                 Ask::Coerce { to, operand, lent } => {
                     let f = [ink_coerce_to_bool, ink_coerce_to_int, ink_coerce_to_float][*to as usize];
                     f(
                         p,
                         n,
-                        operand.as_ptr(),
+                        operand.as_ptr().cast(),
                         lent.items.as_ptr(),
                         lent.items.len(),
                         lent.values.as_ptr(),
                         lent.values.len(),
-                        answer,
+                        answer.cast(),
                     )
                 }
             }
@@ -388,7 +236,7 @@ impl Port {
                         defined.as_ptr(),
                         defined.len(),
                         *sheet,
-                        slots.as_flattened().as_ptr(),
+                        slots.as_flattened().as_ptr().cast(),
                         lent.items.as_ptr(),
                         lent.items.len(),
                         lent.values.as_ptr(),
@@ -401,7 +249,7 @@ impl Port {
                         ri.len,
                         rv.lend(),
                         rv.len,
-                        answer,
+                        answer.cast(),
                     )
                 }
             }
@@ -414,7 +262,7 @@ impl Port {
                     defined.len(),
                     *op,
                     *count,
-                    operands.as_flattened().as_ptr(),
+                    operands.as_flattened().as_ptr().cast(),
                     lent.items.as_ptr(),
                     lent.items.len(),
                     lent.values.as_ptr(),
@@ -423,7 +271,7 @@ impl Port {
                     ri.len,
                     rv.lend(),
                     rv.len,
-                    answer,
+                    answer.cast(),
                 )
             },
             _ => unreachable!(),
