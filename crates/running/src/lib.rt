@@ -50,7 +50,8 @@ fn below(n: usize, k: usize) -> usize
 // The last place of the stack.
 const LAST_PLACE: usize = STACK_LIMIT - 1;
 
-// The same for an operator; for a push, which takes no operand, the last place.
+// The place of an operator's operand, k below the top; for a push, which takes none, the last place: nothing was just stored there, so that
+// reading it does not wait.
 fn operand_place(i: Instruction, n: usize, k: usize) -> usize
     requires { ⌜ (n ≤ stackLimit) × (1 ≤ k) ⌝ }
     ensures { λ r. ⌜ IfOp (instrOf i) (k ≤ n → r ≡ n - k) × (r < stackLimit) ⌝ }
