@@ -102,11 +102,37 @@ highOf vs Is.Void = pos 2147483647
 abbrev pub held : List ℕ → List ℤ → Value → List Entry
 held is vs v = entries (part (startOf v) (lenOf v) is) (part (startOf v) (lenOf v) vs)
 
--- a List's entries stand whole in the two slices, and its items rise below the limit
-pub record Formed (limit : ℕ) (is : List ℕ) (vs : List ℤ) (v : Value) : Type 0 where
-  pub items-in : startOf v + lenOf v ≤ length is
-  pub values-in : startOf v + lenOf v ≤ length vs
-  pub lent : Lent limit (part (startOf v) (lenOf v) is) (part (startOf v) (lenOf v) vs)
+-- n entries from s on stand whole in the two slices, and their items rise below the limit
+pub record Spans (limit : ℕ) (is : List ℕ) (vs : List ℤ) (s n : ℕ) : Type 0 where
+  pub items-in : s + n ≤ length is
+  pub values-in : s + n ≤ length vs
+  pub lent : Lent limit (part s n is) (part s n vs)
+
+-- so do a List's entries
+abbrev pub Formed : ℕ → List ℕ → List ℤ → Value → Type 0
+Formed limit is vs v = Spans limit is vs (startOf v) (lenOf v)
+
+-- the first n of three values
+pub record FirstFormed (limit : ℕ) (is : List ℕ) (vs : List ℤ) (n : ℕ) (a b c : Value) : Type 0 where
+  pub one : 1 ≤ n → Formed limit is vs a
+  pub two : 2 ≤ n → Formed limit is vs b
+  pub three : 3 ≤ n → Formed limit is vs c
+
+-- ---- a value in parts, so that no call copies it: its kind code k, its number z or x, and where its entries stand
+
+-- z is what a Bool or an Int holds, as an Int, and x what a Float holds
+abbrev pub Holds : Value → ℤ → Float → Type 0
+Holds (Is.Bool b) z x = z ≡ bitZ b
+Holds (Is.Int y) z x = z ≡ y
+Holds (Is.Float y) z x = x ≡ y
+Holds (Is.List o s n) z x = Unit {0}
+Holds Is.Void z x = Unit {0}
+
+pub record Parts (v : Value) (k : ℕ) (z : ℤ) (x : Float) (s n : ℕ) : Type 0 where
+  pub kind-is : k ≡ codeOfValue v
+  pub holds : Holds v z x
+  pub start-is : s ≡ startOf v
+  pub len-is : n ≡ lenOf v
 
 -- 7, of one slot or operand: a List's entries stand whole in the two slices, and are "formed as literals" of a pack of `total` items and d
 -- definitions
