@@ -13,7 +13,7 @@ use Rattle.ink_number.specs.Real.{ofInt32, toInt32, truthyF}
 use Rattle.ink_list.specs.Ops.{lowerBound, upperBound, valueOfList}
 use Rattle.ink_list.specs.Every.{_and_}
 use Rattle.ink_list.specs.Filled.{over}
-use Rattle.ink_list.specs.Entries.{Entry, entries, items, values, Lent, Rising, formed}
+use Rattle.ink_list.specs.Entries.{Entry, entries, items, values, itemNumbers, Lent, Rising, formed}
 use Rattle.ink_value.specs.Val.{Val, bool, int, float, list, void}
 use Rattle.ink_value.specs.Convert.{bitZ, entriesOf}
 use Rattle.ink_value.specs.declared.Value.{Value}
@@ -98,9 +98,12 @@ highOf vs (Is.Float x) = pos 2147483647
 highOf vs (Is.List o s n) = upperBound (part s n vs)
 highOf vs Is.Void = pos 2147483647
 
--- the entries that a value has in the two slices
+-- the n entries that stand from s on in the two slices, and those that a value has there
+abbrev pub entriesAt : List ℕ → List ℤ → ℕ → ℕ → List Entry
+entriesAt is vs s n = entries (part s n is) (part s n vs)
+
 abbrev pub held : List ℕ → List ℤ → Value → List Entry
-held is vs v = entries (part (startOf v) (lenOf v) is) (part (startOf v) (lenOf v) vs)
+held is vs v = entriesAt is vs (startOf v) (lenOf v)
 
 -- n entries from s on stand whole in the two slices, and their items rise below the limit
 pub record Spans (limit : ℕ) (is : List ℕ) (vs : List ℤ) (s n : ℕ) : Type 0 where
@@ -118,9 +121,24 @@ pub record FirstFormed (limit : ℕ) (is : List ℕ) (vs : List ℤ) (n : ℕ) (
   pub two : 2 ≤ n → Formed limit is vs b
   pub three : 3 ≤ n → Formed limit is vs c
 
--- ---- a value in parts, so that no call copies it: its kind code k, its number z or x, and where its entries stand
+-- ---- a value in parts, so that it is not copied from call to call
 
--- z is what a Bool or an Int holds, as an Int, and x what a Float holds
+-- what a Bool or an Int holds, as an Int, and what a Float holds
+abbrev pub wholeIn : Value → ℤ
+wholeIn (Is.Bool b) = bitZ b
+wholeIn (Is.Int z) = z
+wholeIn (Is.Float x) = pos 0
+wholeIn (Is.List o s n) = pos 0
+wholeIn Is.Void = pos 0
+
+abbrev pub realIn : Value → Float
+realIn (Is.Bool b) = ofInt32 (pos 0)
+realIn (Is.Int z) = ofInt32 (pos 0)
+realIn (Is.Float x) = x
+realIn (Is.List o s n) = ofInt32 (pos 0)
+realIn Is.Void = ofInt32 (pos 0)
+
+-- the number that a value holds is z or x, by its kind
 abbrev pub Holds : Value → ℤ → Float → Type 0
 Holds (Is.Bool b) z x = z ≡ bitZ b
 Holds (Is.Int y) z x = z ≡ y
@@ -128,11 +146,17 @@ Holds (Is.Float y) z x = x ≡ y
 Holds (Is.List o s n) z x = Unit {0}
 Holds Is.Void z x = Unit {0}
 
+-- its kind code is k, and its entries are n from s on
 pub record Parts (v : Value) (k : ℕ) (z : ℤ) (x : Float) (s n : ℕ) : Type 0 where
   pub kind-is : k ≡ codeOfValue v
   pub holds : Holds v z x
   pub start-is : s ≡ startOf v
   pub len-is : n ≡ lenOf v
+
+-- an operand in parts, formed
+pub record Operand (is : List ℕ) (vs : List ℤ) (v : Value) (k : ℕ) (z : ℤ) (x : Float) (s n : ℕ) : Type 0 where
+  pub parts : Parts v k z x s n
+  pub formed : Formed itemNumbers is vs v
 
 -- 7, of one slot or operand: a List's entries stand whole in the two slices, and are "formed as literals" of a pack of `total` items and d
 -- definitions

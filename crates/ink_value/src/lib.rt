@@ -9,7 +9,8 @@ ghost use Rattle.ink_number.specs.Answer.{gives};
 ghost use Rattle.ink_list.specs.Entries.{room};
 ghost use Rattle.ink_value.specs.Slices.{valIn, Gives};
 ghost use Rattle.ink_value.specs.Convert.{bitZ, castable, converted, cast, coerceBool, coerceInt, coerceFloat};
-ghost use Rattle.ink_value.specs.Value.{part, valOf, formedIn, codeOfValue, startOf, lenOf, setIn, intOf, floatOf, truthOf, lowOf, highOf, Formed, placed};
+ghost use Rattle.ink_value.specs.Value.{part, valOf, formedIn, codeOfValue, startOf, lenOf, setIn, intOf, floatOf, truthOf, lowOf, highOf, wholeIn, realIn, Parts, Formed, placed};
+ghost use Rattle.ink_value.specs.declared.Value.{Value};
 ghost use Rattle.ink_list.specs.Ops.{lowerBound, upperBound, valueOfList};
 
 // A value. A list's entries stand beside it, in two parallel slices, from `start` on.
@@ -130,54 +131,110 @@ pub fn origins_in(v: Value) -> u64
     }
 }
 
-pub fn to_int(v: Value, values: &[i32]) -> i32
-    requires { ⌜ startOf v + lenOf v ≤ length (now values) ⌝ }
-    ensures { λ r. ⌜ r ≡ intOf (now (values .entry)) v ⌝ }
+// ---- a value in parts: its kind, what it holds as an Int or as a Float, and where its entries stand
+
+// What a Bool or an Int holds, as an Int; 0 for other values.
+pub fn whole_in(v: Value) -> i32
+    ensures { λ r. ⌜ r ≡ wholeIn v ⌝ }
 {
     match v {
         Value::Bool(b) => bit(b),
         Value::Int(z) => z,
-        Value::Float(x) => ink_number::convert::float_to_int(x),
+        Value::Float(_) => 0,
         Value::List {
             origins: _,
-            start,
-            len,
-        } => greatest(values, start, len),
+            start: _,
+            len: _,
+        } => 0,
         Value::Void => 0,
     }
+}
+
+// What a Float holds; 0 for other values.
+pub fn real_in(v: Value) -> f32
+    ensures { λ r. ⌜ r ≡ realIn v ⌝ }
+{
+    match v {
+        Value::Float(x) => x,
+        Value::Bool(_) => ink_number::convert::int_to_float(0),
+        Value::Int(_) => ink_number::convert::int_to_float(0),
+        Value::List {
+            origins: _,
+            start: _,
+            len: _,
+        } => ink_number::convert::int_to_float(0),
+        Value::Void => ink_number::convert::int_to_float(0),
+    }
+}
+
+// A value as an Int.
+pub fn int_from(kind: u8, whole: i32, real: f32, start: usize, len: usize, values: &[i32]) -> i32
+    requires { ⌜ start + len ≤ length (now values) ⌝ }
+    ensures { λ r. ⌜ ((v : Value) → Parts v kind whole real start len → r ≡ intOf (now (values .entry)) v) ⌝ }
+{
+    match kind {
+        2 => ink_number::convert::float_to_int(real),
+        3 => greatest(values, start, len),
+        4 => 0,
+        _ => whole,
+    }
+}
+
+// A value as a Float.
+pub fn float_from(kind: u8, whole: i32, real: f32, start: usize, len: usize, values: &[i32]) -> f32
+    requires { ⌜ start + len ≤ length (now values) ⌝ }
+    ensures { λ r. ⌜ ((v : Value) → Parts v kind whole real start len → r ≡ floatOf (now (values .entry)) v) ⌝ }
+{
+    if kind == 2 {
+        return real;
+    }
+    ink_number::convert::int_to_float(int_from(kind, whole, real, start, len, values))
+}
+
+// Is a value truthy.
+pub fn truth_from(kind: u8, whole: i32, real: f32, len: usize) -> bool
+    ensures { λ r. ⌜ ((v : Value) (start : ℕ) → Parts v kind whole real start len → r ≡ truthOf v) ⌝ }
+{
+    match kind {
+        2 => ink_number::float::truthy(real),
+        3 => 0 < len,
+        4 => false,
+        _ => ink_number::int::truthy(whole),
+    }
+}
+
+pub fn to_int(v: Value, values: &[i32]) -> i32
+    requires { ⌜ startOf v + lenOf v ≤ length (now values) ⌝ }
+    ensures { λ r. ⌜ r ≡ intOf (now (values .entry)) v ⌝ }
+{
+    int_from(
+        kind(v),
+        whole_in(v),
+        real_in(v),
+        start_of(v),
+        len_of(v),
+        values,
+    )
 }
 
 pub fn to_float(v: Value, values: &[i32]) -> f32
     requires { ⌜ startOf v + lenOf v ≤ length (now values) ⌝ }
     ensures { λ r. ⌜ r ≡ floatOf (now (values .entry)) v ⌝ }
 {
-    match v {
-        Value::Bool(b) => ink_number::convert::int_to_float(bit(b)),
-        Value::Int(z) => ink_number::convert::int_to_float(z),
-        Value::Float(x) => x,
-        Value::List {
-            origins: _,
-            start,
-            len,
-        } => ink_number::convert::int_to_float(greatest(values, start, len)),
-        Value::Void => ink_number::convert::int_to_float(0),
-    }
+    float_from(
+        kind(v),
+        whole_in(v),
+        real_in(v),
+        start_of(v),
+        len_of(v),
+        values,
+    )
 }
 
 pub fn is_truthy(v: Value) -> bool
     ensures { λ r. ⌜ r ≡ truthOf v ⌝ }
 {
-    match v {
-        Value::Bool(b) => b,
-        Value::Int(z) => ink_number::int::truthy(z),
-        Value::Float(x) => ink_number::float::truthy(x),
-        Value::List {
-            origins: _,
-            start: _,
-            len,
-        } => 0 < len,
-        Value::Void => false,
-    }
+    truth_from(kind(v), whole_in(v), real_in(v), len_of(v))
 }
 
 // Range's bounds where neither an Int nor a list that has entries gives one.

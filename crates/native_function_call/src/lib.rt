@@ -12,10 +12,11 @@ ghost use Rattle.kind_table.specs.Kinds.{common, KindsGiven};
 ghost use Rattle.native_function_call.specs.Numbers.{arithZ, arithF, testZ, testF};
 ghost use Rattle.list_definitions.specs.Defs.{ListDefinitions, Tables, originsOf};
 ghost use Rattle.native_function_call.specs.Lists.{testL, mergeL, unaryL, shiftL, Room, definitions, definitionsIn};
-ghost use Rattle.ink_value.specs.Slices.{valIn, Gives};
+ghost use Rattle.ink_value.specs.Slices.{valIn, OperandIn, Gives};
 ghost use Rattle.ink_list.specs.Slices.{list, Answers};
-ghost use Rattle.native_function_call.specs.Apply.{ofInt, testLists, testAs, wholeUnary, realUnary, compute, call, entriesFor, listed};
-ghost use Rattle.ink_value.specs.Value.{codeOfValue, valOf, placed, startOf, lenOf, intOf, floatOf, held, Formed};
+ghost use Rattle.native_function_call.specs.Apply.{ofInt, testLists, testAs, test, wholeUnary, whole, realUnary, real, compute, call, entriesFor, listed};
+ghost use Rattle.ink_value.specs.Value.{codeOfValue, valOf, placed, entriesAt, Spans, Formed, FirstFormed, Operand};
+ghost use Rattle.ink_value.specs.declared.Value.{Value};
 ghost use Rattle.ink_list.specs.Entries.{itemNumbers, room, Ascends, Rising, Lent};
 ghost use Rattle.ink_number.specs.Int.{divided};
 ghost use Rattle.ink_value.specs.declared.Value.the-variants as Is;
@@ -178,12 +179,12 @@ fn shift(
     }
 }
 
+// ---- operators whose result is no List, on operands in parts: kind code k, number z or x, n entries from s on
+
 // The code of the common kind: the highest present, at least 1.
-fn common(a: Value, b: Value) -> u8
-    ensures { λ r. ⌜ r ≡ max 1 (max (codeOfValue a) (codeOfValue b)) ⌝ }
+fn common(left: u8, right: u8) -> u8
+    ensures { λ r. ⌜ r ≡ max 1 (max left right) ⌝ }
 {
-    let left = ink_value::kind(a);
-    let right = ink_value::kind(b);
     if right < left {
         return left;
     }
@@ -194,89 +195,194 @@ fn common(a: Value, b: Value) -> u8
 }
 
 // The tests on the entries of two lists.
-fn test_held(op: u8, a: Value, b: Value, items: &[u16], values: &[i32]) -> bool
-    requires { ⌜ Formed itemNumbers (now items) (now values) a × Formed itemNumbers (now items) (now values) b ⌝ }
-    ensures { λ r. ⌜ r ≡ testL op (held (now (items .entry)) (now (values .entry)) a) (held (now (items .entry)) (now (values .entry)) b) ⌝ }
+fn test_held(op: u8, i: usize, m: usize, j: usize, n: usize, items: &[u16], values: &[i32]) -> bool
+    requires { ⌜ Spans itemNumbers (now items) (now values) i m × Spans itemNumbers (now items) (now values) j n ⌝ }
+    ensures { λ r. ⌜ r ≡ testL op (entriesAt (now (items .entry)) (now (values .entry)) i m) (entriesAt (now (items .entry)) (now (values .entry)) j n) ⌝ }
 {
-    let i = ink_value::start_of(a);
-    let m = ink_value::len_of(a);
-    let j = ink_value::start_of(b);
-    let n = ink_value::len_of(b);
     let e = i + m;
     let f = j + n;
     test_entries(op, &items[i..e], &values[i..e], &items[j..f], &values[j..f])
 }
 
 // With a list among the operands.
-fn test_lists(op: u8, a: Value, b: Value, items: &[u16], values: &[i32]) -> bool
-    requires { ⌜ Formed itemNumbers (now items) (now values) a × Formed itemNumbers (now items) (now values) b ⌝ }
-    ensures { λ r. ⌜ r ≡ testLists op (valIn items values a) (valIn items values b) ⌝ }
+fn test_lists(
+    op: u8,
+    ka: u8,
+    za: i32,
+    xa: f32,
+    sa: usize,
+    na: usize,
+    kb: u8,
+    zb: i32,
+    xb: f32,
+    sb: usize,
+    nb: usize,
+    items: &[u16],
+    values: &[i32],
+) -> bool
+    requires { ⌜ Spans itemNumbers (now items) (now values) sa na × Spans itemNumbers (now items) (now values) sb nb ⌝ }
+    ensures { λ r. ⌜ ((a b : Value) → OperandIn items values a ka za xa sa na → OperandIn items values b kb zb xb sb nb
+        → r ≡ testLists op (valIn items values a) (valIn items values b)) ⌝ }
 {
     match op {
-        13 => both(ink_value::is_truthy(a), ink_value::is_truthy(b)),
-        14 => either(ink_value::is_truthy(a), ink_value::is_truthy(b)),
-        _ => test_held(op, a, b, items, values),
+        13 => both(
+            ink_value::truth_from(ka, za, xa, na),
+            ink_value::truth_from(kb, zb, xb, nb),
+        ),
+        14 => either(
+            ink_value::truth_from(ka, za, xa, na),
+            ink_value::truth_from(kb, zb, xb, nb),
+        ),
+        _ => test_held(op, sa, na, sb, nb, items, values),
     }
 }
 
-// An operand as an Int. An Int, the likeliest, is at hand.
-fn int_operand(v: Value, values: &[i32]) -> i32
-    requires { ⌜ startOf v + lenOf v ≤ length (now values) ⌝ }
-    ensures { λ r. ⌜ r ≡ intOf (now (values .entry)) v ⌝ }
+fn test2(
+    op: u8,
+    ka: u8,
+    za: i32,
+    xa: f32,
+    sa: usize,
+    na: usize,
+    kb: u8,
+    zb: i32,
+    xb: f32,
+    sb: usize,
+    nb: usize,
+    items: &[u16],
+    values: &[i32],
+) -> bool
+    requires { ⌜ Spans itemNumbers (now items) (now values) sa na × Spans itemNumbers (now items) (now values) sb nb ⌝ }
+    ensures { λ r. ⌜ ((a b : Value) → OperandIn items values a ka za xa sa na → OperandIn items values b kb zb xb sb nb
+        → r ≡ testAs (common (kindOf (valIn items values a)) (kindOf (valIn items values b))) op (valIn items values a) (valIn items values b)) ⌝ }
 {
-    match v {
-        Value::Int(z) => z,
-        _ => ink_value::to_int(v, values),
-    }
-}
-
-// An operand as a Float. A Float, the likeliest, is at hand.
-fn float_operand(v: Value, values: &[i32]) -> f32
-    requires { ⌜ startOf v + lenOf v ≤ length (now values) ⌝ }
-    ensures { λ r. ⌜ r ≡ floatOf (now (values .entry)) v ⌝ }
-{
-    match v {
-        Value::Float(x) => x,
-        _ => ink_value::to_float(v, values),
-    }
-}
-
-fn test2(op: u8, a: Value, b: Value, items: &[u16], values: &[i32]) -> bool
-    requires { ⌜ Formed itemNumbers (now items) (now values) a × Formed itemNumbers (now items) (now values) b ⌝ }
-    ensures { λ r. ⌜ r ≡ testAs (common (kindOf (valIn items values a)) (kindOf (valIn items values b)))
-        op (valIn items values a) (valIn items values b) ⌝ }
-{
-    let k = common(a, b);
-    match k {
-        1 => test_int(op, int_operand(a, values), int_operand(b, values)),
-        2 => test_float(op, float_operand(a, values), float_operand(b, values)),
-        3 => test_lists(op, a, b, items, values),
+    match common(ka, kb) {
+        1 => test_int(
+            op,
+            ink_value::int_from(ka, za, xa, sa, na, values),
+            ink_value::int_from(kb, zb, xb, sb, nb, values),
+        ),
+        2 => test_float(
+            op,
+            ink_value::float_from(ka, za, xa, sa, na, values),
+            ink_value::float_from(kb, zb, xb, sb, nb, values),
+        ),
+        3 => test_lists(op, ka, za, xa, sa, na, kb, zb, xb, sb, nb, items, values),
         _ => false,
     }
 }
 
-fn whole1(op: u8, a: Value, values: &[i32]) -> i32
-    requires { ⌜ (startOf a + lenOf a ≤ length (now values)) × (lenOf a ≤ itemNumbers) ⌝ }
-    ensures { λ r. ⌜ ((limit : ℕ) (is : List ℕ) → Formed limit is (now (values .entry)) a → r ≡ wholeUnary op (valOf is (now (values .entry)) a)) ⌝ }
+// A result that is a Bool.
+pub fn test(
+    op: u8,
+    count: usize,
+    ka: u8,
+    za: i32,
+    xa: f32,
+    sa: usize,
+    na: usize,
+    kb: u8,
+    zb: i32,
+    xb: f32,
+    sb: usize,
+    nb: usize,
+    items: &[u16],
+    values: &[i32],
+) -> bool
+    requires { ⌜ (1 ≤ count) × (count ≤ 2) × Spans itemNumbers (now items) (now values) sa na × (count ≡ 2 → Spans itemNumbers (now items) (now values) sb nb) ⌝ }
+    ensures { λ r. ⌜ ((a b : Value) → OperandIn items values a ka za xa sa na → (count ≡ 2 → OperandIn items values b kb zb xb sb nb)
+        → r ≡ test op (take count (valIn items values a ∷ valIn items values b ∷ []))) ⌝ }
+{
+    if count == 1 {
+        return !ink_value::truth_from(ka, za, xa, na);
+    }
+    test2(op, ka, za, xa, sa, na, kb, zb, xb, sb, nb, items, values)
+}
+
+fn whole1(op: u8, ka: u8, za: i32, xa: f32, sa: usize, na: usize, values: &[i32]) -> i32
+    requires { ⌜ (sa + na ≤ length (now values)) × (na ≤ itemNumbers) ⌝ }
+    ensures { λ r. ⌜ ((a : Value) (is : List ℕ) → Operand is (now (values .entry)) a ka za xa sa na → r ≡ wholeUnary op (valOf is (now (values .entry)) a)) ⌝ }
 {
     match op {
-        5 => ink_number::int::wrapping_neg(ink_value::to_int(a, values)),
-        12 => ink_value::bit(!ink_value::is_truthy(a)),
-        28 => ink_value::len_of(a) as i32,
-        _ => ink_value::to_int(a, values),
+        5 => ink_number::int::wrapping_neg(ink_value::int_from(ka, za, xa, sa, na, values)),
+        12 => ink_value::bit(!ink_value::truth_from(ka, za, xa, na)),
+        28 => na as i32,
+        _ => ink_value::int_from(ka, za, xa, sa, na, values),
     }
 }
 
-fn real1(op: u8, a: Value, values: &[i32]) -> f32
-    requires { ⌜ startOf a + lenOf a ≤ length (now values) ⌝ }
-    ensures { λ r. ⌜ ((limit : ℕ) (is : List ℕ) → Formed limit is (now (values .entry)) a → r ≡ realUnary op (valOf is (now (values .entry)) a)) ⌝ }
+// A result that is an Int.
+pub fn whole(
+    op: u8,
+    count: usize,
+    ka: u8,
+    za: i32,
+    xa: f32,
+    sa: usize,
+    na: usize,
+    kb: u8,
+    zb: i32,
+    xb: f32,
+    sb: usize,
+    nb: usize,
+    values: &[i32],
+) -> Divided
+    requires { ⌜ (1 ≤ count) × (count ≤ 2) × (sa + na ≤ length (now values)) × (na ≤ itemNumbers) × (count ≡ 2 → sb + nb ≤ length (now values)) ⌝ }
+    ensures { λ r. ⌜ ((a b : Value) (is : List ℕ) → Operand is (now (values .entry)) a ka za xa sa na → (count ≡ 2 → Operand is (now (values .entry)) b kb zb xb sb nb)
+        → ofInt (divided r) ≡ whole op (take count (valOf is (now (values .entry)) a ∷ valOf is (now (values .entry)) b ∷ []))) ⌝ }
 {
-    let x = ink_value::to_float(a, values);
+    if count == 1 {
+        return Divided::Value(whole1(op, ka, za, xa, sa, na, values));
+    }
+    arith_int(
+        op,
+        ink_value::int_from(ka, za, xa, sa, na, values),
+        ink_value::int_from(kb, zb, xb, sb, nb, values),
+    )
+}
+
+fn real1(op: u8, ka: u8, za: i32, xa: f32, sa: usize, na: usize, values: &[i32]) -> f32
+    requires { ⌜ sa + na ≤ length (now values) ⌝ }
+    ensures { λ r. ⌜ ((a : Value) (is : List ℕ) → Operand is (now (values .entry)) a ka za xa sa na → r ≡ realUnary op (valOf is (now (values .entry)) a)) ⌝ }
+{
+    let x = ink_value::float_from(ka, za, xa, sa, na, values);
     if op == 5 {
         return ink_number::float::neg(x);
     }
     x
 }
+
+// A result that is a Float.
+pub fn real(
+    op: u8,
+    count: usize,
+    ka: u8,
+    za: i32,
+    xa: f32,
+    sa: usize,
+    na: usize,
+    kb: u8,
+    zb: i32,
+    xb: f32,
+    sb: usize,
+    nb: usize,
+    values: &[i32],
+) -> f32
+    requires { ⌜ (1 ≤ count) × (count ≤ 2) × (sa + na ≤ length (now values)) × (count ≡ 2 → sb + nb ≤ length (now values)) ⌝ }
+    ensures { λ r. ⌜ ((a b : Value) (is : List ℕ) → Operand is (now (values .entry)) a ka za xa sa na → (count ≡ 2 → Operand is (now (values .entry)) b kb zb xb sb nb)
+        → r ≡ real op (take count (valOf is (now (values .entry)) a ∷ valOf is (now (values .entry)) b ∷ []))) ⌝ }
+{
+    if count == 1 {
+        return real1(op, ka, za, xa, sa, na, values);
+    }
+    arith_float(
+        op,
+        ink_value::float_from(ka, za, xa, sa, na, values),
+        ink_value::float_from(kb, zb, xb, sb, nb, values),
+    )
+}
+
+// ---- operators whose result is a List
 
 // The list of the first n entries of the output, with its items' origins.
 fn located(n: usize, items: &[u16], ends: &[u16]) -> Outcome
@@ -444,38 +550,8 @@ fn list3(
 
 // ---- an operator, by the kind of its result
 
-// A result that is no List, of one operand.
-fn scalar1(op: u8, kind: u8, a: Value, values: &[i32]) -> Outcome
-    requires { ⌜ (kind ≡ 3 → ⊥) × (startOf a + lenOf a ≤ length (now values)) × (lenOf a ≤ itemNumbers) ⌝ }
-    ensures { λ r. ⌜ ((u : ListDefinitions) (limit : ℕ) (is : List ℕ) → Formed limit is (now (values .entry)) a → r ≡ placed (compute u op (valOf is (now (values .entry)) a ∷ []) (kindAt kind))) ⌝ }
-{
-    match kind {
-        0 => Outcome::Value(Value::Bool(!ink_value::is_truthy(a))),
-        1 => Outcome::Value(Value::Int(whole1(op, a, values))),
-        2 => Outcome::Value(Value::Float(real1(op, a, values))),
-        _ => Outcome::Value(Value::Void),
-    }
-}
-
-// A result that is no List, of two operands.
-fn scalar2(op: u8, kind: u8, a: Value, b: Value, items: &[u16], values: &[i32]) -> Outcome
-    requires { ⌜ (kind ≡ 3 → ⊥) × Formed itemNumbers (now items) (now values) a × Formed itemNumbers (now items) (now values) b ⌝ }
-    ensures { λ r. ⌜ ((u : ListDefinitions) → r ≡ placed (compute u op (valIn items values a ∷ valIn items values b ∷ []) (kindAt kind))) ⌝ }
-{
-    match kind {
-        0 => Outcome::Value(Value::Bool(test2(op, a, b, items, values))),
-        1 => whole_outcome(arith_int(op, int_operand(a, values), int_operand(b, values))),
-        2 => Outcome::Value(Value::Float(arith_float(
-            op,
-            float_operand(a, values),
-            float_operand(b, values),
-        ))),
-        _ => Outcome::Value(Value::Void),
-    }
-}
-
 // A result that is no List: no slice is written.
-pub fn scalar(
+fn scalar(
     op: u8,
     kind: u8,
     count: usize,
@@ -485,13 +561,54 @@ pub fn scalar(
     values: &[i32],
 ) -> Outcome
     requires { ⌜ (kind ≡ 3 → ⊥) × (1 ≤ count) × (count ≤ 2) ⌝ }
-    requires { ⌜ Formed itemNumbers (now items) (now values) a × Formed itemNumbers (now items) (now values) b ⌝ }
+    requires { ⌜ Formed itemNumbers (now items) (now values) a × (count ≡ 2 → Formed itemNumbers (now items) (now values) b) ⌝ }
     ensures { λ r. ⌜ ((u : ListDefinitions) → r ≡ placed (compute u op (take count (valIn items values a ∷ valIn items values b ∷ [])) (kindAt kind))) ⌝ }
 {
-    if count == 1 {
-        return scalar1(op, kind, a, values);
+    let ka = ink_value::kind(a);
+    let za = ink_value::whole_in(a);
+    let xa = ink_value::real_in(a);
+    let sa = ink_value::start_of(a);
+    let na = ink_value::len_of(a);
+    let kb = ink_value::kind(b);
+    let zb = ink_value::whole_in(b);
+    let xb = ink_value::real_in(b);
+    let sb = ink_value::start_of(b);
+    let nb = ink_value::len_of(b);
+    match kind {
+        0 => Outcome::Value(Value::Bool(test(
+            op,
+            count,
+            ka,
+            za,
+            xa,
+            sa,
+            na,
+            kb,
+            zb,
+            xb,
+            sb,
+            nb,
+            items,
+            values,
+        ))),
+        1 => whole_outcome(whole(op, count, ka, za, xa, sa, na, kb, zb, xb, sb, nb, values)),
+        2 => Outcome::Value(Value::Float(real(
+            op,
+            count,
+            ka,
+            za,
+            xa,
+            sa,
+            na,
+            kb,
+            zb,
+            xb,
+            sb,
+            nb,
+            values,
+        ))),
+        _ => Outcome::Value(Value::Void),
     }
-    scalar2(op, kind, a, b, items, values)
 }
 
 // A result that is a List, written from the start of the two output slices.
@@ -510,7 +627,7 @@ pub fn list(
     ov: &mut [i32],
 ) -> Outcome
     requires { ⌜ Room (definitions (now ends) (now defined) limit) (now oi) (now ov) ⌝ }
-    requires { ⌜ Formed limit (now items) (now values) a × Formed limit (now items) (now values) b × Formed limit (now items) (now values) c ⌝ }
+    requires { ⌜ FirstFormed limit (now items) (now values) count a b c ⌝ }
     requires { ⌜ (1 ≤ count) × (count ≤ 3) ⌝ }
     ensures { λ r. ⌜ Gives (compute (definitionsIn ends defined limit) op (take count (valIn items values a ∷ valIn items values b ∷ valIn items values c ∷ [])) listK) r oi ov ⌝ }
 {
@@ -526,8 +643,9 @@ pub fn list(
 // ---- a direct call, below the questions on the pack
 
 // Questions 8 and 10 to 14, which ask only for the operator, the count and the kinds: the code of the answer.
-pub fn kinds(op: u8, count: usize, a: Value, b: Value, c: Value) -> u8
-    ensures { λ r. ⌜ KindsGiven op count (take count (kindAt (codeOfValue a) ∷ kindAt (codeOfValue b) ∷ kindAt (codeOfValue c) ∷ [])) r ⌝ }
+pub fn kinds(op: u8, count: usize, left: u8, middle: u8, right: u8) -> u8
+    requires { ⌜ (left < 5) × (middle < 5) × (right < 5) ⌝ }
+    ensures { λ r. ⌜ KindsGiven op count (take count (kindAt left ∷ kindAt middle ∷ kindAt right ∷ [])) r ⌝ }
 {
     if 32 <= op {
         return 8;
@@ -539,10 +657,8 @@ pub fn kinds(op: u8, count: usize, a: Value, b: Value, c: Value) -> u8
     if n != count {
         return 10;
     }
-    let left = ink_value::kind(a);
-    let middle = ink_value::kind(b);
     if n == 3 {
-        return kind_table::range(left, middle, ink_value::kind(c));
+        return kind_table::range(left, middle, right);
     }
     kind_table::table(op, left, middle)
 }
@@ -564,7 +680,7 @@ fn computed(
     ov: &mut [i32],
 ) -> Outcome
     requires { ⌜ Room (definitions (now ends) (now defined) limit) (now oi) (now ov) ⌝ }
-    requires { ⌜ Formed limit (now items) (now values) a × Formed limit (now items) (now values) b × Formed limit (now items) (now values) c ⌝ }
+    requires { ⌜ FirstFormed limit (now items) (now values) count a b c ⌝ }
     requires { ⌜ (1 ≤ count) × (count ≤ 3) × (count ≡ 3 → kind ≡ 3) ⌝ }
     ensures { λ r. ⌜ Gives (compute (definitionsIn ends defined limit) op (take count (valIn items values a ∷ valIn items values b ∷ valIn items values c ∷ [])) (kindAt kind)) r oi ov ⌝ }
 {
@@ -603,10 +719,16 @@ pub fn apply(
     ov: &mut [i32],
 ) -> Outcome
     requires { ⌜ Room (definitions (now ends) (now defined) limit) (now oi) (now ov) ⌝ }
-    requires { ⌜ Formed limit (now items) (now values) a × Formed limit (now items) (now values) b × Formed limit (now items) (now values) c ⌝ }
+    requires { ⌜ FirstFormed limit (now items) (now values) count a b c ⌝ }
     ensures { λ r. ⌜ Gives (call (definitionsIn ends defined limit) op count (take count (valIn items values a ∷ valIn items values b ∷ valIn items values c ∷ []))) r oi ov ⌝ }
 {
-    let kind = kinds(op, count, a, b, c);
+    let kind = kinds(
+        op,
+        count,
+        ink_value::kind(a),
+        ink_value::kind(b),
+        ink_value::kind(c),
+    );
     if 4 < kind {
         return Outcome::Refused(kind);
     }

@@ -1,0 +1,113 @@
+-- A value in parts: what the code computes of them is what the definitions read of the value. Assumes nothing.
+use mathlib.Core.Path.{_≡_, refl, ap, _∙_}
+use mathlib.Core.Bool.{true, false}
+use mathlib.Core.List.{List}
+use Prim.Native.Nat.{ℕ}
+use native.Mathlib.Omega.{arith}
+use lib.Dec.{ltb}
+use lib.IntN.{ℤ, pos}
+use lib.Ieee.{Float}
+use mir.Syntax.{w32}
+use mir.Val.{SFits}
+use Rattle.ink_number.specs.Int.{truthyZ}
+use Rattle.ink_number.specs.Real.{ofInt32, toInt32, truthyF}
+use Rattle.ink_number.proofs.Signed.{back, back32}
+use Rattle.ink_list.specs.Ops.{valueOfList}
+use Rattle.ink_value.specs.Value.{part, codeOfValue, startOf, lenOf, intOf, floatOf, truthOf, wholeIn, realIn, Holds, Parts}
+use Rattle.ink_value.specs.declared.Value.{Value}
+use Rattle.ink_value.specs.declared.Value.the-variants as Is
+
+holds-of : (v : Value) (z : ℤ) (x : Float) → z ≡ wholeIn v → x ≡ realIn v → Holds v z x
+holds-of (Is.Bool b) z x e f = e
+holds-of (Is.Int y) z x e f = e
+holds-of (Is.Float y) z x e f = f
+holds-of (Is.List o s n) z x e f = tt
+holds-of Is.Void z x e f = tt
+
+-- what the code reads of a value are its parts
+pub parts-of : (v : Value) (k : ℕ) (z : ℤ) (x : Float) (s n : ℕ) → k ≡ codeOfValue v → z ≡ wholeIn v → x ≡ realIn v → s ≡ startOf v → n ≡ lenOf v
+    → Parts v k z x s n
+parts-of v k z x s n ek ez ex es en = record { kind-is = ek; holds = holds-of v z x ez ex; start-is = es; len-is = en }
+
+holds-back : (v : Value) (z : ℤ) (x : Float) → SFits w32 z → Holds v z x → Holds v (back w32 z) x
+holds-back (Is.Bool b) z x f h = back32 z f ∙ h
+holds-back (Is.Int y) z x f h = back32 z f ∙ h
+holds-back (Is.Float y) z x f h = h
+holds-back (Is.List o s n) z x f h = h
+holds-back Is.Void z x f h = h
+
+-- an i32 that is handed on is read back
+pub parts-back : {v : Value} {k : ℕ} {z : ℤ} {x : Float} {s n : ℕ} → SFits w32 z → Parts v k z x s n → Parts v k (back w32 z) x s n
+parts-back {v} {k} {z} {x} f p = record { kind-is = p .kind-is; holds = holds-back v z x f (p .holds); start-is = p .start-is; len-is = p .len-is }
+
+module _ (k : ℕ) (z : ℤ) (x : Float) (s n : ℕ) (vs : List ℤ) where
+  pub int-float : (v : Value) → Parts v k z x s n → k ≡ 2 → toInt32 x ≡ intOf vs v
+  int-float (Is.Bool b) p e = let q = p .kind-is in absurd (omega arith)
+  int-float (Is.Int y) p e = let q = p .kind-is in absurd (omega arith)
+  int-float (Is.Float y) p e = ap toInt32 (p .holds)
+  int-float (Is.List o i m) p e = let q = p .kind-is in absurd (omega arith)
+  int-float Is.Void p e = let q = p .kind-is in absurd (omega arith)
+
+  pub int-list : (v : Value) → Parts v k z x s n → k ≡ 3 → valueOfList (part s n vs) ≡ intOf vs v
+  int-list (Is.Bool b) p e = let q = p .kind-is in absurd (omega arith)
+  int-list (Is.Int y) p e = let q = p .kind-is in absurd (omega arith)
+  int-list (Is.Float y) p e = let q = p .kind-is in absurd (omega arith)
+  int-list (Is.List o i m) p e = rw (p .start-is, p .len-is)
+  int-list Is.Void p e = let q = p .kind-is in absurd (omega arith)
+
+  pub int-void : (v : Value) → Parts v k z x s n → k ≡ 4 → pos 0 ≡ intOf vs v
+  int-void (Is.Bool b) p e = let q = p .kind-is in absurd (omega arith)
+  int-void (Is.Int y) p e = let q = p .kind-is in absurd (omega arith)
+  int-void (Is.Float y) p e = let q = p .kind-is in absurd (omega arith)
+  int-void (Is.List o i m) p e = let q = p .kind-is in absurd (omega arith)
+  int-void Is.Void p e = refl
+
+  pub int-whole : (v : Value) → Parts v k z x s n → (k ≡ 2 → ⊥) → (k ≡ 3 → ⊥) → (k ≡ 4 → ⊥) → z ≡ intOf vs v
+  int-whole (Is.Bool b) p n2 n3 n4 = p .holds
+  int-whole (Is.Int y) p n2 n3 n4 = p .holds
+  int-whole (Is.Float y) p n2 n3 n4 = absurd (n2 (p .kind-is))
+  int-whole (Is.List o i m) p n2 n3 n4 = absurd (n3 (p .kind-is))
+  int-whole Is.Void p n2 n3 n4 = absurd (n4 (p .kind-is))
+
+  pub float-real : (v : Value) → Parts v k z x s n → k ≡ 2 → x ≡ floatOf vs v
+  float-real (Is.Bool b) p e = let q = p .kind-is in absurd (omega arith)
+  float-real (Is.Int y) p e = let q = p .kind-is in absurd (omega arith)
+  float-real (Is.Float y) p e = p .holds
+  float-real (Is.List o i m) p e = let q = p .kind-is in absurd (omega arith)
+  float-real Is.Void p e = let q = p .kind-is in absurd (omega arith)
+
+  pub float-int : (v : Value) → Parts v k z x s n → (k ≡ 2 → ⊥) → ofInt32 (intOf vs v) ≡ floatOf vs v
+  float-int (Is.Bool b) p n2 = refl
+  float-int (Is.Int y) p n2 = refl
+  float-int (Is.Float y) p n2 = absurd (n2 (p .kind-is))
+  float-int (Is.List o i m) p n2 = refl
+  float-int Is.Void p n2 = refl
+
+  pub truth-float : (v : Value) → Parts v k z x s n → k ≡ 2 → truthyF x ≡ truthOf v
+  truth-float (Is.Bool b) p e = let q = p .kind-is in absurd (omega arith)
+  truth-float (Is.Int y) p e = let q = p .kind-is in absurd (omega arith)
+  truth-float (Is.Float y) p e = ap truthyF (p .holds)
+  truth-float (Is.List o i m) p e = let q = p .kind-is in absurd (omega arith)
+  truth-float Is.Void p e = let q = p .kind-is in absurd (omega arith)
+
+  pub truth-list : (v : Value) → Parts v k z x s n → k ≡ 3 → ltb 0 n ≡ truthOf v
+  truth-list (Is.Bool b) p e = let q = p .kind-is in absurd (omega arith)
+  truth-list (Is.Int y) p e = let q = p .kind-is in absurd (omega arith)
+  truth-list (Is.Float y) p e = let q = p .kind-is in absurd (omega arith)
+  truth-list (Is.List o i m) p e = ap (ltb 0) (p .len-is)
+  truth-list Is.Void p e = let q = p .kind-is in absurd (omega arith)
+
+  pub truth-void : (v : Value) → Parts v k z x s n → k ≡ 4 → false ≡ truthOf v
+  truth-void (Is.Bool b) p e = let q = p .kind-is in absurd (omega arith)
+  truth-void (Is.Int y) p e = let q = p .kind-is in absurd (omega arith)
+  truth-void (Is.Float y) p e = let q = p .kind-is in absurd (omega arith)
+  truth-void (Is.List o i m) p e = let q = p .kind-is in absurd (omega arith)
+  truth-void Is.Void p e = refl
+
+  pub truth-whole : (v : Value) → Parts v k z x s n → (k ≡ 2 → ⊥) → (k ≡ 3 → ⊥) → (k ≡ 4 → ⊥) → truthyZ z ≡ truthOf v
+  truth-whole (Is.Bool true) p n2 n3 n4 = ap truthyZ (p .holds)
+  truth-whole (Is.Bool false) p n2 n3 n4 = ap truthyZ (p .holds)
+  truth-whole (Is.Int y) p n2 n3 n4 = ap truthyZ (p .holds)
+  truth-whole (Is.Float y) p n2 n3 n4 = absurd (n2 (p .kind-is))
+  truth-whole (Is.List o i m) p n2 n3 n4 = absurd (n3 (p .kind-is))
+  truth-whole Is.Void p n2 n3 n4 = absurd (n4 (p .kind-is))
