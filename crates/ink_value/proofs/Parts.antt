@@ -1,19 +1,23 @@
 -- A value in parts: what the code computes of them is what the definitions read of the value. Assumes nothing.
-use mathlib.Core.Path.{_≡_, refl, ap, _∙_}
+use mathlib.Core.Path.{_≡_, refl, sym, ap, _∙_}
 use mathlib.Core.Bool.{true, false}
 use mathlib.Core.List.{List}
-use Prim.Native.Nat.{ℕ}
+use Prim.Native.Nat.{ℕ, _+_, _-_}
 use native.Mathlib.Omega.{arith}
 use lib.Dec.{ltb}
 use lib.IntN.{ℤ, pos}
 use lib.Ieee.{Float}
+use lib.ListN.{length, take, drop}
 use mir.Syntax.{w32}
 use mir.Val.{SFits}
 use Rattle.ink_number.specs.Int.{truthyZ}
 use Rattle.ink_number.specs.Real.{ofInt32, toInt32, truthyF}
 use Rattle.ink_number.proofs.Signed.{back, back32}
 use Rattle.ink_list.specs.Ops.{valueOfList}
-use Rattle.ink_value.specs.Value.{part, codeOfValue, startOf, lenOf, intOf, floatOf, truthOf, wholeIn, realIn, Holds, Parts}
+use Rattle.ink_list.specs.Entries.{entries, itemNumbers, Lent}
+use Rattle.ink_value.specs.Convert.{entriesOf}
+use Rattle.ink_value.proofs.Reading.{entries-in, len-in}
+use Rattle.ink_value.specs.Value.{part, codeOfValue, startOf, lenOf, intOf, floatOf, truthOf, wholeIn, realIn, Holds, Parts, valOf, entriesAt, Spans, Formed, Operand}
 use Rattle.ink_value.specs.declared.Value.{Value}
 use Rattle.ink_value.specs.declared.Value.the-variants as Is
 
@@ -111,3 +115,33 @@ module _ (k : ℕ) (z : ℤ) (x : Float) (s n : ℕ) (vs : List ℤ) where
   truth-whole (Is.Float y) p n2 n3 n4 = absurd (n2 (p .kind-is))
   truth-whole (Is.List o i m) p n2 n3 n4 = absurd (n3 (p .kind-is))
   truth-whole Is.Void p n2 n3 n4 = absurd (n4 (p .kind-is))
+
+-- ---- operands in parts
+
+pub operand-back : {is : List ℕ} {vs : List ℤ} {v : Value} {k : ℕ} {z : ℤ} {x : Float} {s n : ℕ} → SFits w32 z → Operand is vs v k z x s n
+    → Operand is vs v k (back w32 z) x s n
+operand-back f o = record { parts = parts-back f (o .parts); formed = o .formed }
+
+pub operand-held : (is : List ℕ) (vs : List ℤ) (v : Value) {k : ℕ} {z : ℤ} {x : Float} {s n : ℕ} → Operand is vs v k z x s n
+    → entriesAt is vs s n ≡ entriesOf (valOf is vs v)
+operand-held is vs v o = rw (o .parts .start-is, o .parts .len-is) (sym (entries-in is vs v))
+
+pub operand-len : (is : List ℕ) (vs : List ℤ) (v : Value) {k : ℕ} {z : ℤ} {x : Float} {s n : ℕ} → Operand is vs v k z x s n
+    → n ≡ length (entriesOf (valOf is vs v))
+operand-len is vs v o = o .parts .len-is ∙ sym (len-in itemNumbers is vs v (o .formed)) ∙ sym (ap length (entries-in is vs v))
+
+pub spans-of : (limit : ℕ) (is : List ℕ) (vs : List ℤ) (v : Value) (s n : ℕ) → s ≡ startOf v → n ≡ lenOf v → Formed limit is vs v → Spans limit is vs s n
+spans-of limit is vs v s n es en f = rw (es, en) f
+
+-- a part of a slice, as the code cuts it
+cut : {A : Type 0} (i m : ℕ) (xs : List A) → take (i + m - i) (drop i xs) ≡ part i m xs
+cut i m xs =
+    let e : i + m - i ≡ m = omega arith in
+    ap (λ (k : ℕ). take k (drop i xs)) e
+
+module _ (is : List ℕ) (vs : List ℤ) (i m : ℕ) where
+  pub cut-lent : (limit : ℕ) → Spans limit is vs i m → Lent limit (take (i + m - i) (drop i is)) (take (i + m - i) (drop i vs))
+  cut-lent limit f = rw (cut i m is, cut i m vs) (f .lent)
+
+  pub cut-entries : entries (take (i + m - i) (drop i is)) (take (i + m - i) (drop i vs)) ≡ entriesAt is vs i m
+  cut-entries = rw (cut i m is, cut i m vs)

@@ -1,5 +1,5 @@
 -- A direct call's questions 8 and 10, and what the kinds' answer tells of the operator's. Assumes nothing.
-use mathlib.Core.Path.{_≡_, refl, sym, ap, _∙_, subst}
+use mathlib.Core.Path.{_≡_, refl, sym, ap, _∙_}
 use mathlib.Core.Logic.{_⊎_, inl, inr, ⊎-elim}
 use mathlib.Core.Bool.{Bool, true, false, cond, _&&_}
 use mathlib.Core.List.{List, [], _∷_, map}
@@ -162,6 +162,11 @@ pub codes-of : (is : List ℕ) (vs : List ℤ) (n : ℕ) (a b c : Value)
 codes-of is vs n a b c =
     sym (kinds-of n (valOf is vs a) (valOf is vs b) (valOf is vs c))
     ∙ ap3 (λ (x y z : Kind). take n (x ∷ y ∷ z ∷ [])) (sym (code-in is vs a)) (sym (code-in is vs b)) (sym (code-in is vs c))
+
+pub codes-are : (is : List ℕ) (vs : List ℤ) (n : ℕ) (a b c : Value) (i j k : ℕ) → i ≡ codeOfValue a → j ≡ codeOfValue b → k ≡ codeOfValue c
+    → map kindOf (take n (valOf is vs a ∷ valOf is vs b ∷ valOf is vs c ∷ [])) ≡ take n (kindAt i ∷ kindAt j ∷ kindAt k ∷ [])
+codes-are is vs n a b c i j k p q r =
+    codes-of is vs n a b c ∙ sym (ap3 (λ (x y z : ℕ). take n (kindAt x ∷ kindAt y ∷ kindAt z ∷ [])) p q r)
 
 -- ---- a result that is no List writes nothing
 

@@ -1,3 +1,4 @@
+-- `native_function_call::computed` meets its contract. Assumes nothing.
 use mathlib.Core.Path.{_≡_, ap}
 use mathlib.Core.List.{[], _∷_}
 use Prim.Native.Nat.{ℕ}
@@ -35,8 +36,8 @@ scalar-requires c κs =
     let n3 : s .args .count ≡ 3 → ⊥ = λ e. c .if1 .left (s .pre .1 .1 .2 e) in (
       (c .if1 .left, s .pre .1 .1 .0, omega (arith, n3)),
       (
-        formed-limit (s .args .limit) (s .args .items .now) (s .args .values .now) itemNumbers (s .args .a) (omega (arith, s .pre .0 .small)) (s .pre .1 .0 .0),
-        formed-limit (s .args .limit) (s .args .items .now) (s .args .values .now) itemNumbers (s .args .b) (omega (arith, s .pre .0 .small)) (s .pre .1 .0 .1),
+        formed-limit (s .args .limit) (s .args .items .now) (s .args .values .now) itemNumbers (s .args .a) (omega (arith, s .pre .0 .small)) (s .pre .1 .0 .one (s .pre .1 .1 .0)),
+        λ t. formed-limit (s .args .limit) (s .args .items .now) (s .args .values .now) itemNumbers (s .args .b) (omega (arith, s .pre .0 .small)) (s .pre .1 .0 .two (omega arith)),
       ),
     )
 

@@ -1,3 +1,4 @@
+-- `native_function_call::list` meets its contract. Assumes nothing.
 use mathlib.Core.Path.{_≡_, ap}
 use mathlib.Core.List.{[], _∷_}
 use Prim.Native.Nat.{ℕ}
@@ -13,7 +14,9 @@ use Rattle.native_function_call.proofs.list.Statement.{statement}
 use Rattle.native_function_call.proofs.list.Tie as tie
 
 list1-requires : tie.Need-list1-requires
-list1-requires c κs = search needs
+list1-requires c κs =
+    let s = c .before .before .before .before .before .before in
+    (s .pre .0, s .pre .1 .0 .one (s .pre .1 .1 .0))
 
 same-length : tie.Need-same-length
 same-length c = search needs
@@ -28,7 +31,10 @@ returns c =
     gave-is (ap (λ (n : ℕ). compute (definitions (s .args .ends .now) (s .args .defined .now) (s .args .limit)) (s .args .op) (take n (valOf (s .args .items .now) (s .args .values .now) (s .args .a) ∷ valOf (s .args .items .now) (s .args .values .now) (s .args .b) ∷ valOf (s .args .items .now) (s .args .values .now) (s .args .c) ∷ [])) listK) (c .before .before .before .before .before .before .if1 .taken)) (c .before .before .before .list1 .ensures)
 
 list2-requires : tie.Need-list2-requires
-list2-requires c κs = search needs
+list2-requires c κs =
+    let s = c .before .before .before .before .before .before .before in
+    let e = c .before .before .if2 .taken in
+    (s .pre .0, (s .pre .1 .0 .one (s .pre .1 .1 .0), s .pre .1 .0 .two (omega arith)))
 
 same-length-3 : tie.Need-same-length-3
 same-length-3 c = search needs
@@ -43,7 +49,10 @@ returns-2 c =
     gave-is (ap (λ (n : ℕ). compute (definitions (s .args .ends .now) (s .args .defined .now) (s .args .limit)) (s .args .op) (take n (valOf (s .args .items .now) (s .args .values .now) (s .args .a) ∷ valOf (s .args .items .now) (s .args .values .now) (s .args .b) ∷ valOf (s .args .items .now) (s .args .values .now) (s .args .c) ∷ [])) listK) (c .before .before .before .before .before .before .if2 .taken)) (c .before .before .before .list2 .ensures)
 
 list3-requires : tie.Need-list3-requires
-list3-requires c κs = search needs
+list3-requires c κs =
+    let s = c .before .before .before .before .before .before .before in
+    let three : s .args .count ≡ 3 = omega (arith, c .before .before .before .if1 .left, c .before .before .if2 .left, s .pre .1 .1 .0, s .pre .1 .1 .1) in
+    (s .pre .0, (s .pre .1 .0 .one (s .pre .1 .1 .0), s .pre .1 .0 .two (omega arith), s .pre .1 .0 .three (omega arith)))
 
 same-length-5 : tie.Need-same-length-5
 same-length-5 c = search needs

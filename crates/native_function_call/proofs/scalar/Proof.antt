@@ -1,39 +1,141 @@
-use mathlib.Core.Path.{_≡_, sym, ap, _∙_}
+-- `native_function_call::scalar` meets its contract. Assumes nothing.
+use mathlib.Core.Path.{sym, ap, _∙_}
+use mathlib.Core.Bool.{Bool}
 use mathlib.Core.List.{[], _∷_}
 use Prim.Native.Nat.{ℕ}
 use native.Mathlib.Omega.{arith}
+use lib.Ieee.{Float}
 use lib.ListN.{take}
+use Rattle.ink_number.proofs.Signed.{returned}
 use Rattle.ink_list.specs.Entries.{itemNumbers}
-use Rattle.ink_value.specs.Val.{kindAt}
+use Rattle.ink_value.specs.Val.{Kind, kindAt}
 use Rattle.ink_value.specs.Value.{valOf, placed}
+use Rattle.ink_value.specs.declared.Value.the-variants as Is
+use Rattle.ink_value.specs.declared.Outcome.the-variants as Out
 use Rattle.ink_value.proofs.Reading.{few-in}
+use Rattle.ink_value.proofs.Parts.{parts-of, spans-of}
 use Rattle.native_function_call.specs.Apply.{compute}
+use Rattle.native_function_call.proofs.Applying.{kind-other}
+use borrow.Author.Needs.{needs}
 use Rattle.native_function_call.proofs.scalar.Statement.{statement}
 use Rattle.native_function_call.proofs.scalar.Tie as tie
 
-scalar1-requires : tie.Need-scalar1-requires
-scalar1-requires c κs =
-    let s = c .before .before in
-    (s .pre .0 .0, s .pre .1 .0 .values-in, few-in itemNumbers (s .args .items .now) (s .args .values .now) (s .args .a) (s .pre .1 .0))
+kind-requires : tie.Need-kind-requires
+kind-requires c κs = search needs
+
+whole-in-requires : tie.Need-whole-in-requires
+whole-in-requires c κs = search needs
+
+real-in-requires : tie.Need-real-in-requires
+real-in-requires c κs = search needs
+
+start-of-requires : tie.Need-start-of-requires
+start-of-requires c κs = search needs
+
+len-of-requires : tie.Need-len-of-requires
+len-of-requires c κs = search needs
+
+kind-requires-2 : tie.Need-kind-requires-2
+kind-requires-2 c κs = search needs
+
+whole-in-requires-2 : tie.Need-whole-in-requires-2
+whole-in-requires-2 c κs = search needs
+
+real-in-requires-2 : tie.Need-real-in-requires-2
+real-in-requires-2 c κs = search needs
+
+start-of-requires-2 : tie.Need-start-of-requires-2
+start-of-requires-2 c κs = search needs
+
+len-of-requires-2 : tie.Need-len-of-requires-2
+len-of-requires-2 c κs = search needs
+
+test-requires : tie.Need-test-requires
+test-requires c κs =
+    let s = c .before .before .before .before .before .before .before .before .before .before .before .before in
+    let is = s .args .items .now in
+    let vs = s .args .values .now in
+    (s .pre .0 .1, s .pre .0 .2, spans-of itemNumbers is vs (s .args .a) _ _ (c .before .before .before .before .before .before .before .start-of .ensures) (c .before .before .before .before .before .before .len-of .ensures) (s .pre .1 .0), λ t. spans-of itemNumbers is vs (s .args .b) _ _ (c .before .before .start-of2 .ensures) (c .before .len-of2 .ensures) (s .pre .1 .1 t))
+
+whole-requires : tie.Need-whole-requires
+whole-requires c κs =
+    let s = c .before .before .before .before .before .before .before .before .before .before .before .before in
+    let is = s .args .items .now in
+    let vs = s .args .values .now in
+    let f = spans-of itemNumbers is vs (s .args .a) _ _ (c .before .before .before .before .before .before .before .start-of .ensures) (c .before .before .before .before .before .before .len-of .ensures) (s .pre .1 .0) in
+    (s .pre .0 .1, s .pre .0 .2, f .values-in, omega (arith, c .before .before .before .before .before .before .len-of .ensures, few-in itemNumbers is vs (s .args .a) (s .pre .1 .0)), λ t. spans-of itemNumbers is vs (s .args .b) _ _ (c .before .before .start-of2 .ensures) (c .before .len-of2 .ensures) (s .pre .1 .1 t) .values-in)
+
+whole-outcome-requires : tie.Need-whole-outcome-requires
+whole-outcome-requires c κs = search needs
+
+real-requires : tie.Need-real-requires
+real-requires c κs =
+    let s = c .before .before .before .before .before .before .before .before .before .before .before .before in
+    let is = s .args .items .now in
+    let vs = s .args .values .now in
+    (s .pre .0 .1, s .pre .0 .2, spans-of itemNumbers is vs (s .args .a) _ _ (c .before .before .before .before .before .before .before .start-of .ensures) (c .before .before .before .before .before .before .len-of .ensures) (s .pre .1 .0) .values-in, λ t. spans-of itemNumbers is vs (s .args .b) _ _ (c .before .before .start-of2 .ensures) (c .before .len-of2 .ensures) (s .pre .1 .1 t) .values-in)
 
 returns : tie.Need-returns
+unfolding compute
 returns c =
-    let s = c .before .before .before in
-    λ u. c .scalar1 .ensures u itemNumbers (s .args .items .now) (s .pre .1 .0) ∙ ap (λ (n : ℕ). placed (compute u (s .args .op) (take n (valOf (s .args .items .now) (s .args .values .now) (s .args .a) ∷ valOf (s .args .items .now) (s .args .values .now) (s .args .b) ∷ [])) (kindAt (s .args .kind)))) (sym (c .before .if1 .taken))
-
-scalar2-requires : tie.Need-scalar2-requires
-scalar2-requires c κs =
-    let s = c .before .before in (
-      s .pre .0 .0,
-      s .pre .1 .0,
-      s .pre .1 .1,
-    )
+    let s = c .before .before .before .before .before .before .before .before .before .before .before .before .before in
+    let is = s .args .items .now in
+    let vs = s .args .values .now in
+    let pa = parts-of (s .args .a) _ _ _ _ _ (c .before .before .before .before .before .before .before .before .before .before .before .kind .ensures .0) (returned (c .before .before .before .before .before .before .before .before .before .before .whole-in .ok) ∙ c .before .before .before .before .before .before .before .before .before .before .whole-in .ensures) (c .before .before .before .before .before .before .before .before .before .real-in .ensures) (c .before .before .before .before .before .before .before .before .start-of .ensures) (c .before .before .before .before .before .before .before .len-of .ensures) in
+    let pb = parts-of (s .args .b) _ _ _ _ _ (c .before .before .before .before .before .before .kind2 .ensures .0) (returned (c .before .before .before .before .before .whole-in2 .ok) ∙ c .before .before .before .before .before .whole-in2 .ensures) (c .before .before .before .before .real-in2 .ensures) (c .before .before .before .start-of2 .ensures) (c .before .before .len-of2 .ensures) in
+    λ u. ap (λ (t : Bool). Out.Value (Is.Bool t)) (c .test .ensures (s .args .a) (s .args .b) (record { parts = pa; formed = s .pre .1 .0 }) (λ t. record { parts = pb; formed = s .pre .1 .1 t }))
+    ∙ ap (λ (j : ℕ). placed (compute u (s .args .op) (take (s .args .count) (valOf is vs (s .args .a) ∷ valOf is vs (s .args .b) ∷ [])) (kindAt j))) (sym (c .before .match .keys1))
 
 returns-2 : tie.Need-returns-2
+unfolding compute
 returns-2 c =
-    let s = c .before .before .before in
-    let two : s .args .count ≡ 2 = omega (arith, c .before .if1 .left, s .pre .0 .1, s .pre .0 .2) in
-    λ u. c .scalar2 .ensures u ∙ ap (λ (n : ℕ). placed (compute u (s .args .op) (take n (valOf (s .args .items .now) (s .args .values .now) (s .args .a) ∷ valOf (s .args .items .now) (s .args .values .now) (s .args .b) ∷ [])) (kindAt (s .args .kind)))) (sym two)
+    let s = c .before .before .before .before .before .before .before .before .before .before .before .before .before .before in
+    let is = s .args .items .now in
+    let vs = s .args .values .now in
+    let pa = parts-of (s .args .a) _ _ _ _ _ (c .before .before .before .before .before .before .before .before .before .before .before .before .kind .ensures .0) (returned (c .before .before .before .before .before .before .before .before .before .before .before .whole-in .ok) ∙ c .before .before .before .before .before .before .before .before .before .before .before .whole-in .ensures) (c .before .before .before .before .before .before .before .before .before .before .real-in .ensures) (c .before .before .before .before .before .before .before .before .before .start-of .ensures) (c .before .before .before .before .before .before .before .before .len-of .ensures) in
+    let pb = parts-of (s .args .b) _ _ _ _ _ (c .before .before .before .before .before .before .before .kind2 .ensures .0) (returned (c .before .before .before .before .before .before .whole-in2 .ok) ∙ c .before .before .before .before .before .before .whole-in2 .ensures) (c .before .before .before .before .before .real-in2 .ensures) (c .before .before .before .before .start-of2 .ensures) (c .before .before .before .len-of2 .ensures) in
+    λ u. c .whole-outcome .ensures
+    ∙ ap placed (c .before .whole .ensures (s .args .a) (s .args .b) is (record { parts = pa; formed = s .pre .1 .0 }) (λ t. record { parts = pb; formed = s .pre .1 .1 t }))
+    ∙ ap (λ (j : ℕ). placed (compute u (s .args .op) (take (s .args .count) (valOf is vs (s .args .a) ∷ valOf is vs (s .args .b) ∷ [])) (kindAt j))) (sym (c .before .before .match .keys2))
+
+returns-3 : tie.Need-returns-3
+unfolding compute
+returns-3 c =
+    let s = c .before .before .before .before .before .before .before .before .before .before .before .before .before in
+    let is = s .args .items .now in
+    let vs = s .args .values .now in
+    let pa = parts-of (s .args .a) _ _ _ _ _ (c .before .before .before .before .before .before .before .before .before .before .before .kind .ensures .0) (returned (c .before .before .before .before .before .before .before .before .before .before .whole-in .ok) ∙ c .before .before .before .before .before .before .before .before .before .before .whole-in .ensures) (c .before .before .before .before .before .before .before .before .before .real-in .ensures) (c .before .before .before .before .before .before .before .before .start-of .ensures) (c .before .before .before .before .before .before .before .len-of .ensures) in
+    let pb = parts-of (s .args .b) _ _ _ _ _ (c .before .before .before .before .before .before .kind2 .ensures .0) (returned (c .before .before .before .before .before .whole-in2 .ok) ∙ c .before .before .before .before .before .whole-in2 .ensures) (c .before .before .before .before .real-in2 .ensures) (c .before .before .before .start-of2 .ensures) (c .before .before .len-of2 .ensures) in
+    λ u. ap (λ (x : Float). Out.Value (Is.Float x)) (c .real .ensures (s .args .a) (s .args .b) is (record { parts = pa; formed = s .pre .1 .0 }) (λ t. record { parts = pb; formed = s .pre .1 .1 t }))
+    ∙ ap (λ (j : ℕ). placed (compute u (s .args .op) (take (s .args .count) (valOf is vs (s .args .a) ∷ valOf is vs (s .args .b) ∷ [])) (kindAt j))) (sym (c .before .match .keys3))
+
+returns-4 : tie.Need-returns-4
+unfolding compute
+returns-4 c =
+    let s = c .before .before .before .before .before .before .before .before .before .before .before .before in
+    let is = s .args .items .now in
+    let vs = s .args .values .now in
+    λ u. ap (λ (k : Kind). placed (compute u (s .args .op) (take (s .args .count) (valOf is vs (s .args .a) ∷ valOf is vs (s .args .b) ∷ [])) k)) (sym (kind-other (s .args .kind) (c .match .rest .0 .0 .1) (c .match .rest .0 .1) (c .match .rest .1) (s .pre .0 .0)))
 
 pub scalar-spec : {M : Type 1} → statement M
-scalar-spec = tie.close (tie.spec scalar1-requires returns scalar2-requires returns-2)
+scalar-spec =
+    tie.close
+    (tie.spec
+    kind-requires
+    whole-in-requires
+    real-in-requires
+    start-of-requires
+    len-of-requires
+    kind-requires-2
+    whole-in-requires-2
+    real-in-requires-2
+    start-of-requires-2
+    len-of-requires-2
+    test-requires
+    whole-requires
+    whole-outcome-requires
+    real-requires
+    returns
+    returns-2
+    returns-3
+    returns-4)

@@ -1,21 +1,12 @@
-use borrow.Author.Needs.{needs}
+-- `native_function_call::test_held` meets its contract. Assumes nothing.
 use mathlib.Core.Path.{_∙_}
+use Rattle.ink_list.specs.Entries.{itemNumbers}
+use Rattle.ink_value.proofs.Reading.{ap2}
+use Rattle.ink_value.proofs.Parts.{cut-lent, cut-entries}
 use Rattle.native_function_call.specs.Lists.{testL}
-use Rattle.ink_value.proofs.Reading.{ap2, lends-lent, lends-held}
+use borrow.Author.Needs.{needs}
 use Rattle.native_function_call.proofs.test_held.Statement.{statement}
 use Rattle.native_function_call.proofs.test_held.Tie as tie
-
-start-of-requires : tie.Need-start-of-requires
-start-of-requires c κs = search needs
-
-len-of-requires : tie.Need-len-of-requires
-len-of-requires c κs = search needs
-
-start-of-requires-2 : tie.Need-start-of-requires-2
-start-of-requires-2 c κs = search needs
-
-len-of-requires-2 : tie.Need-len-of-requires-2
-len-of-requires-2 c κs = search needs
 
 add-e : tie.Need-add-e
 add-e c = search needs
@@ -73,26 +64,18 @@ part-test-entries-end-4 c = search needs
 
 test-entries-requires : tie.Need-test-entries-requires
 test-entries-requires c κs =
-    let s = c .before .before .before .before .before .before .before .before .before in (
-      lends-lent 65536 (c .before .before .before .before .before .before .before .before .before .args .items .now) (c .before .before .before .before .before .before .before .before .before .args .values .now) (c .before .before .before .before .before .before .before .start-of .result) (c .before .before .before .before .before .before .len-of .result) (s .args .a) (c .before .before .before .before .before .before .before .start-of .ensures) (c .before .before .before .before .before .before .len-of .ensures) (s .pre .0),
-      lends-lent 65536 (c .before .before .before .before .before .before .before .before .before .args .items .now) (c .before .before .before .before .before .before .before .before .before .args .values .now) (c .before .before .before .before .before .start-of2 .result) (c .before .before .before .before .len-of2 .result) (s .args .b) (c .before .before .before .before .before .start-of2 .ensures) (c .before .before .before .before .len-of2 .ensures) (s .pre .1),
-    )
+    let s = c .before .before .before .before .before in
+    (cut-lent (s .args .items .now) (s .args .values .now) (s .args .i) (s .args .m) itemNumbers (s .pre .0), cut-lent (s .args .items .now) (s .args .values .now) (s .args .j) (s .args .n) itemNumbers (s .pre .1))
 
 returns : tie.Need-returns
 returns c =
-    let s = c .before .before .before .before .before .before .before .before .before .before in
-    c .test-entries .ensures ∙ ap2 (testL (s .args .op))
-    (lends-held 65536 (c .before .before .before .before .before .before .before .before .before .before .args .items .now) (c .before .before .before .before .before .before .before .before .before .before .args .values .now) (c .before .before .before .before .before .before .before .before .start-of .result) (c .before .before .before .before .before .before .before .len-of .result) (s .args .a) (c .before .before .before .before .before .before .before .before .start-of .ensures) (c .before .before .before .before .before .before .before .len-of .ensures))
-    (lends-held 65536 (c .before .before .before .before .before .before .before .before .before .before .args .items .now) (c .before .before .before .before .before .before .before .before .before .before .args .values .now) (c .before .before .before .before .before .before .start-of2 .result) (c .before .before .before .before .before .len-of2 .result) (s .args .b) (c .before .before .before .before .before .before .start-of2 .ensures) (c .before .before .before .before .before .len-of2 .ensures))
+    let s = c .before .before .before .before .before .before in
+    c .test-entries .ensures ∙ ap2 (testL (s .args .op)) (cut-entries (s .args .items .now) (s .args .values .now) (s .args .i) (s .args .m)) (cut-entries (s .args .items .now) (s .args .values .now) (s .args .j) (s .args .n))
 
 pub test-held-spec : {M : Type 1} → statement M
 test-held-spec =
     tie.close
     (tie.spec
-    start-of-requires
-    len-of-requires
-    start-of-requires-2
-    len-of-requires-2
     add-e
     add-f
     mul-test-entries
