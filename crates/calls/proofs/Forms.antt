@@ -13,7 +13,7 @@ use Rattle.ink_list.specs.Every.{_and_}
 use Rattle.ink_list.specs.Entries.{bitsBelow, formed}
 use Rattle.ink_list.proofs.Every.{and-left, and-right, and-both, and-no-left, and-no-right}
 use Rattle.ink_value.specs.Val.{Val}
-use Rattle.ink_value.specs.Value.{valOf, Formed, formedIn, eachFormed, allFormed}
+use Rattle.ink_value.specs.Value.{valOf, FirstFormed, formedIn, eachFormed, allFormed}
 use Rattle.ink_value.specs.declared.Value.{Value}
 use Rattle.ink_value.proofs.Forming.{formed-yes}
 use Rattle.ink_number.specs.Answer.{Answer, gives, refuses}
@@ -99,15 +99,26 @@ module _ (total d : ℕ) (is : List ℕ) (vs : List ℤ) where
   pub kept-all : (n : ℕ) (a b c : Value) → allFormed total d is vs (kept n a b c) ≡ allFormed total d is vs (take n (a ∷ b ∷ c ∷ []))
   kept-all n a b c = ap (λ (x : Bool). eqb (length is) (length vs) and x) (kept-formed total d is vs n a b c)
 
-  -- each of three that passed
-  pub each-of : (limit : ℕ) (a b c : Value) → total ≤ limit → allFormed total d is vs (a ∷ b ∷ c ∷ []) ≡ true
-      → Formed limit is vs a × Formed limit is vs b × Formed limit is vs c
-  each-of limit a b c h e =
-      let r = and-right _ _ e in (
-        formed-yes total d is vs a limit h (and-left _ _ r),
-        formed-yes total d is vs b limit h (and-left _ _ (and-right _ _ r)),
-        formed-yes total d is vs c limit h (and-left _ _ (and-right _ _ (and-right _ _ r))),
-      )
+  -- the first n of three that passed
+  pub first-of : (limit n : ℕ) (a b c : Value) → total ≤ limit → allFormed total d is vs (take n (a ∷ b ∷ c ∷ [])) ≡ true → FirstFormed limit is vs n a b c
+  first-of limit zero a b c h e = record { one = λ k. absurd (omega arith); two = λ k. absurd (omega arith); three = λ k. absurd (omega arith) }
+  first-of limit (suc zero) a b c h e =
+      let r = and-right _ _ e in
+      record { one = λ k. formed-yes total d is vs a limit h (and-left _ _ r); two = λ k. absurd (omega arith); three = λ k. absurd (omega arith) }
+  first-of limit (suc (suc zero)) a b c h e =
+      let r = and-right _ _ e in
+      record {
+        one = λ k. formed-yes total d is vs a limit h (and-left _ _ r);
+        two = λ k. formed-yes total d is vs b limit h (and-left _ _ (and-right _ _ r));
+        three = λ k. absurd (omega arith);
+      }
+  first-of limit (suc (suc (suc n))) a b c h e =
+      let r = and-right _ _ e in
+      record {
+        one = λ k. formed-yes total d is vs a limit h (and-left _ _ r);
+        two = λ k. formed-yes total d is vs b limit h (and-left _ _ (and-right _ _ r));
+        three = λ k. formed-yes total d is vs c limit h (and-left _ _ (and-right _ _ (and-right _ _ r)));
+      }
 
 -- ---- the answer of a call
 
@@ -123,12 +134,6 @@ module _ (is : List ℕ) (vs : List ℤ) (oi : List ℕ) (ov : List ℤ) (o n : 
   pub goes-on : operandsOk u is vs (take n l) ≡ true → resultsOk u oi ov ≡ true → called is vs oi ov o n l u ≡ call u o n (map (valOf is vs) (take n l))
   unfolding called
   goes-on e f = rw (and-both _ _ e f)
-
--- the operands that the code hands on are the first n
-pub operands-are : (is : List ℕ) (vs : List ℤ) (n : ℕ) (a b c x y z : Value) → kept n a b c ≡ x ∷ y ∷ z ∷ []
-    → map (valOf is vs) (take n (a ∷ b ∷ c ∷ [])) ≡ take n (valOf is vs x ∷ valOf is vs y ∷ valOf is vs z ∷ [])
-operands-are is vs n a b c x y z k =
-    ap (map (valOf is vs)) (sym (kept-take n a b c) ∙ ap (take n) k) ∙ map-take (valOf is vs) n (x ∷ y ∷ z ∷ [])
 
 -- ---- the answers of the conversions
 

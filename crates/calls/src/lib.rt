@@ -107,15 +107,12 @@ pub fn call_formed(
     requires { ⌜ (format1 .limit ≤ length (now oi)) × (format1 .limit ≤ length (now ov)) ⌝ }
     ensures { λ r. ⌜ Gives (called (now (items .entry)) (now (values .entry)) (now (oi .entry)) (now (ov .entry)) op count (a ∷ b ∷ c ∷ []) (definitionsIn ends defined (format1 .limit))) r oi ov ⌝ }
 {
-    let x = used(0 < count, a);
-    let y = used(1 < count, b);
-    let z = used(2 < count, c);
     native_function_call::apply(
         op,
         count,
-        x,
-        y,
-        z,
+        a,
+        b,
+        c,
         items,
         values,
         ends,
