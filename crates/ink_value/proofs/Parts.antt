@@ -2,7 +2,7 @@
 use mathlib.Core.Path.{_≡_, refl, sym, ap, _∙_}
 use mathlib.Core.Bool.{true, false}
 use mathlib.Core.List.{List}
-use Prim.Native.Nat.{ℕ, _+_, _-_}
+use Prim.Native.Nat.{ℕ, _+_, _-_, _<_}
 use native.Mathlib.Omega.{arith}
 use lib.Dec.{ltb}
 use lib.IntN.{ℤ, pos}
@@ -15,9 +15,9 @@ use Rattle.ink_number.specs.Real.{ofInt32, toInt32, truthyF}
 use Rattle.ink_number.proofs.Signed.{back, back32}
 use Rattle.ink_list.specs.Ops.{valueOfList}
 use Rattle.ink_list.specs.Entries.{entries, itemNumbers, Lent}
-use Rattle.ink_value.specs.Convert.{entriesOf}
-use Rattle.ink_value.proofs.Reading.{entries-in, len-in}
-use Rattle.ink_value.specs.Value.{part, codeOfValue, startOf, lenOf, intOf, floatOf, truthOf, wholeIn, realIn, Holds, Parts, valOf, entriesAt, Spans, Formed, Operand}
+use Rattle.ink_value.specs.Convert.{asInt, asFloat, truthy, entriesOf}
+use Rattle.ink_value.proofs.Reading.{entries-in, len-in, int-in, float-in, truth-in}
+use Rattle.ink_value.specs.Value.{part, codeOfValue, startOf, lenOf, intOf, floatOf, truthOf, wholeIn, realIn, Holds, Parts, valOf, entriesAt, Spans, Formed, Operand, Number}
 use Rattle.ink_value.specs.declared.Value.{Value}
 use Rattle.ink_value.specs.declared.Value.the-variants as Is
 
@@ -27,6 +27,22 @@ holds-of (Is.Int y) z x e f = e
 holds-of (Is.Float y) z x e f = f
 holds-of (Is.List o s n) z x e f = tt
 holds-of Is.Void z x e f = tt
+
+-- a kind that is not a List's or Void's is a number's
+pub number-kind : (v : Value) {k : ℕ} {z : ℤ} {x : Float} {s n : ℕ} → Parts v k z x s n → (k ≡ 3 → ⊥) → (k ≡ 4 → ⊥) → k < 3
+number-kind (Is.Bool b) p n3 n4 = let q = p .kind-is in omega arith
+number-kind (Is.Int y) p n3 n4 = let q = p .kind-is in omega arith
+number-kind (Is.Float y) p n3 n4 = let q = p .kind-is in omega arith
+number-kind (Is.List o i m) p n3 n4 = absurd (n3 (p .kind-is))
+number-kind Is.Void p n3 n4 = absurd (n4 (p .kind-is))
+
+-- a number has no entries, so that it is formed in any slices
+pub number-formed : (limit : ℕ) (is : List ℕ) (vs : List ℤ) (v : Value) {k : ℕ} {z : ℤ} {x : Float} {s n : ℕ} → Parts v k z x s n → k < 3 → Formed limit is vs v
+number-formed limit is vs (Is.Bool b) p h = record { items-in = omega arith; values-in = omega arith; lent = record { long = refl; rising = tt } }
+number-formed limit is vs (Is.Int y) p h = record { items-in = omega arith; values-in = omega arith; lent = record { long = refl; rising = tt } }
+number-formed limit is vs (Is.Float y) p h = record { items-in = omega arith; values-in = omega arith; lent = record { long = refl; rising = tt } }
+number-formed limit is vs (Is.List o i m) p h = let q = p .kind-is in absurd (omega arith)
+number-formed limit is vs Is.Void p h = let q = p .kind-is in absurd (omega arith)
 
 -- what the code reads of a value are its parts
 pub parts-of : (v : Value) (k : ℕ) (z : ℤ) (x : Float) (s n : ℕ) → k ≡ codeOfValue v → z ≡ wholeIn v → x ≡ realIn v → s ≡ startOf v → n ≡ lenOf v
@@ -80,12 +96,26 @@ module _ (k : ℕ) (z : ℤ) (x : Float) (s n : ℕ) (vs : List ℤ) where
   float-real (Is.List o i m) p e = let q = p .kind-is in absurd (omega arith)
   float-real Is.Void p e = let q = p .kind-is in absurd (omega arith)
 
-  pub float-int : (v : Value) → Parts v k z x s n → (k ≡ 2 → ⊥) → ofInt32 (intOf vs v) ≡ floatOf vs v
-  float-int (Is.Bool b) p n2 = refl
-  float-int (Is.Int y) p n2 = refl
-  float-int (Is.Float y) p n2 = absurd (n2 (p .kind-is))
-  float-int (Is.List o i m) p n2 = refl
-  float-int Is.Void p n2 = refl
+  pub float-whole : (v : Value) → Parts v k z x s n → (k ≡ 2 → ⊥) → k < 3 → ofInt32 z ≡ floatOf vs v
+  float-whole (Is.Bool b) p n2 h = ap ofInt32 (p .holds)
+  float-whole (Is.Int y) p n2 h = ap ofInt32 (p .holds)
+  float-whole (Is.Float y) p n2 h = absurd (n2 (p .kind-is))
+  float-whole (Is.List o i m) p n2 h = let q = p .kind-is in absurd (omega arith)
+  float-whole Is.Void p n2 h = let q = p .kind-is in absurd (omega arith)
+
+  pub float-list : (v : Value) → Parts v k z x s n → k ≡ 3 → ofInt32 (valueOfList (part s n vs)) ≡ floatOf vs v
+  float-list (Is.Bool b) p e = let q = p .kind-is in absurd (omega arith)
+  float-list (Is.Int y) p e = let q = p .kind-is in absurd (omega arith)
+  float-list (Is.Float y) p e = let q = p .kind-is in absurd (omega arith)
+  float-list (Is.List o i m) p e = rw (p .start-is, p .len-is)
+  float-list Is.Void p e = let q = p .kind-is in absurd (omega arith)
+
+  pub float-void : (v : Value) → Parts v k z x s n → k ≡ 4 → ofInt32 (pos 0) ≡ floatOf vs v
+  float-void (Is.Bool b) p e = let q = p .kind-is in absurd (omega arith)
+  float-void (Is.Int y) p e = let q = p .kind-is in absurd (omega arith)
+  float-void (Is.Float y) p e = let q = p .kind-is in absurd (omega arith)
+  float-void (Is.List o i m) p e = let q = p .kind-is in absurd (omega arith)
+  float-void Is.Void p e = refl
 
   pub truth-float : (v : Value) → Parts v k z x s n → k ≡ 2 → truthyF x ≡ truthOf v
   truth-float (Is.Bool b) p e = let q = p .kind-is in absurd (omega arith)
@@ -145,3 +175,24 @@ module _ (is : List ℕ) (vs : List ℤ) (i m : ℕ) where
 
   pub cut-entries : entries (take (i + m - i) (drop i is)) (take (i + m - i) (drop i vs)) ≡ entriesAt is vs i m
   cut-entries = rw (cut i m is, cut i m vs)
+
+-- ---- numbers in parts
+
+pub number-back : {v : Value} {k : ℕ} {z : ℤ} {x : Float} → SFits w32 z → Number v k z x → Number v k (back w32 z) x
+number-back f n = record { parts = parts-back f (n .parts); few = n .few }
+
+module _ (is : List ℕ) (vs : List ℤ) (v : Value) {k : ℕ} {z : ℤ} {x : Float} (n : Number v k z x) where
+  formed : Formed itemNumbers is vs v
+  formed = number-formed itemNumbers is vs v (n .parts) (n .few)
+
+  pub number-int-in : intOf vs v ≡ asInt (valOf is vs v)
+  number-int-in = int-in itemNumbers is vs v formed
+
+  pub number-float-in : floatOf vs v ≡ asFloat (valOf is vs v)
+  number-float-in = float-in itemNumbers is vs v formed
+
+  pub number-truth-in : truthOf v ≡ truthy (valOf is vs v)
+  number-truth-in = truth-in itemNumbers is vs v formed
+
+  pub number-no-entries : 0 ≡ length (entriesOf (valOf is vs v))
+  number-no-entries = operand-len is vs v (record { parts = n .parts; formed = formed })

@@ -2,7 +2,7 @@
 use mathlib.Core.Path.{_≡_}
 use mathlib.Core.Bool.{Bool, true, false}
 use mathlib.Core.List.{List, [], _∷_}
-use Prim.Native.Nat.{ℕ, _+_, _≤_}
+use Prim.Native.Nat.{ℕ, _+_, _≤_, _<_}
 use lib.Dec.{ltb, leb, eqb}
 use lib.IntN.{ℤ, pos}
 use lib.Ieee.{Float}
@@ -152,6 +152,11 @@ pub record Parts (v : Value) (k : ℕ) (z : ℤ) (x : Float) (s n : ℕ) : Type 
   pub holds : Holds v z x
   pub start-is : s ≡ startOf v
   pub len-is : n ≡ lenOf v
+
+-- a number in parts: it has no entries
+pub record Number (v : Value) (k : ℕ) (z : ℤ) (x : Float) : Type 0 where
+  pub parts : Parts v k z x 0 0
+  pub few : k < 3
 
 -- an operand in parts, formed
 pub record Operand (is : List ℕ) (vs : List ℤ) (v : Value) (k : ℕ) (z : ℤ) (x : Float) (s n : ℕ) : Type 0 where

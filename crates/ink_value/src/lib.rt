@@ -167,16 +167,43 @@ pub fn real_in(v: Value) -> f32
     }
 }
 
+// A number as an Int, as a Float, and as a truth. It has no entries.
+pub fn number_int(kind: u8, whole: i32, real: f32) -> i32
+    ensures { λ r. ⌜ ((v : Value) (vs : List ℤ) (start len : ℕ) → Parts v kind whole real start len → kind < 3 → r ≡ intOf vs v) ⌝ }
+{
+    if kind == 2 {
+        return ink_number::convert::float_to_int(real);
+    }
+    whole
+}
+
+pub fn number_float(kind: u8, whole: i32, real: f32) -> f32
+    ensures { λ r. ⌜ ((v : Value) (vs : List ℤ) (start len : ℕ) → Parts v kind whole real start len → kind < 3 → r ≡ floatOf vs v) ⌝ }
+{
+    if kind == 2 {
+        return real;
+    }
+    ink_number::convert::int_to_float(whole)
+}
+
+pub fn number_truth(kind: u8, whole: i32, real: f32) -> bool
+    ensures { λ r. ⌜ ((v : Value) (start len : ℕ) → Parts v kind whole real start len → kind < 3 → r ≡ truthOf v) ⌝ }
+{
+    if kind == 2 {
+        return ink_number::float::truthy(real);
+    }
+    ink_number::int::truthy(whole)
+}
+
 // A value as an Int.
 pub fn int_from(kind: u8, whole: i32, real: f32, start: usize, len: usize, values: &[i32]) -> i32
     requires { ⌜ start + len ≤ length (now values) ⌝ }
     ensures { λ r. ⌜ ((v : Value) → Parts v kind whole real start len → r ≡ intOf (now (values .entry)) v) ⌝ }
 {
     match kind {
-        2 => ink_number::convert::float_to_int(real),
         3 => greatest(values, start, len),
         4 => 0,
-        _ => whole,
+        _ => number_int(kind, whole, real),
     }
 }
 
@@ -185,10 +212,11 @@ pub fn float_from(kind: u8, whole: i32, real: f32, start: usize, len: usize, val
     requires { ⌜ start + len ≤ length (now values) ⌝ }
     ensures { λ r. ⌜ ((v : Value) → Parts v kind whole real start len → r ≡ floatOf (now (values .entry)) v) ⌝ }
 {
-    if kind == 2 {
-        return real;
+    match kind {
+        3 => ink_number::convert::int_to_float(greatest(values, start, len)),
+        4 => ink_number::convert::int_to_float(0),
+        _ => number_float(kind, whole, real),
     }
-    ink_number::convert::int_to_float(int_from(kind, whole, real, start, len, values))
 }
 
 // Is a value truthy.
@@ -196,10 +224,9 @@ pub fn truth_from(kind: u8, whole: i32, real: f32, len: usize) -> bool
     ensures { λ r. ⌜ ((v : Value) (start : ℕ) → Parts v kind whole real start len → r ≡ truthOf v) ⌝ }
 {
     match kind {
-        2 => ink_number::float::truthy(real),
         3 => 0 < len,
         4 => false,
-        _ => ink_number::int::truthy(whole),
+        _ => number_truth(kind, whole, real),
     }
 }
 

@@ -2,7 +2,8 @@
 use mathlib.Core.Path.{_≡_, refl, sym, ap, _∙_}
 use mathlib.Core.Bool.{Bool, true, false, cond}
 use mathlib.Core.List.{List}
-use Prim.Native.Nat.{ℕ, max}
+use Prim.Native.Nat.{ℕ, zero, suc, max, _<_}
+use native.Mathlib.Omega.{arith}
 use borrow.Author.Tests.{ne-eqb}
 use lib.Dec.{eqb}
 use lib.IntN.{ℤ}
@@ -21,6 +22,22 @@ common-in is vs a b k e =
     ap (λ (x : ℕ). kindAt (max 1 (max x (codeOf (kindOf (valOf is vs b)))))) (code-of is vs a)
     ∙ ap (λ (x : ℕ). kindAt (max 1 (max (codeOfValue a) x))) (code-of is vs b)
     ∙ ap kindAt (sym e)
+
+-- two numbers' kind is a Float's where it is not an Int's
+pub common-two : (i j k : ℕ) → k ≡ max 1 (max i j) → (k ≡ 1 → ⊥) → i < 3 → j < 3 → k ≡ 2
+common-two zero zero k e n h l = absurd (n e)
+common-two zero (suc zero) k e n h l = absurd (n e)
+common-two zero (suc (suc zero)) k e n h l = e
+common-two zero (suc (suc (suc j))) k e n h l = absurd (omega arith)
+common-two (suc zero) zero k e n h l = absurd (n e)
+common-two (suc zero) (suc zero) k e n h l = absurd (n e)
+common-two (suc zero) (suc (suc zero)) k e n h l = e
+common-two (suc zero) (suc (suc (suc j))) k e n h l = absurd (omega arith)
+common-two (suc (suc zero)) zero k e n h l = e
+common-two (suc (suc zero)) (suc zero) k e n h l = e
+common-two (suc (suc zero)) (suc (suc zero)) k e n h l = e
+common-two (suc (suc zero)) (suc (suc (suc j))) k e n h l = absurd (omega arith)
+common-two (suc (suc (suc i))) j k e n h l = absurd (omega arith)
 
 -- the kinds without a test of their own
 pub test-other : (k : ℕ) → (k ≡ 1 → ⊥) → (k ≡ 2 → ⊥) → (k ≡ 3 → ⊥) → (o : ℕ) (a b : Val) → testAs (kindAt k) o a b ≡ false

@@ -6,6 +6,7 @@ ghost use mathlib.Core.Path.{_≡_};
 ghost use mathlib.Core.Bool.{true, _&&_, _||_};
 ghost use mathlib.Core.List.{List, [], _∷_};
 ghost use Prim.Native.Nat.{ℕ, _<_, _≤_, _+_, max};
+ghost use lib.IntN.{ℤ};
 ghost use lib.ListN.{length, take};
 ghost use Rattle.ink_value.specs.Val.{kindAt, kindOf, listK};
 ghost use Rattle.kind_table.specs.Kinds.{common, KindsGiven};
@@ -15,7 +16,7 @@ ghost use Rattle.native_function_call.specs.Lists.{testL, mergeL, unaryL
 ghost use Rattle.ink_value.specs.Slices.{valIn, OperandIn, Gives};
 ghost use Rattle.ink_list.specs.Slices.{list, Answers};
 ghost use Rattle.native_function_call.specs.Apply.{ofInt, testLists, testAs, test, wholeUnary, whole, realUnary, real, compute, call, entriesFor, listed};
-ghost use Rattle.ink_value.specs.Value.{codeOfValue, valOf, placed, entriesAt, Spans, Formed, FirstFormed, Operand};
+ghost use Rattle.ink_value.specs.Value.{codeOfValue, valOf, placed, entriesAt, Spans, Formed, FirstFormed, Operand, Number};
 ghost use Rattle.ink_value.specs.declared.Value.{Value};
 ghost use Rattle.ink_list.specs.Entries.{itemNumbers, room, Ascends, Rising, Lent};
 ghost use Rattle.ink_number.specs.Int.{divided};
@@ -179,7 +180,7 @@ fn shift(
     }
 }
 
-// ---- operators whose result is no List, on operands in parts: kind code k, number z or x, n entries from s on
+// ---- operators on numbers: kind code k, and the number z or x that a value of that kind holds
 
 // The code of the common kind: the highest present, at least 1.
 fn common(left: u8, right: u8) -> u8
@@ -193,6 +194,100 @@ fn common(left: u8, right: u8) -> u8
     }
     right
 }
+
+fn number_test2(op: u8, ka: u8, za: i32, xa: f32, kb: u8, zb: i32, xb: f32) -> bool
+    ensures { λ r. ⌜ ((a b : Value) (is : List ℕ) (vs : List ℤ) → Number a ka za xa → Number b kb zb xb
+        → r ≡ testAs (common (kindOf (valOf is vs a)) (kindOf (valOf is vs b))) op (valOf is vs a) (valOf is vs b)) ⌝ }
+{
+    if common(ka, kb) == 1 {
+        return test_int(
+            op,
+            ink_value::number_int(ka, za, xa),
+            ink_value::number_int(kb, zb, xb),
+        );
+    }
+    test_float(
+        op,
+        ink_value::number_float(ka, za, xa),
+        ink_value::number_float(kb, zb, xb),
+    )
+}
+
+// A result that is a Bool.
+pub fn number_test(op: u8, count: usize, ka: u8, za: i32, xa: f32, kb: u8, zb: i32, xb: f32) -> bool
+    requires { ⌜ (1 ≤ count) × (count ≤ 2) ⌝ }
+    ensures { λ r. ⌜ ((a b : Value) (is : List ℕ) (vs : List ℤ) → Number a ka za xa → (count ≡ 2 → Number b kb zb xb)
+        → r ≡ test op (take count (valOf is vs a ∷ valOf is vs b ∷ []))) ⌝ }
+{
+    if count == 1 {
+        return !ink_value::number_truth(ka, za, xa);
+    }
+    number_test2(op, ka, za, xa, kb, zb, xb)
+}
+
+fn number_whole1(op: u8, ka: u8, za: i32, xa: f32) -> i32
+    ensures { λ r. ⌜ ((a : Value) (is : List ℕ) (vs : List ℤ) → Number a ka za xa → r ≡ wholeUnary op (valOf is vs a)) ⌝ }
+{
+    match op {
+        5 => ink_number::int::wrapping_neg(ink_value::number_int(ka, za, xa)),
+        12 => ink_value::bit(!ink_value::number_truth(ka, za, xa)),
+        28 => 0,
+        _ => ink_value::number_int(ka, za, xa),
+    }
+}
+
+// A result that is an Int.
+pub fn number_whole(
+    op: u8,
+    count: usize,
+    ka: u8,
+    za: i32,
+    xa: f32,
+    kb: u8,
+    zb: i32,
+    xb: f32,
+) -> Divided
+    requires { ⌜ (1 ≤ count) × (count ≤ 2) ⌝ }
+    ensures { λ r. ⌜ ((a b : Value) (is : List ℕ) (vs : List ℤ) → Number a ka za xa → (count ≡ 2 → Number b kb zb xb)
+        → ofInt (divided r) ≡ whole op (take count (valOf is vs a ∷ valOf is vs b ∷ []))) ⌝ }
+{
+    if count == 1 {
+        return Divided::Value(number_whole1(op, ka, za, xa));
+    }
+    arith_int(
+        op,
+        ink_value::number_int(ka, za, xa),
+        ink_value::number_int(kb, zb, xb),
+    )
+}
+
+fn number_real1(op: u8, ka: u8, za: i32, xa: f32) -> f32
+    ensures { λ r. ⌜ ((a : Value) (is : List ℕ) (vs : List ℤ) → Number a ka za xa → r ≡ realUnary op (valOf is vs a)) ⌝ }
+{
+    let x = ink_value::number_float(ka, za, xa);
+    if op == 5 {
+        return ink_number::float::neg(x);
+    }
+    x
+}
+
+// A result that is a Float.
+pub fn number_real(op: u8, count: usize, ka: u8, za: i32, xa: f32, kb: u8, zb: i32, xb: f32) -> f32
+    requires { ⌜ (1 ≤ count) × (count ≤ 2) ⌝ }
+    ensures { λ r. ⌜ ((a b : Value) (is : List ℕ) (vs : List ℤ) → Number a ka za xa → (count ≡ 2 → Number b kb zb xb)
+        → r ≡ real op (take count (valOf is vs a ∷ valOf is vs b ∷ []))) ⌝ }
+{
+    if count == 1 {
+        return number_real1(op, ka, za, xa);
+    }
+    arith_float(
+        op,
+        ink_value::number_float(ka, za, xa),
+        ink_value::number_float(kb, zb, xb),
+    )
+}
+
+// ---- operators whose result is no List, on operands in parts: kind code k, number z or x, n entries from s on
 
 // The tests on the entries of two lists.
 fn test_held(op: u8, i: usize, m: usize, j: usize, n: usize, items: &[u16], values: &[i32]) -> bool
