@@ -48,6 +48,11 @@ op-told P e h = subst (λ (x : Instruction). IfOp (instrOf x) P) (sym e) h
 pub slot-told : (P : ℕ → Type 0) {i j : Instruction} → i ≡ j → IfSlot (instrOf j) P → IfSlot (instrOf i) P
 slot-told P e h = subst (λ (x : Instruction). IfSlot (instrOf x) P) (sym e) h
 
+-- what follows for an operator
+if-op : (i : Instr) {P Q : ℕ → Type 0} → ((o : ℕ) → P o → Q o) → IfOp i P → IfOp i Q
+if-op (op o) f h = f o h
+if-op (push p) f h = tt
+
 -- the value that is read at a slot's place
 pub slot-is : (i : Instr) (slots : List Value) (r : ℕ) → r < length slots → IfSlot i (λ s. r ≡ s) → SlotIs slots (getD slots r (Is.Bool false)) i
 slot-is (op o) slots r h e = tt
@@ -234,38 +239,37 @@ module _ (p : List ℕ) (s : ℕ) (u : ListDefinitions) (slots : List Val) (wi�
     (n at i : ℕ) (g : Working p s u slots wi₀ wv₀ used wi wv stack n at i) where
   -- an operator's operands, read at their places
   module _ (count p0 p1 p2 : ℕ) (h0 : 0 < count → count ≤ n → p0 ≡ n - count + 0) (h1 : 1 < count → count ≤ n → p1 ≡ n - count + 1)
-      (h2 : 2 < count → count ≤ n → p2 ≡ n - count + 2) (instr : Instr) (e : IfOp instr (λ o. count ≡ operandCount o)) where
-    pub operands : IfOp instr (λ o. Operands wi wv (getD stack p0 (Is.Bool false)) (getD stack p1 (Is.Bool false)) (getD stack p2 (Is.Bool false)) n (operandCount o) (valueOn wi wv stack))
-    operands = go instr e
-      where
-        here : Operands wi wv (getD stack p0 (Is.Bool false)) (getD stack p1 (Is.Bool false)) (getD stack p2 (Is.Bool false)) n count (valueOn wi wv stack)
-        here =
-            record {
-              one = λ l k. ap (valueOn wi wv stack) (omega (arith, h0 (omega arith) k));
-              two = λ l k. ap (valueOn wi wv stack) (omega (arith, h1 (omega arith) k));
-              three = λ l k. ap (valueOn wi wv stack) (omega (arith, h2 (omega arith) k));
-            }
+      (h2 : 2 < count → count ≤ n → p2 ≡ n - count + 2) where
+    abbrev a : Value
+    a = getD stack p0 (Is.Bool false)
 
-        go : (j : Instr) → IfOp j (λ o. count ≡ operandCount o)
-            → IfOp j (λ o. Operands wi wv (getD stack p0 (Is.Bool false)) (getD stack p1 (Is.Bool false)) (getD stack p2 (Is.Bool false)) n (operandCount o) (valueOn wi wv stack))
-        go (op o) q = rw (← q) here
-        go (push x) q = tt
+    abbrev b : Value
+    b = getD stack p1 (Is.Bool false)
 
-    pub operands-formed : IfOp instr (λ o. OperandsFormed wi wv (getD stack p0 (Is.Bool false)) (getD stack p1 (Is.Bool false)) (getD stack p2 (Is.Bool false)) n (operandCount o))
-    operands-formed = go instr e
-      where
-        here : OperandsFormed wi wv (getD stack p0 (Is.Bool false)) (getD stack p1 (Is.Bool false)) (getD stack p2 (Is.Bool false)) n count
-        here k =
-            record {
-              one = λ l. g .formed p0 (omega (arith, h0 (omega arith) k));
-              two = λ l. g .formed p1 (omega (arith, h1 (omega arith) k));
-              three = λ l. g .formed p2 (omega (arith, h2 (omega arith) k));
-            }
+    abbrev c : Value
+    c = getD stack p2 (Is.Bool false)
 
-        go : (j : Instr) → IfOp j (λ o. count ≡ operandCount o)
-            → IfOp j (λ o. OperandsFormed wi wv (getD stack p0 (Is.Bool false)) (getD stack p1 (Is.Bool false)) (getD stack p2 (Is.Bool false)) n (operandCount o))
-        go (op o) q = rw (← q) here
-        go (push x) q = tt
+    are : Operands wi wv a b c n count (valueOn wi wv stack)
+    are =
+        record {
+          one = λ l k. ap (valueOn wi wv stack) (omega (arith, h0 l k));
+          two = λ l k. ap (valueOn wi wv stack) (sym (h1 l k));
+          three = λ l k. ap (valueOn wi wv stack) (sym (h2 l k));
+        }
+
+    are-formed : OperandsFormed wi wv a b c n count
+    are-formed k =
+        record {
+          one = λ l. g .formed p0 (omega (arith, h0 l k));
+          two = λ l. g .formed p1 (omega (arith, h1 l k));
+          three = λ l. g .formed p2 (omega (arith, h2 l k));
+        }
+
+    pub operands : (instr : Instr) → IfOp instr (λ o. count ≡ operandCount o) → IfOp instr (λ o. Operands wi wv a b c n (operandCount o) (valueOn wi wv stack))
+    operands instr e = if-op instr (λ o q. rw (← q) are) e
+
+    pub operands-formed : (instr : Instr) → IfOp instr (λ o. count ≡ operandCount o) → IfOp instr (λ o. OperandsFormed wi wv a b c n (operandCount o))
+    operands-formed instr e = if-op instr (λ o q. rw (← q) are-formed) e
 
   pub roomy : Roomy wi₀ wv₀ → Roomy wi wv
   roomy r = record { items-room = omega (arith, r .items-room, g .items-touched .long); values-room = omega (arith, r .values-room, g .values-touched .long) }
