@@ -23,6 +23,7 @@ use Rattle.ink_value.specs.Value.{valOf, startOf, lenOf, Formed}
 use Rattle.ink_value.specs.declared.Value.{Value}
 use Rattle.ink_value.specs.declared.Value.the-variants as Is
 use Rattle.list_definitions.specs.Defs.{ListDefinitions}
+use Rattle.kind_table.specs.Kinds.{operandCount}
 use Rattle.native_function_call.specs.Apply.{applyOp}
 use Rattle.pack.specs.Bodies.{decoded}
 use Rattle.pack.specs.Format.{format1, slotLimit}
@@ -33,7 +34,7 @@ use Rattle.pack.proofs.Programs.{last-of}
 use Rattle.sheet.specs.Machine.{Run, ended, stopped, stackLimit, finish, onward, step, runFrom, valuePushed, run}
 use Rattle.sheet.specs.Stack.{stackOf}
 use Rattle.sheet.proofs.Stack.{stack-put, run-more, run-stop, run-done}
-use Rattle.stepping.specs.Steps.{placedAt, startAt, Roomy, Grown, Tops, TopsFormed, Inputs, IfOp, IfSlot, SlotIs}
+use Rattle.stepping.specs.Steps.{placedAt, startAt, Roomy, Grown, Operands, OperandsFormed, Inputs, IfOp, IfSlot, SlotIs}
 use Rattle.running.specs.Work.{Outside, Touched, Longest}
 use Rattle.running.proofs.Filling.{part-filled, part-before, getD-outside}
 use Rattle.stepping.proofs.Putting.{place-fits, formed-none}
@@ -41,16 +42,16 @@ use Rattle.stepping.proofs.Putting.{place-fits, formed-none}
 -- ---- what an instruction takes
 
 -- what holds of the case that an instruction is holds of it
-pub op-told : (X : Type 0) {i j : Instruction} → i ≡ j → IfOp (instrOf j) X → IfOp (instrOf i) X
-op-told X e h = subst (λ (x : Instruction). IfOp (instrOf x) X) (sym e) h
+pub op-told : (P : ℕ → Type 0) {i j : Instruction} → i ≡ j → IfOp (instrOf j) P → IfOp (instrOf i) P
+op-told P e h = subst (λ (x : Instruction). IfOp (instrOf x) P) (sym e) h
 
 pub slot-told : (P : ℕ → Type 0) {i j : Instruction} → i ≡ j → IfSlot (instrOf j) P → IfSlot (instrOf i) P
 slot-told P e h = subst (λ (x : Instruction). IfSlot (instrOf x) P) (sym e) h
 
--- what follows for an operator from three facts of operators
-pub if-op3 : (i : Instr) {X A B C : Type 0} → (A → B → C → X) → IfOp i A → IfOp i B → IfOp i C → IfOp i X
-if-op3 (op o) f a b c = f a b c
-if-op3 (push p) f a b c = tt
+-- what follows for an operator
+if-op : (i : Instr) {P Q : ℕ → Type 0} → ((o : ℕ) → P o → Q o) → IfOp i P → IfOp i Q
+if-op (op o) f h = f o h
+if-op (push p) f h = tt
 
 -- the value that is read at a slot's place
 pub slot-is : (i : Instr) (slots : List Value) (r : ℕ) → r < length slots → IfSlot i (λ s. r ≡ s) → SlotIs slots (getD slots r (Is.Bool false)) i
@@ -61,6 +62,10 @@ slot-is (push (pushFloat b)) slots r h e = tt
 slot-is (push (pushList l)) slots r h e = tt
 slot-is (push (pushSlot s)) slots r h e = (subst (λ (k : ℕ). k < length slots) e h, ap (λ (k : ℕ). getD slots k (Is.Bool false)) e)
 slot-is (push pushVoid) slots r h e = tt
+
+pub allowed-op : (L : ℕ) (i : Instr) → Allowed L i → IfOp i (λ o. o < 32)
+allowed-op L (op o) a = a
+allowed-op L (push p) a = tt
 
 pub allowed-slot : (L : ℕ) (i : Instr) → Allowed L i → IfSlot i (λ s. s < slotLimit)
 allowed-slot L (op o) a = tt
@@ -232,23 +237,39 @@ begin p s u slots wi wv used stack at h l e =
 
 module _ (p : List ℕ) (s : ℕ) (u : ListDefinitions) (slots : List Val) (wi₀ : List ℕ) (wv₀ : List ℤ) (used wi : List ℕ) (wv : List ℤ) (stack : List Value)
     (n at i : ℕ) (g : Working p s u slots wi₀ wv₀ used wi wv stack n at i) where
-  -- the three topmost, read at places that are right as far as there are three
-  module _ (p1 p2 p3 : ℕ) (h1 : 1 ≤ n → p1 ≡ n - 1) (h2 : 2 ≤ n → p2 ≡ n - 2) (h3 : 3 ≤ n → p3 ≡ n - 3) where
-    pub tops : Tops wi wv (getD stack p3 (Is.Bool false)) (getD stack p2 (Is.Bool false)) (getD stack p1 (Is.Bool false)) n (valueOn wi wv stack)
-    tops =
+  -- an operator's operands, read at their places
+  module _ (count p0 p1 p2 : ℕ) (h0 : 0 < count → count ≤ n → p0 ≡ n - count + 0) (h1 : 1 < count → count ≤ n → p1 ≡ n - count + 1)
+      (h2 : 2 < count → count ≤ n → p2 ≡ n - count + 2) where
+    abbrev a : Value
+    a = getD stack p0 (Is.Bool false)
+
+    abbrev b : Value
+    b = getD stack p1 (Is.Bool false)
+
+    abbrev c : Value
+    c = getD stack p2 (Is.Bool false)
+
+    are : Operands wi wv a b c n count (valueOn wi wv stack)
+    are =
         record {
-          one = λ l. ap (valueOn wi wv stack) (sym (h1 l));
-          two = λ l. ap (valueOn wi wv stack) (sym (h2 l));
-          three = λ l. ap (valueOn wi wv stack) (sym (h3 l));
+          one = λ l k. ap (valueOn wi wv stack) (omega (arith, h0 l k));
+          two = λ l k. ap (valueOn wi wv stack) (sym (h1 l k));
+          three = λ l k. ap (valueOn wi wv stack) (sym (h2 l k));
         }
 
-    pub tops-formed : TopsFormed wi wv (getD stack p3 (Is.Bool false)) (getD stack p2 (Is.Bool false)) (getD stack p1 (Is.Bool false)) n
-    tops-formed =
+    are-formed : OperandsFormed wi wv a b c n count
+    are-formed k =
         record {
-          one = λ l. g .formed p1 (omega (arith, h1 l));
-          two = λ l. g .formed p2 (omega (arith, h2 l));
-          three = λ l. g .formed p3 (omega (arith, h3 l));
+          one = λ l. g .formed p0 (omega (arith, h0 l k));
+          two = λ l. g .formed p1 (omega (arith, h1 l k));
+          three = λ l. g .formed p2 (omega (arith, h2 l k));
         }
+
+    pub operands : (instr : Instr) → IfOp instr (λ o. count ≡ operandCount o) → IfOp instr (λ o. Operands wi wv a b c n (operandCount o) (valueOn wi wv stack))
+    operands instr e = if-op instr (λ o q. rw (← q) are) e
+
+    pub operands-formed : (instr : Instr) → IfOp instr (λ o. count ≡ operandCount o) → IfOp instr (λ o. OperandsFormed wi wv a b c n (operandCount o))
+    operands-formed instr e = if-op instr (λ o q. rw (← q) are-formed) e
 
   pub roomy : Roomy wi₀ wv₀ → Roomy wi wv
   roomy r = record { items-room = omega (arith, r .items-room, g .items-touched .long); values-room = omega (arith, r .values-room, g .values-touched .long) }

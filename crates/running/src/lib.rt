@@ -20,6 +20,7 @@ ghost use Rattle.ink_list.specs.Filled.{fill};
 ghost use Rattle.ink_value.specs.Val.{list};
 ghost use Rattle.ink_value.specs.Slices.{valIn};
 ghost use Rattle.ink_value.specs.Value.{allFormed};
+ghost use Rattle.kind_table.specs.Kinds.{operandCount};
 ghost use Rattle.native_function_call.specs.Lists.{definitions, definitionsIn};
 ghost use Rattle.pack.specs.Bodies.{decoded};
 ghost use Rattle.pack.specs.Contents.{sheetCount};
@@ -39,32 +40,38 @@ pub enum Ran {
     Stopped { number: u8, index: usize },
 }
 
-// The place k below the top of a stack of n, or 0 where there is none.
-fn below(n: usize, k: usize) -> usize
-    requires { ⌜ (n ≤ stackLimit) × (1 ≤ k) ⌝ }
-    ensures { λ r. ⌜ (k ≤ n → r ≡ n - k) × (r < stackLimit) ⌝ }
+// How many operands an instruction takes: a push takes none.
+fn operand_count(i: Instruction) -> usize
+    requires { ⌜ IfOp (instrOf i) (λ o. o < 32) ⌝ }
+    ensures { λ r. ⌜ IfOp (instrOf i) (λ o. r ≡ operandCount o) ⌝ }
 {
-    if k <= n { n - k } else { 0 }
+    match i {
+        Instruction::Op(op) => kind_table::operands(op),
+        Instruction::Bool(_) => 0,
+        Instruction::Int(_) => 0,
+        Instruction::Float(_) => 0,
+        Instruction::List(_) => 0,
+        Instruction::Slot(_) => 0,
+        Instruction::Void => 0,
+    }
 }
 
 // The last place of the stack.
 const LAST_PLACE: usize = STACK_LIMIT - 1;
 
-// The place of an operator's operand, k below the top; for a push, which takes none, the last place: nothing was just stored there, so that
-// reading it does not wait.
-fn operand_place(i: Instruction, n: usize, k: usize) -> usize
-    requires { ⌜ (n ≤ stackLimit) × (1 ≤ k) ⌝ }
-    ensures { λ r. ⌜ IfOp (instrOf i) (k ≤ n → r ≡ n - k) × (r < stackLimit) ⌝ }
+// The place of operand k, from 0, of the `count` topmost of a stack of n; where there is no such operand, the last place: nothing was just
+// stored there, so that reading it does not wait.
+fn operand_place(n: usize, count: usize, k: usize) -> usize
+    requires { ⌜ n ≤ stackLimit ⌝ }
+    ensures { λ r. ⌜ (k < count → count ≤ n → r ≡ n - count + k) × (r < stackLimit) ⌝ }
 {
-    match i {
-        Instruction::Op(_) => below(n, k),
-        Instruction::Bool(_) => LAST_PLACE,
-        Instruction::Int(_) => LAST_PLACE,
-        Instruction::Float(_) => LAST_PLACE,
-        Instruction::List(_) => LAST_PLACE,
-        Instruction::Slot(_) => LAST_PLACE,
-        Instruction::Void => LAST_PLACE,
+    if count <= k {
+        return LAST_PLACE;
     }
+    if n < count {
+        return LAST_PLACE;
+    }
+    n - count + k
 }
 
 // The slot that an instruction pushes, or 0.
@@ -164,12 +171,13 @@ fn work(
         let width = pack::instruction::instruction_width(instruction);
         let k = slot_place(instruction);
         let slot = slots[k];
-        let p1 = operand_place(instruction, n, 1);
-        let p2 = operand_place(instruction, n, 2);
-        let p3 = operand_place(instruction, n, 3);
-        let top = stack[p1];
-        let second = stack[p2];
-        let third = stack[p3];
+        let count = operand_count(instruction);
+        let p0 = operand_place(n, count, 0);
+        let p1 = operand_place(n, count, 1);
+        let p2 = operand_place(n, count, 2);
+        let a = stack[p0];
+        let b = stack[p1];
+        let c = stack[p2];
         let step = stepping::run_step(
             pack,
             ends,
@@ -179,9 +187,9 @@ fn work(
             slot_values,
             instruction,
             n,
-            third,
-            second,
-            top,
+            a,
+            b,
+            c,
             work_items,
             work_values,
         );

@@ -1,10 +1,10 @@
 -- An operator on the top of a stack: its operands, and its answer put on the stack below them. Assumes nothing.
-use mathlib.Core.Path.{_≡_, refl, sym, ap, _∙_, subst}
+use mathlib.Core.Path.{_≡_, refl, sym, ap, ap₂, _∙_, subst}
 use mathlib.Core.Bool.{Bool, true, false, cond}
 use mathlib.Core.List.{List, [], _∷_, map}
 use Prim.Native.Nat.{ℕ, zero, suc, _-_, _≤_, _<_}
 use native.Mathlib.Omega.{arith}
-use borrow.Author.Tests.{eq-eqb, ne-eqb}
+use borrow.Author.Tests.{eq-eqb, ne-eqb, lt-ltb, ltb-true}
 use lib.Dec.{eqb, ltb}
 use lib.IntN.{ℤ}
 use lib.ListN.{length, getD, take, List·getD-map}
@@ -12,10 +12,10 @@ use Rattle.ink_number.specs.Answer.{Answer, gives, refuses, ask}
 use Rattle.ink_list.specs.Entries.{Rising}
 use Rattle.ink_value.specs.Val.{Val, void, Kind, boolK, intK, floatK, listK, voidK, kindAt, kindOf}
 use Rattle.ink_value.specs.Convert.{asInt}
-use Rattle.ink_value.specs.Value.{valOf, codeOfValue, written, Formed, Wf, AllWf}
+use Rattle.ink_value.specs.Value.{valOf, codeOfValue, written, Formed, FirstFormed, Wf, AllWf}
 use Rattle.ink_value.specs.declared.Value.{Value}
 use Rattle.ink_value.specs.declared.Value.the-variants as Is
-use Rattle.ink_value.proofs.Reading.{rising-in}
+use Rattle.ink_value.proofs.Reading.{ap3, rising-in}
 use Rattle.kind_table.specs.Kinds.{known, arity, operandCount, kindCall, decoded, KindsGiven}
 use Rattle.native_function_call.specs.Numbers.{arithZ}
 use Rattle.list_definitions.specs.Defs.{ListDefinitions}
@@ -29,10 +29,10 @@ use Rattle.pack.proofs.Values.{pack-tables}
 use Rattle.sheet.specs.Machine.{stackLimit, topped, stepOp, stepPush, step}
 use Rattle.sheet.specs.Stack.{stackOf}
 use Rattle.sheet.proofs.Stack.{op-unknown, op-few, op-one, op-two, op-three, stack-length, getD-any}
-use Rattle.stepping.specs.Steps.{AnswerCase, Answered, StepCase, Steps, Tops, TopsFormed, Picks, Known, startAt, Put, pushed, Inputs}
+use Rattle.stepping.specs.Steps.{AnswerCase, Answered, StepCase, Steps, Operands, Known, startAt, Put, pushed, Inputs}
 use Rattle.stepping.specs.declared.Step.{Step}
 use Rattle.stepping.specs.declared.Step.the-variants as St
-use Rattle.stepping.proofs.Putting.{Plain}
+use Rattle.stepping.proofs.Putting.{Plain, formed-none}
 
 -- ---- a result that is no List
 
@@ -145,45 +145,52 @@ push-topped n x f = rw (stack-length f n) (go (ltb n stackLimit))
     go false = refl
 
 -- an operator's operands are the topmost
-module _ (wi : List ℕ) (wv : List ℤ) (third second top a b : Value) (f : ℕ → Val) (u : ListDefinitions) (o n : ℕ) (t : Tops wi wv third second top n f) where
-  pub operands-topped : (count : ℕ) → Picks count top second third a → Picks count top top second b → operandCount o ≡ count → 1 ≤ count → count ≤ n
-      → topped (stackOf f (n - count)) (call u o count (operandsOf wi wv a b top count)) ≡ stepOp (applyOp u) o (stackOf f n)
-  operands-topped zero p q e h l = absurd (omega arith)
-  operands-topped (suc zero) p q e h l =
-      let x : valOf wi wv a ≡ f (n - 1) = ap (valOf wi wv) (p .at-one refl) ∙ sym (t .one (omega arith)) in
-      ap (topped (stackOf f (n - 1))) (call-applies wi wv a b top u o 1 h e ∙ ap (λ (y : Val). applyOp u o (y ∷ [])) x)
-      ∙ op-one (applyOp u) f o n e (omega arith)
-  operands-topped (suc (suc zero)) p q e h l =
-      let x : valOf wi wv a ≡ f (n - 2) = ap (valOf wi wv) (p .at-two refl) ∙ sym (t .two (omega arith)) in
-      let y : valOf wi wv b ≡ f (n - 1) = ap (valOf wi wv) (q .at-two refl) ∙ sym (t .one (omega arith)) in
-      ap (topped (stackOf f (n - 2))) (call-applies wi wv a b top u o 2 h e ∙ ap (λ (z : Val). applyOp u o (z ∷ valOf wi wv b ∷ [])) x ∙ ap (λ (z : Val). applyOp u o (f (n - 2) ∷ z ∷ [])) y)
-      ∙ op-two (applyOp u) f o n e (omega arith)
-  operands-topped (suc (suc (suc zero))) p q e h l =
-      let x : valOf wi wv a ≡ f (n - 3) = ap (valOf wi wv) (p .at-three refl) ∙ sym (t .three (omega arith)) in
-      let y : valOf wi wv b ≡ f (n - 2) = ap (valOf wi wv) (q .at-three refl) ∙ sym (t .two (omega arith)) in
-      let w : valOf wi wv top ≡ f (n - 1) = sym (t .one (omega arith)) in
-      ap (topped (stackOf f (n - 3))) (call-applies wi wv a b top u o 3 h e ∙ ap (λ (z : Val). applyOp u o (z ∷ valOf wi wv b ∷ valOf wi wv top ∷ [])) x ∙ ap (λ (z : Val). applyOp u o (f (n - 3) ∷ z ∷ valOf wi wv top ∷ [])) y ∙ ap (λ (z : Val). applyOp u o (f (n - 3) ∷ f (n - 2) ∷ z ∷ [])) w)
-      ∙ op-three (applyOp u) f o n e (omega arith)
-  operands-topped (suc (suc (suc (suc m)))) p q e h l =
+module _ (wi : List ℕ) (wv : List ℤ) (a b c : Value) (f : ℕ → Val) (u : ListDefinitions) (o n : ℕ) where
+  pub operands-topped : (count : ℕ) → Operands wi wv a b c n count f → operandCount o ≡ count → 1 ≤ count → count ≤ n
+      → topped (stackOf f (n - count)) (call u o count (operandsOf wi wv a b c count)) ≡ stepOp (applyOp u) o (stackOf f n)
+  operands-topped zero t e h l = absurd (omega arith)
+  operands-topped (suc zero) t e h l =
+      let x : valOf wi wv a ≡ f (n - 1) = sym (t .one h l) in
+      ap (topped (stackOf f (n - 1))) (call-applies wi wv a b c u o 1 h e ∙ ap (λ (z : Val). applyOp u o (z ∷ [])) x)
+      ∙ op-one (applyOp u) f o n e l
+  operands-topped (suc (suc zero)) t e h l =
+      let x : valOf wi wv a ≡ f (n - 2) = sym (t .one h l) in
+      let y : valOf wi wv b ≡ f (n - 1) = sym (t .two (omega arith) l) ∙ ap f (omega arith) in
+      ap (topped (stackOf f (n - 2))) (call-applies wi wv a b c u o 2 h e ∙ ap₂ (λ (z w : Val). applyOp u o (z ∷ w ∷ [])) x y)
+      ∙ op-two (applyOp u) f o n e l
+  operands-topped (suc (suc (suc zero))) t e h l =
+      let x : valOf wi wv a ≡ f (n - 3) = sym (t .one h l) in
+      let y : valOf wi wv b ≡ f (n - 2) = sym (t .two (omega arith) l) ∙ ap f (omega arith) in
+      let z : valOf wi wv c ≡ f (n - 1) = sym (t .three (omega arith) l) ∙ ap f (omega arith) in
+      ap (topped (stackOf f (n - 3))) (call-applies wi wv a b c u o 3 h e ∙ ap3 (λ (v w y : Val). applyOp u o (v ∷ w ∷ y ∷ [])) x y z)
+      ∙ op-three (applyOp u) f o n e l
+  operands-topped (suc (suc (suc (suc m)))) t e h l =
       let z = count-three o (suc (suc (suc (suc m)))) e h (λ k. omega arith) (λ k. omega arith) in
       absurd (omega arith)
 
--- and are formed
-pub operands-formed : (wi : List ℕ) (wv : List ℤ) (third second top a b : Value) (n o : ℕ) → TopsFormed wi wv third second top n → (count : ℕ)
-    → Picks count top second third a → Picks count top top second b → operandCount o ≡ count → 1 ≤ count → count ≤ n
-    → Formed (format1 .limit) wi wv a × Formed (format1 .limit) wi wv b × Formed (format1 .limit) wi wv top
-operands-formed wi wv third second top a b n o t zero p q e h l = absurd (omega arith)
-operands-formed wi wv third second top a b n o t (suc zero) p q e h l =
-    let f = t .one (omega arith) in
-    (subst (Formed (format1 .limit) wi wv) (sym (p .at-one refl)) f, subst (Formed (format1 .limit) wi wv) (sym (q .at-one refl)) f, f)
-operands-formed wi wv third second top a b n o t (suc (suc zero)) p q e h l =
-    let f = t .one (omega arith) in
-    (subst (Formed (format1 .limit) wi wv) (sym (p .at-two refl)) (t .two (omega arith)), subst (Formed (format1 .limit) wi wv) (sym (q .at-two refl)) f, f)
-operands-formed wi wv third second top a b n o t (suc (suc (suc zero))) p q e h l =
-    (subst (Formed (format1 .limit) wi wv) (sym (p .at-three refl)) (t .three (omega arith)), subst (Formed (format1 .limit) wi wv) (sym (q .at-three refl)) (t .two (omega arith)), t .one (omega arith))
-operands-formed wi wv third second top a b n o t (suc (suc (suc (suc m)))) p q e h l =
-    let z = count-three o (suc (suc (suc (suc m)))) e h (λ k. omega arith) (λ k. omega arith) in
-    absurd (omega arith)
+-- Void in the place of an operand that is not used
+module _ (is : List ℕ) (vs : List ℤ) (n : ℕ) (a b c : Value) where
+  pub used-take : operandsOf is vs (cond (ltb 0 n) a Is.Void) (cond (ltb 1 n) b Is.Void) (cond (ltb 2 n) c Is.Void) n ≡ operandsOf is vs a b c n
+  used-take = go n
+    where
+      go : (n : ℕ) → operandsOf is vs (cond (ltb 0 n) a Is.Void) (cond (ltb 1 n) b Is.Void) (cond (ltb 2 n) c Is.Void) n ≡ operandsOf is vs a b c n
+      go zero = refl
+      go (suc zero) = refl
+      go (suc (suc zero)) = refl
+      go (suc (suc (suc n))) =
+          rw (lt-ltb 0 (suc (suc (suc n))) (omega arith), lt-ltb 1 (suc (suc (suc n))) (omega arith), lt-ltb 2 (suc (suc (suc n))) (omega arith))
+
+  one-formed : (yes : Bool) (v : Value) → (yes ≡ true → Formed (format1 .limit) is vs v) → Formed (format1 .limit) is vs (cond yes v Is.Void)
+  one-formed true v f = f refl
+  one-formed false v f = formed-none is vs Is.Void refl refl
+
+  pub used-formed : FirstFormed (format1 .limit) is vs n a b c
+      → Formed (format1 .limit) is vs (cond (ltb 0 n) a Is.Void) × Formed (format1 .limit) is vs (cond (ltb 1 n) b Is.Void) × Formed (format1 .limit) is vs (cond (ltb 2 n) c Is.Void)
+  used-formed f = (
+    one-formed (ltb 0 n) a (λ e. f .one (omega (arith, ltb-true 0 n e))),
+    one-formed (ltb 1 n) b (λ e. f .two (omega (arith, ltb-true 1 n e))),
+    one-formed (ltb 2 n) c (λ e. f .three (omega (arith, ltb-true 2 n e))),
+  )
 
 -- ---- no operator, and too few operands
 

@@ -3,7 +3,7 @@
 use mathlib.Core.Path.{_≡_}
 use mathlib.Core.Bool.{false}
 use mathlib.Core.List.{List, _∷_}
-use Prim.Native.Nat.{ℕ, _*_, _-_, _≤_, _<_}
+use Prim.Native.Nat.{ℕ, _+_, _*_, _-_, _≤_, _<_}
 use lib.Dec.{ltb}
 use lib.IntN.{ℤ}
 use lib.ListN.{length, getD}
@@ -13,7 +13,7 @@ use Rattle.ink_list.specs.Entries.{items, values, Rising}
 use Rattle.ink_list.specs.Filled.{fill}
 use Rattle.ink_value.specs.Val.{Val, bool, int, float, list, void}
 use Rattle.ink_value.specs.Convert.{entriesOf}
-use Rattle.ink_value.specs.Value.{valOf, Formed}
+use Rattle.ink_value.specs.Value.{valOf, Formed, FirstFormed}
 use Rattle.ink_value.specs.declared.Value.{Value}
 use Rattle.ink_value.specs.declared.Value.the-variants as Is
 use Rattle.pack.specs.Bodies.{decoded}
@@ -97,27 +97,20 @@ StepCase n a f (St.No q) wi wi′ wv wv′ = Refuses a q wi wi′ wv wv′
 pub record Steps (n : ℕ) (a : Answer (List Val)) (f : ℕ → Val) (r : Step) (wi wi′ : List ℕ) (wv wv′ : List ℤ) : Type 0 where
   pub by : StepCase n a f r wi wi′ wv wv′
 
--- the three topmost of a stack of n, as far as there are three
-pub record Tops (wi : List ℕ) (wv : List ℤ) (third second top : Value) (n : ℕ) (f : ℕ → Val) : Type 0 where
-  pub one : 1 ≤ n → f (n - 1) ≡ valOf wi wv top
-  pub two : 2 ≤ n → f (n - 2) ≡ valOf wi wv second
-  pub three : 3 ≤ n → f (n - 3) ≡ valOf wi wv third
+-- an operator's operands, in order: the `count` topmost of a stack of n, where there are as many
+pub record Operands (wi : List ℕ) (wv : List ℤ) (a b c : Value) (n count : ℕ) (f : ℕ → Val) : Type 0 where
+  pub one : 1 ≤ count → count ≤ n → f (n - count) ≡ valOf wi wv a
+  pub two : 2 ≤ count → count ≤ n → f (n - count + 1) ≡ valOf wi wv b
+  pub three : 3 ≤ count → count ≤ n → f (n - count + 2) ≡ valOf wi wv c
 
-pub record TopsFormed (wi : List ℕ) (wv : List ℤ) (third second top : Value) (n : ℕ) : Type 0 where
-  pub one : 1 ≤ n → Formed (format1 .limit) wi wv top
-  pub two : 2 ≤ n → Formed (format1 .limit) wi wv second
-  pub three : 3 ≤ n → Formed (format1 .limit) wi wv third
+-- and they are well formed
+abbrev pub OperandsFormed : List ℕ → List ℤ → Value → Value → Value → ℕ → ℕ → Type 0
+OperandsFormed wi wv a b c n count = count ≤ n → FirstFormed (format1 .limit) wi wv count a b c
 
--- one of three values, by a count from one to three
-pub record Picks (count : ℕ) (one two three r : Value) : Type 0 where
-  pub at-one : count ≡ 1 → r ≡ one
-  pub at-two : count ≡ 2 → r ≡ two
-  pub at-three : count ≡ 3 → r ≡ three
-
--- of an operator alone
-abbrev pub IfOp : Instr → Type 0 → Type 0
-IfOp (op o) X = X
-IfOp (push p) X = Unit {0}
+-- of an operator alone, by its code
+abbrev pub IfOp : Instr → (ℕ → Type 0) → Type 0
+IfOp (op o) P = P o
+IfOp (push p) P = Unit {0}
 
 -- of a slot's push alone
 abbrev pub IfSlot : Instr → (ℕ → Type 0) → Type 0

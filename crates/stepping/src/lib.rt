@@ -6,6 +6,7 @@ use ink_value::Value;
 use pack::instruction::Instruction;
 use sheet::STACK_LIMIT;
 ghost use mathlib.Core.Path.{_≡_};
+ghost use mathlib.Core.Bool.{cond};
 ghost use mathlib.Core.List.{List, [], _∷_, map};
 ghost use Prim.Native.Nat.{ℕ, _<_, _≤_, _+_, _-_};
 ghost use lib.IntN.{ℤ};
@@ -13,7 +14,9 @@ ghost use lib.ListN.{length, take};
 ghost use Rattle.ink_list.specs.Entries.{Rising};
 ghost use Rattle.ink_value.specs.Val.{Val, list, listK, kindAt};
 ghost use Rattle.ink_value.specs.Slices.{valIn};
-ghost use Rattle.ink_value.specs.Value.{valOf, codeOfValue, lenOf, written, Formed};
+ghost use Rattle.ink_value.specs.Value.{valOf, codeOfValue, lenOf, written, Formed, FirstFormed};
+ghost use Rattle.ink_value.specs.declared.Value.the-variants as Is;
+ghost use Rattle.kind_table.specs.Kinds.{operandCount};
 ghost use Rattle.native_function_call.specs.Apply.{applyOp, call, compute};
 ghost use Rattle.list_definitions.specs.Defs.{ListDefinitions};
 ghost use Rattle.native_function_call.specs.Lists.{definitions, definitionsIn};
@@ -25,7 +28,7 @@ ghost use Rattle.pack.specs.Judge.{Sound};
 ghost use Rattle.pack.specs.Read.{literalOf};
 ghost use Rattle.sheet.specs.Machine.{stackLimit, stepOp, step, valuePushed, run};
 ghost use Rattle.sheet.specs.Stack.{stackOf};
-ghost use Rattle.stepping.specs.Steps.{Inputs, IfOp, Slots, SlotIs, Put, Answered, pushed, Steps, Tops, TopsFormed, Picks, Known, Roomy};
+ghost use Rattle.stepping.specs.Steps.{Inputs, IfOp, Slots, SlotIs, Put, Answered, pushed, Steps, Operands, OperandsFormed, Known, Roomy};
 
 // What one instruction does to the stack: a value is put at a place, which is then the top; or a question says no.
 pub enum Step {
@@ -193,8 +196,8 @@ fn list_result(
     }
 }
 
-// An operator on the first `count` of three operands: questions 8 and 10 to 16, and its result at a place of the stack.
-fn operate(
+// An operator on the first `count` of three operands, all well formed.
+fn operate_formed(
     op: u8,
     count: usize,
     a: Value,
@@ -241,34 +244,63 @@ fn operate(
     )
 }
 
-// One of three values, by a count from one to three.
-fn pick(count: usize, one: Value, two: Value, three: Value) -> Value
-    ensures { λ r. ⌜ Picks count one two three r ⌝ }
+// An operand that is used, or Void in its place.
+fn used(yes: bool, v: Value) -> Value
+    ensures { λ r. ⌜ r ≡ cond yes v Is.Void ⌝ }
 {
-    if count == 1 {
-        return one;
-    }
-    if count == 2 {
-        return two;
-    }
-    three
+    if yes { v } else { Value::Void }
 }
 
-// An operator on a stack of n, of which the three topmost are given.
+// An operator on the first `count` of three operands: questions 8 and 10 to 16, and its result at a place of the stack.
+fn operate(
+    op: u8,
+    count: usize,
+    a: Value,
+    b: Value,
+    c: Value,
+    ends: &[u16],
+    defined: &[i32],
+    place: usize,
+    work_items: &mut [u16],
+    work_values: &mut [i32],
+) -> Step
+    requires { ⌜ Known (now ends) (now defined) × Roomy (now «work_items») (now «work_values») × (place < stackLimit) ⌝ }
+    requires { ⌜ FirstFormed (format1 .limit) (now «work_items») (now «work_values») count a b c ⌝ }
+    ensures { λ r. ⌜ Answered (call (definitionsIn ends defined (format1 .limit)) op count (take count (valIn «work_items» «work_values» a ∷ valIn «work_items» «work_values» b ∷ valIn «work_items» «work_values» c ∷ []))) place r
+        (now («work_items» .entry)) (now («work_items» .exit)) (now («work_values» .entry)) (now («work_values» .exit)) ⌝ }
+{
+    let x = used(0 < count, a);
+    let y = used(1 < count, b);
+    let z = used(2 < count, c);
+    operate_formed(
+        op,
+        count,
+        x,
+        y,
+        z,
+        ends,
+        defined,
+        place,
+        work_items,
+        work_values,
+    )
+}
+
+// An operator on a stack of n: a, b and c are its operands in order, as many as it takes.
 fn run_op(
     op: u8,
     n: usize,
-    third: Value,
-    second: Value,
-    top: Value,
+    a: Value,
+    b: Value,
+    c: Value,
     ends: &[u16],
     defined: &[i32],
     work_items: &mut [u16],
     work_values: &mut [i32],
 ) -> Step
     requires { ⌜ (op < 32) × (n ≤ stackLimit) × Known (now ends) (now defined) ⌝ }
-    requires { ⌜ Roomy (now «work_items») (now «work_values») × TopsFormed (now «work_items») (now «work_values») third second top n ⌝ }
-    ensures { λ r. ⌜ ((f : ℕ → Val) → Tops (now («work_items» .entry)) (now («work_values» .entry)) third second top n f
+    requires { ⌜ Roomy (now «work_items») (now «work_values») × OperandsFormed (now «work_items») (now «work_values») a b c n (operandCount op) ⌝ }
+    ensures { λ r. ⌜ ((f : ℕ → Val) → Operands (now («work_items» .entry)) (now («work_values» .entry)) a b c n (operandCount op) f
         → Steps n (stepOp (applyOp (definitionsIn ends defined (format1 .limit))) op (stackOf f n)) f r
         (now («work_items» .entry)) (now («work_items» .exit)) (now («work_values» .entry)) (now («work_values» .exit))) ⌝ }
 {
@@ -279,14 +311,12 @@ fn run_op(
     if n < count {
         return Step::No(10);
     }
-    let a = pick(count, top, second, third);
-    let b = pick(count, top, top, second);
     operate(
         op,
         count,
         a,
         b,
-        top,
+        c,
         ends,
         defined,
         n - count,
@@ -295,7 +325,7 @@ fn run_op(
     )
 }
 
-// An instruction on a stack of n: for an operator the three topmost are given, for a slot its value.
+// An instruction on a stack of n: an operator's operands are given in order, and a slot's value.
 pub fn run_step(
     pack: &[u8],
     ends: &[u16],
@@ -305,33 +335,23 @@ pub fn run_step(
     slot_values: &[i32],
     i: Instruction,
     n: usize,
-    third: Value,
-    second: Value,
-    top: Value,
+    a: Value,
+    b: Value,
+    c: Value,
     work_items: &mut [u16],
     work_values: &mut [i32],
 ) -> Step
     requires { ⌜ Inputs (now pack) (now ends) (now defined) [] (now «slot_items») (now «slot_values») × Formed (format1 .limit) (now «slot_items») (now «slot_values») slot ⌝ }
     requires { ⌜ Allowed (literalCount (now pack)) (instrOf i) × (n ≤ stackLimit) ⌝ }
-    requires { ⌜ Roomy (now «work_items») (now «work_values») × IfOp (instrOf i) (TopsFormed (now «work_items») (now «work_values») third second top n) ⌝ }
+    requires { ⌜ Roomy (now «work_items») (now «work_values») × IfOp (instrOf i) (λ o. OperandsFormed (now «work_items») (now «work_values») a b c n (operandCount o)) ⌝ }
     ensures { λ r. ⌜ ((slots : Slots) → SlotIs slots slot (instrOf i)
-        → (f : ℕ → Val) → IfOp (instrOf i) (Tops (now («work_items» .entry)) (now («work_values» .entry)) third second top n f)
+        → (f : ℕ → Val) → IfOp (instrOf i) (λ o. Operands (now («work_items» .entry)) (now («work_values» .entry)) a b c n (operandCount o) f)
         → Steps n (step (valuePushed (literalOf (decoded format1 (now (pack .entry)))) (map (valIn «slot_items» «slot_values») slots))
         (applyOp (definitionsIn ends defined (format1 .limit))) (instrOf i) (stackOf f n)) f r
         (now («work_items» .entry)) (now («work_items» .exit)) (now («work_values» .entry)) (now («work_values» .exit))) ⌝ }
 {
     match i {
-        Instruction::Op(op) => run_op(
-            op,
-            n,
-            third,
-            second,
-            top,
-            ends,
-            defined,
-            work_items,
-            work_values,
-        ),
+        Instruction::Op(op) => run_op(op, n, a, b, c, ends, defined, work_items, work_values),
         Instruction::Bool(b) => push_value(Value::Bool(b), n),
         Instruction::Int(z) => push_value(Value::Int(z), n),
         Instruction::Float(b) => push_value(

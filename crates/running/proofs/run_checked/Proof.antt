@@ -23,7 +23,7 @@ store-requires c κs =
     let s = c .before .before .before .before .before .before .before .before .before .before .before .before .before .before .before .before .before .before .before .before in
     let w = c .before .before .before .before .before .before .before .before .before .before .before .work .ensures in
     let f = rw (c .before .before .before .before .before .ran .given .1) at (w .end-formed) in
-    let n = few-in (format1 .limit) _ _ _ f in
+    let n = few-in (format1 .limit) _ _ (c .before .before .before .before .before .ran .given .0 .0) f in
     (f, (omega (arith, n, s .pre .1 .result-items), omega (arith, n, s .pre .1 .result-values)))
 
 slice-aggregate-clear : tie.Need-slice-aggregate-clear

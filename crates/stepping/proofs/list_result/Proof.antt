@@ -33,7 +33,7 @@ store-requires : tie.Need-store-requires
 store-requires c κs =
     let s = c .before .before .before .before .before .before .before .before .before .before .before .before .before .before .before .before in
     let f = formed-result _ _ _ _ (omega arith) (omega arith) _ _ (c .before .before .before .before .before .before .before .before .before .list .ensures) (s .pre .1 .1) _ (c .before .before .before .before .before .outcome .given .1) in
-    let g = place-fits (s .args .place) _ (s .pre .0 .4) (few-in (format1 .limit) _ _ _ f) in
+    let g = place-fits (s .args .place) _ (s .pre .0 .4) (few-in (format1 .limit) _ _ (c .before .before .before .before .before .outcome .given .0 .0) f) in
     (f, (omega (arith, g, s .pre .0 .1 .items-room), omega (arith, g, s .pre .0 .1 .values-room)))
 
 enum-known-outcome-2 : tie.Need-enum-known-outcome-2

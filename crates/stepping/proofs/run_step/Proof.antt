@@ -5,6 +5,7 @@ use mir.ValLaws.{toZ-ofZ}
 use mir.Syntax.{w32}
 use Rattle.ink_value.specs.Val.{bool, int, float, void}
 use Rattle.ink_value.specs.Value.{valOf}
+use Rattle.kind_table.specs.Kinds.{operandCount}
 use Rattle.native_function_call.specs.Lists.{definitions}
 use Rattle.native_function_call.specs.Apply.{applyOp}
 use Rattle.pack.specs.Bodies.{decoded}
@@ -14,7 +15,7 @@ use Rattle.pack.specs.Instruction.{pushBool, pushInt, pushFloat, pushList, push
 use Rattle.pack.specs.Read.{literalOf}
 use Rattle.pack.specs.declared.instruction.Instruction.{Instruction}
 use Rattle.sheet.specs.Machine.{valuePushed}
-use Rattle.stepping.specs.Steps.{Tops, TopsFormed, IfOp, SlotIs}
+use Rattle.stepping.specs.Steps.{Operands, OperandsFormed, IfOp, SlotIs}
 use Rattle.stepping.proofs.Operating.{push-steps, op-steps, slot-value, known-of}
 use borrow.Author.Needs.{needs}
 use Rattle.stepping.proofs.run_step.Statement.{statement}
@@ -28,7 +29,7 @@ run-op-requires c κs =
     let s = c .before .before .before .before .before .before .before .before .before in
     let e = c .before .before .before .i .given .1 in
     let a = subst (λ (x : Instruction). Allowed (literalCount (s .args .pack .now)) (instrOf x)) e (s .pre .1 .0 .0) in
-    let t = subst (λ (x : Instruction). IfOp (instrOf x) (TopsFormed (s .args .work-items .now) (s .args .work-values .now) (s .args .third) (s .args .second) (s .args .top) (s .args .n))) e (s .pre .1 .1 .1) in
+    let t = subst (λ (x : Instruction). IfOp (instrOf x) (λ o. OperandsFormed (s .args .work-items .now) (s .args .work-values .now) (s .args .a) (s .args .b) (s .args .c) (s .args .n) (operandCount o))) e (s .pre .1 .1 .1) in
     ((a, s .pre .1 .0 .1, known-of _ _ _ _ _ _ (s .pre .0 .0)), (s .pre .1 .1 .0, t))
 
 enum-known-i-2 : tie.Need-enum-known-i-2
@@ -85,7 +86,7 @@ same-length-2 c = search needs
 returns : tie.Need-returns
 returns c =
     let s = c .before .before .before .before .before .before .before .before .before .before .before .before .before in
-    λ slots q f t. op-steps (valuePushed (literalOf (decoded format1 (s .args .pack .now))) (map (valOf (s .args .slot-items .now) (s .args .slot-values .now)) slots)) (applyOp (definitions (s .args .ends .now) (s .args .defined .now) (format1 .limit))) (s .args .n) f _ _ _ _ _ (instrOf (s .args .i)) _ (ap instrOf (c .before .before .before .before .before .before .before .i .given .1)) (c .before .before .before .run-op .ensures f (subst (λ (x : Instruction). IfOp (instrOf x) (Tops (s .args .work-items .now) (s .args .work-values .now) (s .args .third) (s .args .second) (s .args .top) (s .args .n) f)) (c .before .before .before .before .before .before .before .i .given .1) t))
+    λ slots q f t. op-steps (valuePushed (literalOf (decoded format1 (s .args .pack .now))) (map (valOf (s .args .slot-items .now) (s .args .slot-values .now)) slots)) (applyOp (definitions (s .args .ends .now) (s .args .defined .now) (format1 .limit))) (s .args .n) f _ _ _ _ _ (instrOf (s .args .i)) _ (ap instrOf (c .before .before .before .before .before .before .before .i .given .1)) (c .before .before .before .run-op .ensures f (subst (λ (x : Instruction). IfOp (instrOf x) (λ o. Operands (s .args .work-items .now) (s .args .work-values .now) (s .args .a) (s .args .b) (s .args .c) (s .args .n) (operandCount o) f)) (c .before .before .before .before .before .before .before .i .given .1) t))
 
 returns-2 : tie.Need-returns-2
 returns-2 c =

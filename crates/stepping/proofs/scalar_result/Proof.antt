@@ -13,7 +13,7 @@ use Rattle.stepping.proofs.scalar_result.Tie as tie
 scalar-requires : tie.Need-scalar-requires
 scalar-requires c κs =
     let s = c .before in
-    ((s .pre .0 .0, s .pre .0 .1, s .pre .0 .2), (formed-limit (format1 .limit) _ _ 65536 _ (omega arith) (s .pre .1 .0), formed-limit (format1 .limit) _ _ 65536 _ (omega arith) (s .pre .1 .1)))
+    ((s .pre .0 .0, s .pre .0 .1, s .pre .0 .2), (formed-limit (format1 .limit) _ _ 65536 (s .args .a) (omega arith) (s .pre .1 .0), formed-limit (format1 .limit) _ _ 65536 (s .args .b) (omega arith) (s .pre .1 .1)))
 
 enum-known-outcome : tie.Need-enum-known-outcome
 enum-known-outcome c = search needs
