@@ -1,7 +1,4 @@
 -- The laws of the boundary.
-mod Reading
 mod Clearing
-mod Saying
-mod Few
+mod Ending
 mod Duties
-mod Round

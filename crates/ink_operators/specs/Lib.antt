@@ -1,3 +1,2 @@
--- How values and answers stand in words at the boundary, and what each exported function leaves there.
-pub mod Words
+-- What each exported function of a run, of vetting and of a pack that has passed leaves at the boundary.
 pub mod Answers

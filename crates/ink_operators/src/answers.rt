@@ -1,34 +1,10 @@
-// Answers as a number that is returned and words that are written.
-use super::words;
-use ink_value::Outcome;
+// The answers of a run and of vetting as a number that is returned and words that are written.
 use running::Ran;
+use value_words::answers::number;
+use value_words::words;
 use vetting::Vetted;
 ghost use mathlib.Core.Path.{_≡_};
-ghost use Rattle.ink_operators.specs.Answers.{outcomeNumber, outcomeWords, SmallOutcome, ranNumber, ranWords, SmallRan, vettedNumber, vettedIndex};
-
-// A question's number, as it is returned.
-pub fn number(n: u8) -> u32
-    ensures { λ r. ⌜ r ≡ n ⌝ }
-{
-    n as u32
-}
-
-// A direct call's or a conversion's answer.
-pub fn outcome(o: Outcome, answer: &mut [u64; 3]) -> u32
-    requires { ⌜ SmallOutcome o ⌝ }
-    ensures { λ r. ⌜ (r ≡ outcomeNumber o) × (now (answer .exit) ≡ outcomeWords o) ⌝ }
-{
-    match o {
-        Outcome::Value(v) => {
-            words::put_value(answer, v);
-            0
-        }
-        Outcome::Refused(n) => {
-            words::put_index(answer, 0);
-            number(n)
-        }
-    }
-}
+ghost use Rattle.ink_operators.specs.Answers.{ranNumber, ranWords, SmallRan, vettedNumber, vettedIndex};
 
 // A run's answer.
 pub fn ran(r: Ran, answer: &mut [u64; 3]) -> u32

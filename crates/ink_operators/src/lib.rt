@@ -2,11 +2,11 @@
 // a pointer. The header hosts/include/ink_operators.h says how values stand in words.
 mod answers;
 mod ready;
-mod words;
 
 use pack::Checked;
 use pack::format::DEFINITION_LIMIT;
 use pack::format::FORMAT1;
+use value_words::words;
 ghost use mathlib.Core.Path.{_≡_};
 ghost use mathlib.Core.Bool.{true};
 ghost use mathlib.Core.List.{map};
@@ -22,8 +22,9 @@ ghost use Rattle.pack.specs.Judge.{judge};
 ghost use Rattle.calls.specs.Call.{operandsOk, called, castTo, coerced, onPack, PackLists};
 ghost use Rattle.sheet.specs.Whole.{opened};
 ghost use Rattle.running.specs.Run.{memory};
-ghost use Rattle.ink_operators.specs.Words.{valueAt, slotsIn};
-ghost use Rattle.ink_operators.specs.Answers.{numberOf, operandsIn, Says, Calls, RunSays, VetSays, Passed, Reads, Ready, Clear};
+ghost use Rattle.value_words.specs.Words.{valueAt, slotsIn};
+ghost use Rattle.value_words.specs.Calls.{numberOf, operandsIn, Says, Calls};
+ghost use Rattle.ink_operators.specs.Answers.{RunSays, VetSays, Passed, Reads, Ready, Clear};
 
 // Questions 1 to 5 of a pack: 0, or the number of the first no.
 #[no_mangle]
@@ -32,7 +33,7 @@ pub extern "C" fn ink_check(pack: &[u8]) -> u32
 {
     match pack::check(pack) {
         Checked::Passed => 0,
-        Checked::Refused(n) => answers::number(n),
+        Checked::Refused(n) => value_words::answers::number(n),
     }
 }
 
@@ -117,7 +118,7 @@ pub extern "C" fn ink_call(
         result_items,
         result_values,
     );
-    answers::outcome(outcome, answer)
+    value_words::answers::outcome(outcome, answer)
 }
 
 // `cast` to a kind code, with a pack of any bytes.
@@ -137,7 +138,7 @@ pub extern "C" fn ink_cast(
 {
     let v = words::value_in(operand);
     let outcome = calls::cast(pack, code, v, items, values, result_items, result_values);
-    answers::outcome(outcome, answer)
+    value_words::answers::outcome(outcome, answer)
 }
 
 // The three `coerce_to_`, with a pack of any bytes.
@@ -153,7 +154,7 @@ pub extern "C" fn ink_coerce_to_bool(
 {
     let v = words::value_in(operand);
     let outcome = calls::coerce_to_bool(pack, v, items, values);
-    answers::outcome(outcome, answer)
+    value_words::answers::outcome(outcome, answer)
 }
 
 #[no_mangle]
@@ -168,7 +169,7 @@ pub extern "C" fn ink_coerce_to_int(
 {
     let v = words::value_in(operand);
     let outcome = calls::coerce_to_int(pack, v, items, values);
-    answers::outcome(outcome, answer)
+    value_words::answers::outcome(outcome, answer)
 }
 
 #[no_mangle]
@@ -183,7 +184,7 @@ pub extern "C" fn ink_coerce_to_float(
 {
     let v = words::value_in(operand);
     let outcome = calls::coerce_to_float(pack, v, items, values);
-    answers::outcome(outcome, answer)
+    value_words::answers::outcome(outcome, answer)
 }
 
 // The definitions of a pack that has passed: how many, how many items, and the two tables, 0 in the places that they leave.
@@ -279,7 +280,7 @@ pub extern "C" fn ink_call_checked(
         result_items,
         result_values,
     );
-    answers::outcome(outcome, answer)
+    value_words::answers::outcome(outcome, answer)
 }
 
 // The same on operands and result slices of which question 7 says yes.
@@ -318,5 +319,5 @@ pub extern "C" fn ink_apply(
         result_items,
         result_values,
     );
-    answers::outcome(outcome, answer)
+    value_words::answers::outcome(outcome, answer)
 }

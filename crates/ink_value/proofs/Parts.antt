@@ -2,7 +2,7 @@
 use mathlib.Core.Path.{_≡_, refl, sym, ap, _∙_}
 use mathlib.Core.Bool.{true, false}
 use mathlib.Core.List.{List}
-use Prim.Native.Nat.{ℕ, _+_, _-_, _<_}
+use Prim.Native.Nat.{ℕ, _+_, _-_, _<_, _≤_}
 use native.Mathlib.Omega.{arith}
 use lib.Dec.{ltb}
 use lib.IntN.{ℤ, pos}
@@ -16,7 +16,7 @@ use Rattle.ink_number.proofs.Signed.{back, back32}
 use Rattle.ink_list.specs.Ops.{valueOfList}
 use Rattle.ink_list.specs.Entries.{entries, itemNumbers, Lent}
 use Rattle.ink_value.specs.Convert.{asInt, asFloat, truthy, entriesOf}
-use Rattle.ink_value.proofs.Reading.{entries-in, len-in, int-in, float-in, truth-in}
+use Rattle.ink_value.proofs.Reading.{entries-in, few-in, len-in, int-in, float-in, truth-in}
 use Rattle.ink_value.specs.Value.{part, codeOfValue, startOf, lenOf, intOf, floatOf, truthOf, wholeIn, realIn, Holds, Parts, valOf, entriesAt, Spans, Formed, Operand, Number}
 use Rattle.ink_value.specs.declared.Value.{Value}
 use Rattle.ink_value.specs.declared.Value.the-variants as Is
@@ -162,6 +162,12 @@ operand-len is vs v o = o .parts .len-is ∙ sym (len-in itemNumbers is vs v (o 
 
 pub spans-of : (limit : ℕ) (is : List ℕ) (vs : List ℤ) (v : Value) (s n : ℕ) → s ≡ startOf v → n ≡ lenOf v → Formed limit is vs v → Spans limit is vs s n
 spans-of limit is vs v s n es en f = rw (es, en) f
+
+pub operand-spans : {is : List ℕ} {vs : List ℤ} {v : Value} {k : ℕ} {z : ℤ} {x : Float} {s n : ℕ} → Operand is vs v k z x s n → Spans itemNumbers is vs s n
+operand-spans o = rw (o .parts .start-is, o .parts .len-is) (o .formed)
+
+pub operand-few : (is : List ℕ) (vs : List ℤ) (v : Value) {k : ℕ} {z : ℤ} {x : Float} {s n : ℕ} → Operand is vs v k z x s n → n ≤ itemNumbers
+operand-few is vs v o = rw (o .parts .len-is) (few-in itemNumbers is vs v (o .formed))
 
 -- a part of a slice, as the code cuts it
 cut : {A : Type 0} (i m : ℕ) (xs : List A) → take (i + m - i) (drop i xs) ≡ part i m xs

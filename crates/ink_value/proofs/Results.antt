@@ -1,7 +1,7 @@
 -- A result read back from the result slices, and that it is formed as an operand is. Assumes nothing.
 use mathlib.Core.Path.{_≡_, refl, ap, _∙_}
-use mathlib.Core.List.{List}
-use Prim.Native.Nat.{ℕ, _≤_}
+use mathlib.Core.List.{List, [], _∷_}
+use Prim.Native.Nat.{ℕ, zero, suc, _≤_}
 use native.Mathlib.Omega.{arith}
 use lib.IntN.{ℤ}
 use lib.ListN.{length, take, drop, length-append, length-drop}
@@ -10,8 +10,11 @@ use Rattle.ink_list.specs.Filled.{over}
 use Rattle.ink_value.specs.Val.{Val, bool, int, float, list, void}
 use Rattle.ink_number.specs.Answer.{Answer, gives, refuses}
 use Rattle.ink_value.specs.Convert.{entriesOf}
-use Rattle.ink_value.specs.Value.{placedVal, placed, written, Gave, Formed, outcomeOf, Wf}
+use Rattle.ink_value.specs.Value.{valOf, placedVal, placed, written, Gave, Formed, outcomeOf, Wf, AllWf, FirstFormed}
 use Rattle.ink_value.specs.declared.Outcome.{Outcome}
+use Rattle.ink_value.specs.declared.Value.{Value}
+use Rattle.ink_value.specs.declared.Value.the-variants as Is
+use Rattle.ink_value.proofs.Reading.{rising-in}
 use Rattle.ink_list.proofs.Output.{length-items, length-values}
 use Rattle.ink_list.proofs.Results.{read-entries, read-lent}
 use Rattle.ink_list.proofs.Laws.{rising-length}
@@ -56,3 +59,22 @@ entries-wf limit (int z) h = tt
 entries-wf limit (float x) h = tt
 entries-wf limit (list o es) h = h
 entries-wf limit void h = tt
+
+-- a value that is formed in the slices is well formed
+pub wf-of : (limit : ℕ) (is : List ℕ) (vs : List ℤ) (v : Value) → Formed limit is vs v → Wf limit (valOf is vs v)
+wf-of limit is vs (Is.Bool b) f = tt
+wf-of limit is vs (Is.Int z) f = tt
+wf-of limit is vs (Is.Float x) f = tt
+wf-of limit is vs (Is.List o s n) f = rising-in limit is vs (Is.List o s n) f
+wf-of limit is vs Is.Void f = tt
+
+-- and so are the first n of three
+pub first-wf : (limit : ℕ) (is : List ℕ) (vs : List ℤ) (n : ℕ) (a b c : Value) → FirstFormed limit is vs n a b c
+    → AllWf limit (take n (valOf is vs a ∷ valOf is vs b ∷ valOf is vs c ∷ []))
+first-wf limit is vs zero a b c f = tt
+first-wf limit is vs (suc zero) a b c f = (wf-of limit is vs a (f .one (omega arith)), tt)
+first-wf limit is vs (suc (suc zero)) a b c f = (wf-of limit is vs a (f .one (omega arith)), (wf-of limit is vs b (f .two (omega arith)), tt))
+first-wf limit is vs (suc (suc (suc zero))) a b c f =
+    (wf-of limit is vs a (f .one (omega arith)), (wf-of limit is vs b (f .two (omega arith)), (wf-of limit is vs c (f .three (omega arith)), tt)))
+first-wf limit is vs (suc (suc (suc (suc n)))) a b c f =
+    (wf-of limit is vs a (f .one (omega arith)), (wf-of limit is vs b (f .two (omega arith)), (wf-of limit is vs c (f .three (omega arith)), tt)))

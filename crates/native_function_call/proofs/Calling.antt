@@ -193,8 +193,11 @@ compute-none u o vs floatK e = refl
 compute-none u o vs listK e = let z : _≡_ {A = ℕ} 0 1 = cc in absurd (omega arith)
 compute-none u o vs voidK e = refl
 
+pub scalar-none : (u : ListDefinitions) (o : ℕ) (vs : List Val) (k : ℕ) → (k ≡ 3 → ⊥) → written (compute u o vs (kindAt k)) ≡ []
+scalar-none u o vs k h = compute-none u o vs (kindAt k) (other-kind k h)
+
 -- of one or two operands, the third does not matter
-two-of : {X : Type 0} (n : ℕ) (a b c : X) → 1 ≤ n → n ≤ 2 → take n (a ∷ b ∷ []) ≡ take n (a ∷ b ∷ c ∷ [])
+pub two-of : {X : Type 0} (n : ℕ) (a b c : X) → 1 ≤ n → n ≤ 2 → take n (a ∷ b ∷ []) ≡ take n (a ∷ b ∷ c ∷ [])
 two-of zero a b c h k = absurd (omega arith)
 two-of (suc zero) a b c h k = refl
 two-of (suc (suc zero)) a b c h k = refl
@@ -203,5 +206,5 @@ two-of (suc (suc (suc n))) a b c h k = absurd (omega arith)
 pub scalar-gave : (u : ListDefinitions) (o k n : ℕ) (a b c : Val) {r : Outcome} {oi : List ℕ} {ov : List ℤ} → (k ≡ 3 → ⊥) → 1 ≤ n → n ≤ 2
     → r ≡ placed (compute u o (take n (a ∷ b ∷ [])) (kindAt k)) → Gave (compute u o (take n (a ∷ b ∷ c ∷ [])) (kindAt k)) r oi oi ov ov
 scalar-gave u o k n a b c {r} {oi} {ov} h l m e =
-    gave-plain (compute u o (take n (a ∷ b ∷ c ∷ [])) (kindAt k)) r oi ov (compute-none u o (take n (a ∷ b ∷ c ∷ [])) (kindAt k) (other-kind k h))
+    gave-plain (compute u o (take n (a ∷ b ∷ c ∷ [])) (kindAt k)) r oi ov (scalar-none u o (take n (a ∷ b ∷ c ∷ [])) k h)
     (e ∙ ap (λ (vs : List Val). placed (compute u o vs (kindAt k))) (two-of n a b c l m))

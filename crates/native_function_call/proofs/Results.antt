@@ -51,7 +51,7 @@ module _ (u : ListDefinitions) (some : 1 ≤ u .limit) (within : length (u .defi
       go true = f
       go false = none-fine (u .limit)
 
-  compute-fine : (o : ℕ) (vs : List Val) (k : Kind) → AllWf (u .limit) vs → Fine (u .limit) (written (compute u o vs k))
+  pub compute-fine : (o : ℕ) (vs : List Val) (k : Kind) → AllWf (u .limit) vs → Fine (u .limit) (written (compute u o vs k))
   unfolding compute
   compute-fine o vs boolK h = none-fine (u .limit)
   compute-fine o vs intK h = subst (Fine (u .limit)) (sym (whole-none o vs)) (none-fine (u .limit))

@@ -3,8 +3,8 @@ use mathlib.Core.List.{List, [], _∷_}
 use Rattle.ink_value.specs.declared.Value.{Value}
 use Rattle.calls.specs.Call.{called, onPack}
 use Rattle.pack.specs.Format.{format1}
-use Rattle.ink_operators.proofs.Saying.{calls, operands}
-use Rattle.ink_operators.proofs.Few.{small-outcome, pack-few, called-few}
+use Rattle.value_words.proofs.Saying.{calls, operands}
+use Rattle.value_words.proofs.Few.{small-outcome, pack-few, called-few}
 use borrow.Author.Needs.{needs}
 use Rattle.ink_operators.proofs.ink_call.Statement.{statement}
 use Rattle.ink_operators.proofs.ink_call.Tie as tie

@@ -4,8 +4,8 @@ use Rattle.ink_value.specs.declared.Value.{Value}
 use Rattle.calls.specs.Call.{called}
 use Rattle.native_function_call.specs.Lists.{definitions}
 use Rattle.pack.specs.Format.{format1}
-use Rattle.ink_operators.proofs.Saying.{calls, operands}
-use Rattle.ink_operators.proofs.Few.{small-outcome, called-few}
+use Rattle.value_words.proofs.Saying.{calls, operands}
+use Rattle.value_words.proofs.Few.{small-outcome, called-few}
 use borrow.Author.Needs.{needs}
 use Rattle.ink_operators.proofs.ink_call_checked.Statement.{statement}
 use Rattle.ink_operators.proofs.ink_call_checked.Tie as tie

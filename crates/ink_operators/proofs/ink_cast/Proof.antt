@@ -3,8 +3,8 @@ use mathlib.Core.Path.{ap}
 use Rattle.ink_value.specs.declared.Value.{Value}
 use Rattle.calls.specs.Call.{castTo, onPack}
 use Rattle.pack.specs.Format.{format1}
-use Rattle.ink_operators.proofs.Saying.{calls}
-use Rattle.ink_operators.proofs.Few.{small-outcome, pack-few, cast-to-few}
+use Rattle.value_words.proofs.Saying.{calls}
+use Rattle.value_words.proofs.Few.{small-outcome, pack-few, cast-to-few}
 use borrow.Author.Needs.{needs}
 use Rattle.ink_operators.proofs.ink_cast.Statement.{statement}
 use Rattle.ink_operators.proofs.ink_cast.Tie as tie

@@ -5,7 +5,7 @@ use Rattle.pack.specs.Format.{format1}
 use Rattle.pack.specs.Judge.{checked}
 use Rattle.pack.specs.declared.Checked.{Checked}
 use Rattle.pack.proofs.Judged.{turned}
-use Rattle.ink_operators.specs.Answers.{numberOf}
+use Rattle.value_words.specs.Calls.{numberOf}
 use borrow.Author.Needs.{needs}
 use Rattle.ink_operators.proofs.ink_check.Statement.{statement}
 use Rattle.ink_operators.proofs.ink_check.Tie as tie

@@ -5,8 +5,8 @@ use Rattle.ink_value.specs.declared.Value.{Value}
 use Rattle.calls.specs.Call.{coerced, onPack}
 use Rattle.pack.specs.Format.{format1}
 use Rattle.native_function_call.specs.Lists.{definitions}
-use Rattle.ink_operators.proofs.Saying.{says}
-use Rattle.ink_operators.proofs.Few.{small-outcome, pack-few, coerced-few, float-few}
+use Rattle.value_words.proofs.Saying.{says}
+use Rattle.value_words.proofs.Few.{small-outcome, pack-few, coerced-few, float-few}
 use borrow.Author.Needs.{needs}
 use Rattle.ink_operators.proofs.ink_coerce_to_float.Statement.{statement}
 use Rattle.ink_operators.proofs.ink_coerce_to_float.Tie as tie

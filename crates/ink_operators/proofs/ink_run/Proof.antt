@@ -4,8 +4,7 @@ use Rattle.ink_value.specs.Value.{valOf}
 use Rattle.pack.specs.Format.{format1}
 use Rattle.sheet.specs.Whole.{opened}
 use Rattle.running.specs.Run.{memory, endAfter}
-use Rattle.ink_operators.proofs.Saying.{run-says}
-use Rattle.ink_operators.proofs.Few.{small-ran, end-wf}
+use Rattle.ink_operators.proofs.Ending.{run-says, small-ran, end-wf}
 use borrow.Author.Needs.{needs}
 use Rattle.ink_operators.proofs.ink_run.Statement.{statement}
 use Rattle.ink_operators.proofs.ink_run.Tie as tie

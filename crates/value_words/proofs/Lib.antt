@@ -1,0 +1,7 @@
+-- The laws of values as words, and of calls on them.
+pub mod Reading
+pub mod Round
+pub mod Saying
+pub mod Few
+pub mod Operands
+pub mod Called

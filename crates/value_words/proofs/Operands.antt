@@ -1,0 +1,156 @@
+-- Numbers in their words: the parts are the value's. Assumes nothing.
+use mathlib.Core.Path.{_≡_, refl, sym, ap, _∙_, subst}
+use mathlib.Core.Bool.{Bool, true, false, cond}
+use mathlib.Core.List.{List, [], _∷_, map}
+use Prim.Native.Nat.{ℕ, zero, suc, _+_, _*_, _/_, _%_, _^_, _<_, _≤_}
+use native.Mathlib.Omega.{arith}
+use lib.Dec.{eqb, ltb}
+use lib.IntN.{ℤ}
+use lib.Ieee.{Float}
+use lib.ListN.{getD, take}
+use borrow.Author.Tests.{lt-ltb, le-ltb, eqb-true, ltb-true}
+use Rattle.ink_number.specs.Int.{signed}
+use Rattle.ink_number.specs.Real.{ofBits32}
+use Rattle.ink_value.specs.Convert.{bitZ}
+use Rattle.ink_value.specs.Val.{Kind, kindOf, kindAt}
+use Rattle.ink_value.specs.Value.{valOf, codeOfValue, Parts, Number}
+use Rattle.ink_value.specs.declared.Value.{Value}
+use Rattle.ink_value.specs.declared.Value.the-variants as Is
+use Rattle.ink_value.proofs.Reading.{ap2, code-in}
+use Rattle.value_words.specs.Words.{unheld, boolAt, intAt, floatAt, voidAt, plainAt, valueOf, valueAt, codeAt}
+use Rattle.kind_table.specs.Kinds.{KindsGiven}
+
+pub number-is : {v : Value} {k k′ : ℕ} {z z′ : ℤ} {x x′ : Float} → Number v k z x → k′ ≡ k → z′ ≡ z → x′ ≡ x → Number v k′ z′ x′
+number-is o ek ez ex = rw (ek, ez, ex) o
+
+-- ---- kind codes
+
+pub given-codes : (o n a b c i j k e : ℕ) → a ≡ i → b ≡ j → c ≡ k → KindsGiven o n (take n (kindAt a ∷ kindAt b ∷ kindAt c ∷ [])) e
+    → KindsGiven o n (take n (kindAt i ∷ kindAt j ∷ kindAt k ∷ [])) e
+given-codes o n a b c i j k e p q r g = rw (← p, ← q, ← r) g
+
+-- ---- the parts of a value that is held
+
+-- a value's words, that are not those of none
+module _ (w : ℕ) where
+  abbrev code : ℕ → ℕ
+  code k = cond (ltb k 5) k 4
+
+  bool-parts : (boolAt w ≡ unheld → ⊥) → Parts (boolAt w) 0 (signed (w % 2 ^ 32)) (ofBits32 (w % 2 ^ 32)) 0 0
+  unfolding boolAt signed
+  bool-parts h = go (ltb w 2) refl h
+    where
+      bit : (n : ℕ) → n < 2 → signed (n % 2 ^ 32) ≡ bitZ (eqb n 1)
+      bit zero l = refl
+      bit (suc zero) l = refl
+      bit (suc (suc n)) l = absurd (omega arith)
+
+      go : (t : Bool) → ltb w 2 ≡ t → (cond t (Is.Bool (eqb w 1)) unheld ≡ unheld → ⊥) → Parts (cond t (Is.Bool (eqb w 1)) unheld) 0 (signed (w % 2 ^ 32)) (ofBits32 (w % 2 ^ 32)) 0 0
+      go true e g = record { kind-is = refl; holds = bit w (ltb-true w 2 e); start-is = refl; len-is = refl }
+      go false e g = absurd (g refl)
+
+  small : w < 2 ^ 32 → w % 2 ^ 32 ≡ w
+  small l = omega arith
+
+  int-parts : (intAt w ≡ unheld → ⊥) → Parts (intAt w) 1 (signed (w % 2 ^ 32)) (ofBits32 (w % 2 ^ 32)) 0 0
+  unfolding intAt
+  int-parts h = go (ltb w (2 ^ 32)) refl h
+    where
+      go : (t : Bool) → ltb w (2 ^ 32) ≡ t → (cond t (Is.Int (signed w)) unheld ≡ unheld → ⊥) → Parts (cond t (Is.Int (signed w)) unheld) 1 (signed (w % 2 ^ 32)) (ofBits32 (w % 2 ^ 32)) 0 0
+      go true e g = record { kind-is = refl; holds = ap signed (small (ltb-true w (2 ^ 32) e)); start-is = refl; len-is = refl }
+      go false e g = absurd (g refl)
+
+  float-parts : (floatAt w ≡ unheld → ⊥) → Parts (floatAt w) 2 (signed (w % 2 ^ 32)) (ofBits32 (w % 2 ^ 32)) 0 0
+  unfolding floatAt
+  float-parts h = go (ltb w (2 ^ 32)) refl h
+    where
+      go : (t : Bool) → ltb w (2 ^ 32) ≡ t → (cond t (Is.Float (ofBits32 w)) unheld ≡ unheld → ⊥) → Parts (cond t (Is.Float (ofBits32 w)) unheld) 2 (signed (w % 2 ^ 32)) (ofBits32 (w % 2 ^ 32)) 0 0
+      go true e g = record { kind-is = refl; holds = ap ofBits32 (small (ltb-true w (2 ^ 32) e)); start-is = refl; len-is = refl }
+      go false e g = absurd (g refl)
+
+  void-parts : (voidAt w ≡ unheld → ⊥) → Parts (voidAt w) 4 (signed (w % 2 ^ 32)) (ofBits32 (w % 2 ^ 32)) 0 0
+  unfolding voidAt
+  void-parts h = go (eqb w 0) h
+    where
+      go : (t : Bool) → (cond t Is.Void unheld ≡ unheld → ⊥) → Parts (cond t Is.Void unheld) 4 (signed (w % 2 ^ 32)) (ofBits32 (w % 2 ^ 32)) 0 0
+      go true g = record { kind-is = refl; holds = tt; start-is = refl; len-is = refl }
+      go false g = absurd (g refl)
+
+  at-code : (k j : ℕ) {v : Value} {z : ℤ} {x : Float} {s n : ℕ} → k ≡ j → j < 5 → Parts v j z x s n → Parts v (code k) z x s n
+  at-code k j e l p = rw (e, lt-ltb j 5 l) p
+
+  plain-parts : (k : ℕ) → (plainAt k w ≡ unheld → ⊥) → Parts (plainAt k w) (code k) (signed (w % 2 ^ 32)) (ofBits32 (w % 2 ^ 32)) 0 0
+  unfolding plainAt
+  plain-parts k h = go (eqb k 0) (eqb k 1) (eqb k 2) (eqb k 4) refl refl refl refl h
+    where
+      go : (a b c d : Bool) → eqb k 0 ≡ a → eqb k 1 ≡ b → eqb k 2 ≡ c → eqb k 4 ≡ d
+          → (cond a (boolAt w) (cond b (intAt w) (cond c (floatAt w) (cond d (voidAt w) unheld))) ≡ unheld → ⊥)
+          → Parts (cond a (boolAt w) (cond b (intAt w) (cond c (floatAt w) (cond d (voidAt w) unheld)))) (code k) (signed (w % 2 ^ 32)) (ofBits32 (w % 2 ^ 32)) 0 0
+      go true b c d ea eb ec ed g = at-code k 0 (eqb-true k 0 ea) (omega arith) (bool-parts g)
+      go false true c d ea eb ec ed g = at-code k 1 (eqb-true k 1 eb) (omega arith) (int-parts g)
+      go false false true d ea eb ec ed g = at-code k 2 (eqb-true k 2 ec) (omega arith) (float-parts g)
+      go false false false true ea eb ec ed g = at-code k 4 (eqb-true k 4 ed) (omega arith) (void-parts g)
+      go false false false false ea eb ec ed g = absurd (g refl)
+
+  pub word-parts : (k place : ℕ) → (valueOf k w place ≡ unheld → ⊥)
+      → Parts (valueOf k w place) (code k) (signed (w % 2 ^ 32)) (ofBits32 (w % 2 ^ 32)) (place % 2 ^ 32) (place / 2 ^ 32)
+  unfolding valueOf
+  word-parts k place h = go (eqb k 3) (eqb place 0) refl refl h
+    where
+      go : (a b : Bool) → eqb k 3 ≡ a → eqb place 0 ≡ b
+          → (cond a (Is.List w (place % 2 ^ 32) (place / 2 ^ 32)) (cond b (plainAt k w) unheld) ≡ unheld → ⊥)
+          → Parts (cond a (Is.List w (place % 2 ^ 32) (place / 2 ^ 32)) (cond b (plainAt k w) unheld)) (code k) (signed (w % 2 ^ 32)) (ofBits32 (w % 2 ^ 32)) (place % 2 ^ 32) (place / 2 ^ 32)
+      go true b ea eb g = at-code k 3 (eqb-true k 3 ea) (omega arith) (record { kind-is = refl; holds = tt; start-is = refl; len-is = refl })
+      go false true ea eb g =
+          subst (λ (p : ℕ). Parts (plainAt k w) (code k) (signed (w % 2 ^ 32)) (ofBits32 (w % 2 ^ 32)) (p % 2 ^ 32) (p / 2 ^ 32)) (sym (eqb-true place 0 eb)) (plain-parts k g)
+      go false false ea eb g = absurd (g refl)
+
+-- ---- numbers
+
+-- what words of no value read as is a List
+held : (v : Value) → codeOfValue v < 3 → v ≡ unheld → ⊥
+held v h e = let q : codeOfValue v ≡ 3 = ap codeOfValue e in omega arith
+
+no-entries : (v : Value) {k : ℕ} {z : ℤ} {x : Float} {s n : ℕ} → codeOfValue v < 3 → Parts v k z x s n → Number v k z x
+no-entries (Is.Bool b) h p = record { parts = record { kind-is = p .kind-is; holds = p .holds; start-is = refl; len-is = refl }; few = let q = p .kind-is in omega arith }
+no-entries (Is.Int y) h p = record { parts = record { kind-is = p .kind-is; holds = p .holds; start-is = refl; len-is = refl }; few = let q = p .kind-is in omega arith }
+no-entries (Is.Float y) h p = record { parts = record { kind-is = p .kind-is; holds = p .holds; start-is = refl; len-is = refl }; few = let q = p .kind-is in omega arith }
+no-entries (Is.List o i m) h p = absurd (omega arith)
+no-entries Is.Void h p = absurd (omega arith)
+
+-- a number's words are its parts
+pub number-at : (ws : List ℕ) (k : ℕ) → codeOfValue (valueAt ws k) < 3
+    → Number (valueAt ws k) (codeAt ws k) (signed (getD ws (3 * k + 1) 0 % 2 ^ 32)) (ofBits32 (getD ws (3 * k + 1) 0 % 2 ^ 32))
+number-at ws k h = no-entries (valueAt ws k) h (word-parts (getD ws (3 * k + 1) 0) (getD ws (3 * k) 0) (getD ws (3 * k + 2) 0) (held (valueAt ws k) h))
+
+-- the kinds of one number or two are those in their words
+module _ (is : List ℕ) (vs : List ℤ) (ws : List ℕ) where
+  kind-at : (k : ℕ) → codeOfValue (valueAt ws k) < 3 → kindOf (valOf is vs (valueAt ws k)) ≡ kindAt (codeAt ws k)
+  kind-at k h = sym (code-in is vs (valueAt ws k)) ∙ ap kindAt (sym (number-at ws k h .parts .kind-is))
+
+  pub number-kinds : (n : ℕ) → 1 ≤ n → n ≤ 2 → codeOfValue (valueAt ws 0) < 3 → (n ≡ 2 → codeOfValue (valueAt ws 1) < 3)
+      → map kindOf (take n (valOf is vs (valueAt ws 0) ∷ valOf is vs (valueAt ws 1) ∷ valOf is vs (valueAt ws 2) ∷ []))
+      ≡ take n (kindAt (codeAt ws 0) ∷ kindAt (codeAt ws 1) ∷ kindAt (codeAt ws 2) ∷ [])
+  number-kinds zero l m h g = absurd (omega arith)
+  number-kinds (suc zero) l m h g = ap (λ (a : Kind). a ∷ []) (kind-at 0 h)
+  number-kinds (suc (suc zero)) l m h g = ap2 (λ (a b : Kind). a ∷ b ∷ []) (kind-at 0 h) (kind-at 1 (g refl))
+  number-kinds (suc (suc (suc n))) l m h g = absurd (omega arith)
+
+-- what the code asks
+pub both-numbers : (n a b : ℕ) → true ≡ cond (ltb a 3) (cond (ltb n 2) true (ltb b 3)) false → (a < 3) × (n ≡ 2 → b < 3)
+both-numbers n a b e = go (ltb a 3) (ltb n 2) (ltb b 3) refl refl refl e
+  where
+    go : (p q r : Bool) → ltb a 3 ≡ p → ltb n 2 ≡ q → ltb b 3 ≡ r → true ≡ cond p (cond q true r) false → (a < 3) × (n ≡ 2 → b < 3)
+    go true true r ep eq er h = (ltb-true a 3 ep, λ t. let k = ltb-true n 2 eq in absurd (omega arith))
+    go true false true ep eq er h = (ltb-true a 3 ep, λ t. ltb-true b 3 er)
+    go true false false ep eq er h = let z : _≡_ {A = ℕ} 0 1 = cc in absurd (omega arith)
+    go false q r ep eq er h = let z : _≡_ {A = ℕ} 0 1 = cc in absurd (omega arith)
+
+pub asked-one : (r n a b : ℕ) → r ≡ a → r < 3 → n < 2 → true ≡ cond (ltb a 3) (cond (ltb n 2) true (ltb b 3)) false
+asked-one r n a b e h l = rw (lt-ltb a 3 (omega arith), lt-ltb n 2 l)
+
+pub asked-two : (r n a b q : ℕ) → r ≡ a → q ≡ b → r < 3 → 2 ≤ n → ltb q 3 ≡ cond (ltb a 3) (cond (ltb n 2) true (ltb b 3)) false
+asked-two r n a b q e f h l = rw (lt-ltb a 3 (omega arith), le-ltb n 2 l) (ap (λ (x : ℕ). ltb x 3) f)
+
+pub asked-none : (r n a b : ℕ) → r ≡ a → 3 ≤ r → false ≡ cond (ltb a 3) (cond (ltb n 2) true (ltb b 3)) false
+asked-none r n a b e h = rw (le-ltb a 3 (omega arith))

@@ -1,0 +1,81 @@
+-- An answer of a call below, written at the boundary. Assumes nothing.
+use mathlib.Core.Path.{_≡_, refl, sym, ap, _∙_, subst}
+use mathlib.Core.Bool.{Bool}
+use mathlib.Core.List.{List, [], _∷_}
+use Prim.Native.Nat.{ℕ}
+use lib.IntN.{ℤ}
+use lib.Ieee.{Float}
+use Rattle.ink_number.specs.Answer.{Answer, refuses}
+use Rattle.ink_list.specs.Entries.{Entry, items, values}
+use Rattle.ink_list.specs.Filled.{over}
+use Rattle.list_definitions.specs.Defs.{ListDefinitions}
+use Rattle.ink_value.specs.Val.{Val, kindAt}
+use Rattle.ink_value.specs.declared.Value.the-variants as Is
+use Rattle.native_function_call.specs.Apply.{test, whole, real, compute}
+use Rattle.native_function_call.proofs.Calling.{scalar-none}
+use Rattle.value_words.specs.Words.{wordsOf}
+use Rattle.ink_value.specs.Value.{placed, Gave}
+use Rattle.ink_value.specs.declared.Value.{Value}
+use Rattle.ink_value.specs.declared.Outcome.{Outcome}
+use Rattle.value_words.specs.Calls.{outcomeNumber, outcomeWords, indexWords, Says, Calls}
+
+-- what was written of an outcome
+abbrev pub Put : Outcome → ℕ → List ℕ → Type 0
+Put o n ws = (n ≡ outcomeNumber o) × (ws ≡ outcomeWords o)
+
+pub says : (a b : Answer Val) (o : Outcome) (n : ℕ) (ws : List ℕ) → a ≡ b → o ≡ placed a → Put o n ws → Says b n ws
+says a b o n ws q e h =
+    record {
+      number = h .0 ∙ ap outcomeNumber (e ∙ ap placed q);
+      words = h .1 ∙ ap outcomeWords (e ∙ ap placed q);
+    }
+
+pub calls : (a b : Answer Val) (o : Outcome) (n : ℕ) (ws oi oi′ : List ℕ) (ov ov′ : List ℤ) → a ≡ b → Gave a o oi oi′ ov ov′ → Put o n ws
+    → Calls b n ws oi oi′ ov ov′
+calls a b o n ws oi oi′ ov ov′ q g h =
+    subst (λ (x : Answer Val). Calls x n ws oi oi′ ov ov′) q
+    (record {
+      says = record { number = h .0 ∙ ap outcomeNumber (g .answered); words = h .1 ∙ ap outcomeWords (g .answered) };
+      items-out = g .items-out;
+      values-out = g .values-out;
+    })
+
+-- the three operands are those of the words
+pub operands : {X : Type 0} (f : List Value → X) (a a′ b b′ c c′ : Value) → a ≡ a′ → b ≡ b′ → c ≡ c′ → f (a ∷ b ∷ c ∷ []) ≡ f (a′ ∷ b′ ∷ c′ ∷ [])
+operands f a a′ b b′ c c′ p q r =
+    ap (λ (x : Value). f (x ∷ b ∷ c ∷ [])) p ∙ ap (λ (x : Value). f (a′ ∷ x ∷ c ∷ [])) q ∙ ap (λ (x : Value). f (a′ ∷ b′ ∷ x ∷ [])) r
+
+-- a result that is no List, by its kind
+module _ (u : ListDefinitions) (o : ℕ) (vs : List Val) (k : ℕ) where
+  pub said-bool : k ≡ 0 → (b : Bool) (ws : List ℕ) → b ≡ test o vs → ws ≡ wordsOf (Is.Bool b) → Says (compute u o vs (kindAt k)) 0 ws
+  unfolding compute
+  said-bool e b ws h q = rw e (record { number = refl; words = q ∙ ap (λ (t : Bool). wordsOf (Is.Bool t)) h })
+
+  pub said-int : k ≡ 1 → (a : Answer Val) (n : ℕ) (ws : List ℕ) → a ≡ whole o vs → Says a n ws → Says (compute u o vs (kindAt k)) n ws
+  unfolding compute
+  said-int e a n ws h q = rw e (subst (λ (x : Answer Val). Says x n ws) h q)
+
+  pub said-float : k ≡ 2 → (x : Float) (ws : List ℕ) → x ≡ real o vs → ws ≡ wordsOf (Is.Float x) → Says (compute u o vs (kindAt k)) 0 ws
+  unfolding compute
+  said-float e x ws h q = rw e (record { number = refl; words = q ∙ ap (λ (y : Float). wordsOf (Is.Float y)) h })
+
+  pub said-void : k ≡ 4 → (ws : List ℕ) → ws ≡ wordsOf Is.Void → Says (compute u o vs (kindAt k)) 0 ws
+  unfolding compute
+  said-void e ws q = rw e (record { number = refl; words = q })
+
+  -- it writes no entries
+  pub said-calls : (k ≡ 3 → ⊥) → (n : ℕ) (ws oi : List ℕ) (ov : List ℤ) → Says (compute u o vs (kindAt k)) n ws → Calls (compute u o vs (kindAt k)) n ws oi oi ov ov
+  said-calls h n ws oi ov q =
+      record {
+        says = q;
+        items-out = ap (λ (es : List Entry). over (items es) oi) (sym (scalar-none u o vs k h));
+        values-out = ap (λ (es : List Entry). over (values es) ov) (sym (scalar-none u o vs k h));
+      }
+
+-- a refusal
+pub refused-calls : (a : Answer Val) (k n : ℕ) (ws oi : List ℕ) (ov : List ℤ) → a ≡ refuses k → n ≡ k → ws ≡ indexWords 0 → Calls a n ws oi oi ov ov
+refused-calls a k n ws oi ov e h q =
+    subst (λ (x : Answer Val). Calls x n ws oi oi ov ov) (sym e) (record { says = record { number = h; words = q }; items-out = refl; values-out = refl })
+
+pub calls-is : {a b : Answer Val} {n : ℕ} {ws oi oi′ : List ℕ} {ov ov′ : List ℤ} → a ≡ b → Calls b n ws oi oi′ ov ov′ → Calls a n ws oi oi′ ov ov′
+calls-is {a} {b} {n} {ws} {oi} {oi′} {ov} {ov′} e c = subst (λ (x : Answer Val). Calls x n ws oi oi′ ov ov′) (sym e) c

@@ -1,0 +1,80 @@
+-- A value as three words: the code of its kind, what it holds, and where a List's entries stand. Assumes nothing.
+use mathlib.Core.Bool.{Bool, true, false, cond}
+use mathlib.Core.List.{List, [], _∷_}
+use Prim.Native.Nat.{ℕ, _+_, _*_, _-_, _/_, _%_, _^_, _<_}
+use lib.Dec.{eqb, ltb}
+use lib.ListN.{getD}
+use Rattle.ink_number.specs.Int.{signed, residue}
+use Rattle.ink_number.specs.Real.{ofBits32, toBits32}
+use Rattle.ink_list.specs.Every.{table}
+use Rattle.ink_value.specs.declared.Value.{Value}
+use Rattle.ink_value.specs.declared.Value.the-variants as Is
+
+-- ---- words read as a value
+
+-- what words that are no value's read as: a List that no slices hold, so that question 7 says no
+abbrev pub unheld : Value
+unheld = Is.List 0 (2 ^ 64 - 1) 1
+
+-- Bool: 0 or 1
+unfoldable pub boolAt : ℕ → Value
+boolAt w = cond (ltb w 2) (Is.Bool (eqb w 1)) unheld
+
+-- Int: the 32 bits of its two's complement
+unfoldable pub intAt : ℕ → Value
+intAt w = cond (ltb w (2 ^ 32)) (Is.Int (signed w)) unheld
+
+-- Float: the 32 bits of its binary32
+unfoldable pub floatAt : ℕ → Value
+floatAt w = cond (ltb w (2 ^ 32)) (Is.Float (ofBits32 w)) unheld
+
+-- Void: 0
+unfoldable pub voidAt : ℕ → Value
+voidAt w = cond (eqb w 0) Is.Void unheld
+
+-- a value that is no List, by the code of its kind
+unfoldable pub plainAt : ℕ → ℕ → Value
+plainAt kind w =
+    cond (eqb kind 0) (boolAt w)
+    (cond (eqb kind 1) (intAt w)
+    (cond (eqb kind 2) (floatAt w)
+    (cond (eqb kind 4) (voidAt w) unheld)))
+
+-- three words: a List has its origin set, and where its entries start + 2^32 * how many there are; of the others the third word is 0
+unfoldable pub valueOf : ℕ → ℕ → ℕ → Value
+valueOf kind w place =
+    cond (eqb kind 3) (Is.List w (place % 2 ^ 32) (place / 2 ^ 32))
+    (cond (eqb place 0) (plainAt kind w) unheld)
+
+-- the value whose words are the three from 3 * k on
+abbrev pub valueAt : List ℕ → ℕ → Value
+valueAt ws k = valueOf (getD ws (3 * k) 0) (getD ws (3 * k + 1) 0) (getD ws (3 * k + 2) 0)
+
+-- the kind code in the first word of value k; 4 where there is none
+abbrev pub codeAt : List ℕ → ℕ → ℕ
+codeAt ws k = cond (ltb (getD ws (3 * k) 0) 5) (getD ws (3 * k) 0) 4
+
+-- "A run gets 16 slot values"
+abbrev pub slotsIn : List ℕ → List Value
+slotsIn ws = table 16 (valueAt ws)
+
+-- ---- a value written as words
+
+abbrev pub bitOf : Bool → ℕ
+bitOf true = 1
+bitOf false = 0
+
+abbrev pub wordsOf : Value → List ℕ
+wordsOf (Is.Bool b) = 0 ∷ bitOf b ∷ 0 ∷ []
+wordsOf (Is.Int z) = 1 ∷ residue z ∷ 0 ∷ []
+wordsOf (Is.Float x) = 2 ∷ toBits32 x ∷ 0 ∷ []
+wordsOf (Is.List o s n) = 3 ∷ o ∷ (s + 2 ^ 32 * n) ∷ []
+wordsOf Is.Void = 4 ∷ 0 ∷ 0 ∷ []
+
+-- a List's start and length have room in one word
+abbrev pub Small : Value → Type 0
+Small (Is.Bool b) = Unit {0}
+Small (Is.Int z) = Unit {0}
+Small (Is.Float x) = Unit {0}
+Small (Is.List o s n) = (s < 2 ^ 32) × (n < 2 ^ 32)
+Small Is.Void = Unit {0}

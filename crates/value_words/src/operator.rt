@@ -1,0 +1,281 @@
+// An operator from words to words. Where its result is no List the operands go to it in parts, and numbers without a slice.
+use super::answers;
+use super::words;
+use ink_number::int::Divided;
+use ink_value::Value;
+use pack::format::FORMAT1;
+ghost use mathlib.Core.Path.{_≡_};
+ghost use mathlib.Core.Bool.{true, false, cond};
+ghost use mathlib.Core.List.{List, [], _∷_};
+ghost use Prim.Native.Nat.{ℕ, _<_, _≤_, _%_, _^_};
+ghost use lib.Dec.{ltb};
+ghost use lib.IntN.{ℤ};
+ghost use lib.ListN.{length, getD, take};
+ghost use Rattle.ink_number.specs.Int.{signed, divided};
+ghost use Rattle.ink_number.specs.Real.{ofBits32};
+ghost use Rattle.list_definitions.specs.Defs.{ListDefinitions};
+ghost use Rattle.ink_value.specs.Val.{kindAt, listK};
+ghost use Rattle.ink_list.specs.Entries.{itemNumbers};
+ghost use Rattle.ink_value.specs.Value.{codeOfValue, valOf, Formed, FirstFormed};
+ghost use Rattle.ink_value.specs.Slices.{valIn};
+ghost use Rattle.kind_table.specs.Kinds.{KindsGiven};
+ghost use Rattle.native_function_call.specs.Apply.{ofInt, compute};
+ghost use Rattle.native_function_call.specs.Lists.{Room, definitions, definitionsIn};
+ghost use Rattle.pack.specs.Format.{format1};
+ghost use Rattle.calls.specs.Call.{operandsOk, called, PackLists};
+ghost use Rattle.value_words.specs.Words.{valueAt, codeAt};
+ghost use Rattle.value_words.specs.Calls.{operandsIn, Says, Calls};
+
+// The kind code in a value's first word; 4 where it has none.
+fn code_in(w: u64) -> u8
+    ensures { λ r. ⌜ (r ≡ cond (ltb w 5) w 4) × (r < 5) ⌝ }
+{
+    if w < 5 { w as u8 } else { 4 }
+}
+
+// The Int, and the Float, in a value's second word.
+fn whole_in(w: u64) -> i32
+    ensures { λ r. ⌜ r ≡ signed (w % 2 ^ 32) ⌝ }
+{
+    ink_number::int::signed_of(words::low(w))
+}
+
+fn real_in(w: u64) -> f32
+    ensures { λ r. ⌜ r ≡ ofBits32 (w % 2 ^ 32) ⌝ }
+{
+    ink_number::convert::float_from_bits(words::low(w))
+}
+
+// Questions 8 and 10 to 14, which ask only for the operator, the count and the kinds: the code of the answer.
+pub fn kind_of(op: u8, count: usize, operands: &[u64; 9]) -> u8
+    ensures { λ r. ⌜ KindsGiven op count (take count (kindAt (codeAt (now (operands .entry)) 0) ∷ kindAt (codeAt (now (operands .entry)) 1) ∷ kindAt (codeAt (now (operands .entry)) 2) ∷ [])) r ⌝ }
+{
+    native_function_call::kinds(
+        op,
+        count,
+        code_in(operands[0]),
+        code_in(operands[3]),
+        code_in(operands[6]),
+    )
+}
+
+// Is the operand, or are the two, numbers.
+pub fn numbers(count: usize, operands: &[u64; 9]) -> bool
+    ensures { λ r. ⌜ r ≡ cond (ltb (codeOfValue (valueAt (now (operands .entry)) 0)) 3) (cond (ltb count 2) true (ltb (codeOfValue (valueAt (now (operands .entry)) 1)) 3)) false ⌝ }
+{
+    if ink_value::kind(words::operand_at(operands, 0)) < 3 {
+        if count < 2 {
+            return true;
+        }
+        return ink_value::kind(words::operand_at(operands, 1)) < 3;
+    }
+    false
+}
+
+// A result that is an Int.
+fn put_whole(d: Divided, answer: &mut [u64; 3]) -> u32
+    ensures { λ r. ⌜ Says (ofInt (divided d)) r (now (answer .exit)) ⌝ }
+{
+    match d {
+        Divided::Value(z) => {
+            words::put_value(answer, Value::Int(z));
+            0
+        }
+        Divided::Refused => {
+            words::put_index(answer, 0);
+            15
+        }
+    }
+}
+
+// A result of numbers.
+pub fn number(op: u8, kind: u8, count: usize, operands: &[u64; 9], answer: &mut [u64; 3]) -> u32
+    requires { ⌜ (kind < 3) × (1 ≤ count) × (count ≤ 2) ⌝ }
+    requires { ⌜ (codeOfValue (valueAt (now operands) 0) < 3) × (count ≡ 2 → codeOfValue (valueAt (now operands) 1) < 3) ⌝ }
+    ensures { λ r. ⌜ ((u : ListDefinitions) (is : List ℕ) (vs : List ℤ)
+        → Says (compute u op (take count (valOf is vs (valueAt (now (operands .entry)) 0) ∷ valOf is vs (valueAt (now (operands .entry)) 1) ∷ [])) (kindAt kind)) r (now (answer .exit))) ⌝ }
+{
+    let ka = code_in(operands[0]);
+    let za = whole_in(operands[1]);
+    let xa = real_in(operands[1]);
+    let kb = code_in(operands[3]);
+    let zb = whole_in(operands[4]);
+    let xb = real_in(operands[4]);
+    if kind == 0 {
+        let b = native_function_call::number_test(op, count, ka, za, xa, kb, zb, xb);
+        words::put_value(answer, Value::Bool(b));
+        return 0;
+    }
+    if kind == 1 {
+        let d = native_function_call::number_whole(op, count, ka, za, xa, kb, zb, xb);
+        return put_whole(d, answer);
+    }
+    let x = native_function_call::number_real(op, count, ka, za, xa, kb, zb, xb);
+    words::put_value(answer, Value::Float(x));
+    0
+}
+
+// A result that is no List.
+fn scalar(
+    op: u8,
+    kind: u8,
+    count: usize,
+    a: Value,
+    b: Value,
+    items: &[u16],
+    values: &[i32],
+    answer: &mut [u64; 3],
+) -> u32
+    requires { ⌜ (kind < 5) × (kind ≡ 3 → ⊥) × (1 ≤ count) × (count ≤ 2) ⌝ }
+    requires { ⌜ Formed itemNumbers (now items) (now values) a × (count ≡ 2 → Formed itemNumbers (now items) (now values) b) ⌝ }
+    ensures { λ r. ⌜ ((u : ListDefinitions) → Says (compute u op (take count (valIn items values a ∷ valIn items values b ∷ [])) (kindAt kind)) r (now (answer .exit))) ⌝ }
+{
+    let ka = ink_value::kind(a);
+    let za = ink_value::whole_in(a);
+    let xa = ink_value::real_in(a);
+    let sa = ink_value::start_of(a);
+    let na = ink_value::len_of(a);
+    let kb = ink_value::kind(b);
+    let zb = ink_value::whole_in(b);
+    let xb = ink_value::real_in(b);
+    let sb = ink_value::start_of(b);
+    let nb = ink_value::len_of(b);
+    match kind {
+        0 => {
+            let b = native_function_call::test(
+                op,
+                count,
+                ka,
+                za,
+                xa,
+                sa,
+                na,
+                kb,
+                zb,
+                xb,
+                sb,
+                nb,
+                items,
+                values,
+            );
+            words::put_value(answer, Value::Bool(b));
+            0
+        }
+        1 => put_whole(
+            native_function_call::whole(op, count, ka, za, xa, sa, na, kb, zb, xb, sb, nb, values),
+            answer,
+        ),
+        2 => {
+            let x = native_function_call::real(
+                op,
+                count,
+                ka,
+                za,
+                xa,
+                sa,
+                na,
+                kb,
+                zb,
+                xb,
+                sb,
+                nb,
+                values,
+            );
+            words::put_value(answer, Value::Float(x));
+            0
+        }
+        _ => {
+            words::put_value(answer, Value::Void);
+            0
+        }
+    }
+}
+
+// A result that is a List.
+fn list(
+    op: u8,
+    count: usize,
+    a: Value,
+    b: Value,
+    c: Value,
+    items: &[u16],
+    values: &[i32],
+    ends: &[u16],
+    defined: &[i32],
+    result_items: &mut [u16],
+    result_values: &mut [i32],
+    answer: &mut [u64; 3],
+) -> u32
+    requires { ⌜ Room (definitions (now ends) (now defined) (format1 .limit)) (now «result_items») (now «result_values») × (1 ≤ count) × (count ≤ 3) ⌝ }
+    requires { ⌜ FirstFormed (format1 .limit) (now items) (now values) count a b c ⌝ }
+    ensures { λ r. ⌜ Calls (compute (definitionsIn ends defined (format1 .limit)) op (take count (valIn items values a ∷ valIn items values b ∷ valIn items values c ∷ [])) listK)
+        r (now (answer .exit)) (now («result_items» .entry)) (now («result_items» .exit)) (now («result_values» .entry)) (now («result_values» .exit)) ⌝ }
+{
+    let outcome = native_function_call::list(
+        op,
+        count,
+        a,
+        b,
+        c,
+        items,
+        values,
+        ends,
+        defined,
+        FORMAT1.limit,
+        result_items,
+        result_values,
+    );
+    answers::outcome(outcome, answer)
+}
+
+// Questions 8 and 10 to 16 of operands of which question 7 says yes, and the result.
+pub fn apply(
+    op: u8,
+    count: usize,
+    operands: &[u64; 9],
+    items: &[u16],
+    values: &[i32],
+    ends: &[u16],
+    defined: &[i32],
+    result_items: &mut [u16],
+    result_values: &mut [i32],
+    answer: &mut [u64; 3],
+) -> u32
+    requires { ⌜ PackLists (now ends) (now defined) ⌝ }
+    requires { ⌜ operandsOk (definitions (now ends) (now defined) (format1 .limit)) (now items) (now values) (take count (operandsIn (now operands))) ≡ true ⌝ }
+    requires { ⌜ (format1 .limit ≤ length (now «result_items»)) × (format1 .limit ≤ length (now «result_values»)) ⌝ }
+    ensures { λ r. ⌜ Calls (called (now (items .entry)) (now (values .entry)) (now («result_items» .entry)) (now («result_values» .entry)) op count (operandsIn (now (operands .entry))) (definitionsIn ends defined (format1 .limit)))
+        r (now (answer .exit)) (now («result_items» .entry)) (now («result_items» .exit)) (now («result_values» .entry)) (now («result_values» .exit)) ⌝ }
+{
+    let a = words::operand_at(operands, 0);
+    let b = words::operand_at(operands, 1);
+    let c = words::operand_at(operands, 2);
+    let kind = native_function_call::kinds(
+        op,
+        count,
+        ink_value::kind(a),
+        ink_value::kind(b),
+        ink_value::kind(c),
+    );
+    if 4 < kind {
+        words::put_index(answer, 0);
+        return answers::number(kind);
+    }
+    if kind == 3 {
+        return list(
+            op,
+            count,
+            a,
+            b,
+            c,
+            items,
+            values,
+            ends,
+            defined,
+            result_items,
+            result_values,
+            answer,
+        );
+    }
+    scalar(op, kind, count, a, b, items, values, answer)
+}

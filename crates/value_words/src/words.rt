@@ -1,0 +1,187 @@
+// Values as words: three for each, the code of its kind, what it holds, and where a List's entries stand.
+use ink_value::Value;
+use pack::format::SLOT_LIMIT;
+ghost use mathlib.Core.Path.{_≡_};
+ghost use mathlib.Core.List.{[], _∷_};
+ghost use Prim.Native.Nat.{_<_, _+_, _*_, _/_, _%_, _^_};
+ghost use Rattle.value_words.specs.Words.{unheld, boolAt, intAt, floatAt, voidAt, plainAt, valueOf, valueAt, slotsIn, bitOf, wordsOf, Small};
+
+// A start and a length stand in one word, the start in the lower half.
+const HALF: u64 = 0x1_0000_0000;
+
+// What words that are no value's read as: a List that no slices hold.
+fn unheld() -> Value
+    ensures { λ r. ⌜ r ≡ unheld ⌝ }
+{
+    Value::List {
+        origins: 0,
+        start: 0xffff_ffff_ffff_ffff,
+        len: 1,
+    }
+}
+
+fn bool_at(w: u64) -> Value
+    ensures { λ r. ⌜ r ≡ boolAt w ⌝ }
+{
+    if w < 2 { Value::Bool(w == 1) } else { unheld() }
+}
+
+fn int_at(w: u64) -> Value
+    ensures { λ r. ⌜ r ≡ intAt w ⌝ }
+{
+    if w < HALF {
+        Value::Int(ink_number::int::signed_of(w as u32))
+    } else {
+        unheld()
+    }
+}
+
+fn float_at(w: u64) -> Value
+    ensures { λ r. ⌜ r ≡ floatAt w ⌝ }
+{
+    if w < HALF {
+        Value::Float(ink_number::convert::float_from_bits(w as u32))
+    } else {
+        unheld()
+    }
+}
+
+fn void_at(w: u64) -> Value
+    ensures { λ r. ⌜ r ≡ voidAt w ⌝ }
+{
+    if w == 0 { Value::Void } else { unheld() }
+}
+
+// A value that is no List, by the code of its kind.
+fn plain_at(kind: u64, w: u64) -> Value
+    ensures { λ r. ⌜ r ≡ plainAt kind w ⌝ }
+{
+    match kind {
+        0 => bool_at(w),
+        1 => int_at(w),
+        2 => float_at(w),
+        4 => void_at(w),
+        _ => unheld(),
+    }
+}
+
+// Where a List's entries start and how many there are, of its third word.
+pub fn start_in(place: u64) -> usize
+    ensures { λ r. ⌜ r ≡ place % 2 ^ 32 ⌝ }
+{
+    (place % HALF) as usize
+}
+
+pub fn len_in(place: u64) -> usize
+    ensures { λ r. ⌜ r ≡ place / 2 ^ 32 ⌝ }
+{
+    (place / HALF) as usize
+}
+
+// The 32 lower bits of a word.
+pub fn low(w: u64) -> u32
+    ensures { λ r. ⌜ r ≡ w % 2 ^ 32 ⌝ }
+{
+    (w % HALF) as u32
+}
+
+// The value of three words.
+fn value_of(kind: u64, w: u64, place: u64) -> Value
+    ensures { λ r. ⌜ r ≡ valueOf kind w place ⌝ }
+{
+    if kind == 3 {
+        return Value::List {
+            origins: w,
+            start: start_in(place),
+            len: len_in(place),
+        };
+    }
+    if place == 0 {
+        plain_at(kind, w)
+    } else {
+        unheld()
+    }
+}
+
+// The one value of three words.
+pub fn value_in(words: &[u64; 3]) -> Value
+    ensures { λ r. ⌜ r ≡ valueAt (now (words .entry)) 0 ⌝ }
+{
+    value_of(words[0], words[1], words[2])
+}
+
+// The value of operand k.
+pub fn operand_at(words: &[u64; 9], k: usize) -> Value
+    requires { ⌜ k < 3 ⌝ }
+    ensures { λ r. ⌜ r ≡ valueAt (now (words .entry)) k ⌝ }
+{
+    value_of(words[3 * k], words[3 * k + 1], words[3 * k + 2])
+}
+
+// The value of slot k.
+fn slot_at(words: &[u64; 48], k: usize) -> Value
+    requires { ⌜ k < 16 ⌝ }
+    ensures { λ r. ⌜ r ≡ valueAt (now (words .entry)) k ⌝ }
+{
+    value_of(words[3 * k], words[3 * k + 1], words[3 * k + 2])
+}
+
+// The slots of a run.
+pub fn slots_in(words: &[u64; 48]) -> [Value; 16]
+    ensures { λ r. ⌜ r ≡ slotsIn (now (words .entry)) ⌝ }
+{
+    let void = Value::Void;
+    let mut slots = [void; SLOT_LIMIT];
+    let mut k: usize = 0;
+    while k < SLOT_LIMIT {
+        let v = slot_at(words, k);
+        slots[k] = v;
+        k += 1;
+    }
+    slots
+}
+
+fn bit(b: bool) -> u64
+    ensures { λ r. ⌜ r ≡ bitOf b ⌝ }
+{
+    if b { 1 } else { 0 }
+}
+
+fn put(words: &mut [u64; 3], kind: u64, w: u64, place: u64)
+    ensures { λ _. ⌜ now (words .exit) ≡ kind ∷ w ∷ place ∷ [] ⌝ }
+{
+    *words = [kind, w, place];
+}
+
+// An index in an answer's words.
+pub fn put_index(words: &mut [u64; 3], index: usize)
+    ensures { λ _. ⌜ now (words .exit) ≡ index ∷ 0 ∷ 0 ∷ [] ⌝ }
+{
+    put(words, index as u64, 0, 0);
+}
+
+// A value written as three words.
+pub fn put_value(words: &mut [u64; 3], v: Value)
+    requires { ⌜ Small v ⌝ }
+    ensures { λ _. ⌜ now (words .exit) ≡ wordsOf v ⌝ }
+{
+    match v {
+        Value::Bool(b) => put(words, 0, bit(b), 0),
+        Value::Int(z) => put(words, 1, ink_number::int::pattern(z) as u64, 0),
+        Value::Float(x) => put(words, 2, ink_number::convert::float_to_bits(x) as u64, 0),
+        Value::List {
+            origins,
+            start,
+            len,
+        } => put(words, 3, origins, place_of(start as u64, len as u64)),
+        Value::Void => put(words, 4, 0, 0),
+    }
+}
+
+// Where a List's entries stand, in one word.
+fn place_of(start: u64, len: u64) -> u64
+    requires { ⌜ (start < 2 ^ 32) × (len < 2 ^ 32) ⌝ }
+    ensures { λ r. ⌜ r ≡ start + 2 ^ 32 * len ⌝ }
+{
+    start + HALF * len
+}
