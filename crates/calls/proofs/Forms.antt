@@ -4,7 +4,7 @@ use mathlib.Core.Bool.{Bool, true, false, cond}
 use mathlib.Core.List.{List, [], _∷_, map}
 use Prim.Native.Nat.{ℕ, zero, suc, _^_, _≤_}
 use native.Mathlib.Omega.{arith}
-use lib.Dec.{ltb, eqb}
+use lib.Dec.{ltb, leb, eqb}
 use lib.IntN.{ℤ}
 use lib.ListN.{length, take}
 use lib.Pow.{pow-pos}
@@ -78,6 +78,11 @@ unfolding _and_
 and-true true = refl
 and-true false = refl
 
+-- question 7 of the operands, where the result slices are long enough
+pub rooms : (f : Bool) (m n limit : ℕ) → limit ≤ m → limit ≤ n → f and (leb limit m and leb limit n) ≡ f
+unfolding _and_
+rooms f m n limit h k = rw (le-leb limit m h, le-leb limit n k) (and-true f)
+
 module _ (total d : ℕ) (is : List ℕ) (vs : List ℤ) where
   pub unlike-long : (l : List Value) → (length is ≡ length vs → ⊥) → allFormed total d is vs l ≡ false
   unlike-long l h = and-no-left _ _ (ne-eqb (length is) (length vs) h)
@@ -123,13 +128,9 @@ module _ (total d : ℕ) (is : List ℕ) (vs : List ℤ) where
 -- ---- the answer of a call
 
 module _ (is : List ℕ) (vs : List ℤ) (oi : List ℕ) (ov : List ℤ) (o n : ℕ) (l : List Value) (u : ListDefinitions) where
-  pub ill-operands : operandsOk u is vs (take n l) ≡ false → called is vs oi ov o n l u ≡ refuses 7
+  pub ill-lent : (operandsOk u is vs (take n l) and resultsOk u oi ov) ≡ false → called is vs oi ov o n l u ≡ refuses 7
   unfolding called
-  ill-operands e = rw (and-no-left _ (resultsOk u oi ov) e)
-
-  pub short-results : resultsOk u oi ov ≡ false → called is vs oi ov o n l u ≡ refuses 7
-  unfolding called
-  short-results e = rw (and-no-right (operandsOk u is vs (take n l)) _ e)
+  ill-lent e = rw e
 
   pub goes-on : operandsOk u is vs (take n l) ≡ true → resultsOk u oi ov ≡ true → called is vs oi ov o n l u ≡ call u o n (map (valOf is vs) (take n l))
   unfolding called

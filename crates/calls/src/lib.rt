@@ -7,7 +7,9 @@ ghost use mathlib.Core.Path.{_≡_};
 ghost use mathlib.Core.Bool.{true, cond};
 ghost use mathlib.Core.List.{[], _∷_};
 ghost use Prim.Native.Nat.{_≤_};
+ghost use lib.Dec.{leb};
 ghost use lib.ListN.{length, take};
+ghost use Rattle.ink_list.specs.Every.{_and_};
 ghost use denote.Ref.{now};
 ghost use Rattle.native_function_call.specs.Lists.{definitions, definitionsIn};
 ghost use Rattle.pack.specs.Read.{definitionsOf};
@@ -88,6 +90,30 @@ fn used_formed(
     )
 }
 
+// Question 7 of the first `count` of three operands and of result slices of these lengths.
+pub fn lent_well(
+    count: usize,
+    a: Value,
+    b: Value,
+    c: Value,
+    items: &[u16],
+    values: &[i32],
+    total: usize,
+    definitions: usize,
+    result_items: usize,
+    result_values: usize,
+) -> bool
+    ensures { λ r. ⌜ r ≡ (allFormed total definitions (now (items .entry)) (now (values .entry)) (take count (a ∷ b ∷ c ∷ [])) and (leb (format1 .limit) «result_items» and leb (format1 .limit) «result_values»)) ⌝ }
+{
+    if result_items < ITEM_LIMIT {
+        return false;
+    }
+    if result_values < ITEM_LIMIT {
+        return false;
+    }
+    used_formed(count, a, b, c, items, values, total, definitions)
+}
+
 // An operator on operands of which question 7 says yes, with the definitions at hand: questions 8 and 10 to 16.
 pub fn call_formed(
     op: u8,
@@ -140,13 +166,18 @@ pub fn call_with(
     requires { ⌜ PackLists (now ends) (now defined) ⌝ }
     ensures { λ r. ⌜ Gives (called (now (items .entry)) (now (values .entry)) (now (oi .entry)) (now (ov .entry)) op count (a ∷ b ∷ c ∷ []) (definitionsIn ends defined (format1 .limit))) r oi ov ⌝ }
 {
-    if !used_formed(count, a, b, c, items, values, defined.len(), ends.len()) {
-        return Outcome::Refused(7);
-    }
-    if oi.len() < ITEM_LIMIT {
-        return Outcome::Refused(7);
-    }
-    if ov.len() < ITEM_LIMIT {
+    if !lent_well(
+        count,
+        a,
+        b,
+        c,
+        items,
+        values,
+        defined.len(),
+        ends.len(),
+        oi.len(),
+        ov.len(),
+    ) {
         return Outcome::Refused(7);
     }
     call_formed(op, count, a, b, c, items, values, ends, defined, oi, ov)

@@ -6,6 +6,7 @@ mod ready;
 use pack::Checked;
 use pack::format::DEFINITION_LIMIT;
 use pack::format::FORMAT1;
+use value_words::operator;
 use value_words::words;
 ghost use mathlib.Core.Path.{_≡_};
 ghost use mathlib.Core.Bool.{true};
@@ -267,20 +268,39 @@ pub extern "C" fn ink_call_checked(
     let a = words::operand_at(operands, 0);
     let b = words::operand_at(operands, 1);
     let c = words::operand_at(operands, 2);
-    let outcome = calls::call_with(
-        op,
+    if !calls::lent_well(
         count,
         a,
         b,
         c,
         items,
         values,
-        ends,
-        defined,
+        defined.len(),
+        ends.len(),
+        result_items.len(),
+        result_values.len(),
+    ) {
+        words::put_index(answer, 0);
+        return 7;
+    }
+    if operator::numbers(count, operands) {
+        let kind = operator::kind_of(op, count, operands);
+        if kind < 3 {
+            return operator::number(op, kind, count, operands, answer);
+        }
+    }
+    operator::apply(
+        op,
+        count,
+        operands,
+        &items[..],
+        &values[..],
+        &ends[..],
+        &defined[..],
         result_items,
         result_values,
-    );
-    value_words::answers::outcome(outcome, answer)
+        answer,
+    )
 }
 
 // The same on operands and result slices of which question 7 says yes.
@@ -303,21 +323,22 @@ pub extern "C" fn ink_apply(
     ensures { λ r. ⌜ Calls (called (now (items .entry)) (now (values .entry)) (now («result_items» .entry)) (now («result_values» .entry)) op count (operandsIn (now (operands .entry))) (definitionsIn ends defined (format1 .limit)))
         r (now (answer .exit)) (now («result_items» .entry)) (now («result_items» .exit)) (now («result_values» .entry)) (now («result_values» .exit)) ⌝ }
 {
-    let a = words::operand_at(operands, 0);
-    let b = words::operand_at(operands, 1);
-    let c = words::operand_at(operands, 2);
-    let outcome = calls::call_formed(
+    if operator::numbers(count, operands) {
+        let kind = operator::kind_of(op, count, operands);
+        if kind < 3 {
+            return operator::number(op, kind, count, operands, answer);
+        }
+    }
+    operator::apply(
         op,
         count,
-        a,
-        b,
-        c,
-        items,
-        values,
-        ends,
-        defined,
+        operands,
+        &items[..],
+        &values[..],
+        &ends[..],
+        &defined[..],
         result_items,
         result_values,
-    );
-    value_words::answers::outcome(outcome, answer)
+        answer,
+    )
 }
