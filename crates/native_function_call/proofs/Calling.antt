@@ -194,7 +194,7 @@ compute-none u o vs listK e = let z : _≡_ {A = ℕ} 0 1 = cc in absurd (omega 
 compute-none u o vs voidK e = refl
 
 -- of one or two operands, the third does not matter
-two-of : {X : Type 0} (n : ℕ) (a b c : X) → 1 ≤ n → n ≤ 2 → take n (a ∷ b ∷ []) ≡ take n (a ∷ b ∷ c ∷ [])
+pub two-of : {X : Type 0} (n : ℕ) (a b c : X) → 1 ≤ n → n ≤ 2 → take n (a ∷ b ∷ []) ≡ take n (a ∷ b ∷ c ∷ [])
 two-of zero a b c h k = absurd (omega arith)
 two-of (suc zero) a b c h k = refl
 two-of (suc (suc zero)) a b c h k = refl
