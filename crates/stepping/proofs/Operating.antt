@@ -1,27 +1,27 @@
 -- An operator on the top of a stack: its operands, and its answer put on the stack below them. Assumes nothing.
 use mathlib.Core.Path.{_≡_, refl, sym, ap, ap₂, _∙_, subst}
-use mathlib.Core.Bool.{Bool, true, false, cond}
+use mathlib.Core.Bool.{Bool, true, false}
 use mathlib.Core.List.{List, [], _∷_, map}
 use Prim.Native.Nat.{ℕ, zero, suc, _-_, _≤_, _<_}
 use native.Mathlib.Omega.{arith}
-use borrow.Author.Tests.{eq-eqb, ne-eqb, lt-ltb, ltb-true}
+use borrow.Author.Tests.{eq-eqb}
 use lib.Dec.{eqb, ltb}
 use lib.IntN.{ℤ}
+use lib.Ieee.{Float}
 use lib.ListN.{length, getD, take, List·getD-map}
 use Rattle.ink_number.specs.Answer.{Answer, gives, refuses, ask}
-use Rattle.ink_list.specs.Entries.{Rising}
-use Rattle.ink_value.specs.Val.{Val, void, Kind, boolK, intK, floatK, listK, voidK, kindAt, kindOf}
-use Rattle.ink_value.specs.Convert.{asInt}
-use Rattle.ink_value.specs.Value.{valOf, codeOfValue, written, Formed, FirstFormed, Wf, AllWf}
+use Rattle.ink_list.specs.Entries.{itemNumbers, Rising}
+use Rattle.ink_value.specs.Val.{Val, void, Kind, kindAt, kindOf}
+use Rattle.ink_value.specs.Value.{valOf, codeOfValue, startOf, lenOf, wholeIn, realIn, written, Spans, Formed, FirstFormed, Operand, Wf, AllWf}
 use Rattle.ink_value.specs.declared.Value.{Value}
 use Rattle.ink_value.specs.declared.Value.the-variants as Is
-use Rattle.ink_value.proofs.Reading.{ap3, rising-in}
+use Rattle.ink_value.proofs.Reading.{ap3, formed-limit, rising-in}
+use Rattle.ink_value.proofs.Parts.{parts-of, spans-of}
 use Rattle.kind_table.specs.Kinds.{known, arity, operandCount, kindCall, decoded, KindsGiven}
-use Rattle.native_function_call.specs.Numbers.{arithZ}
 use Rattle.list_definitions.specs.Defs.{ListDefinitions}
-use Rattle.native_function_call.specs.Apply.{ofInt, whole, compute, applyOp, call}
+use Rattle.native_function_call.specs.Apply.{compute, applyOp, call}
 use Rattle.native_function_call.proofs.Applying.{takes, count-three}
-use Rattle.native_function_call.proofs.Calling.{codes-of, call-gives, call-refuses, decoded-kind, decoded-no}
+use Rattle.native_function_call.proofs.Calling.{codes-are, call-gives, call-refuses, decoded-kind, decoded-no, two-of}
 use Rattle.native_function_call.proofs.Results.{apply-fine}
 use Rattle.pack.specs.Format.{format1}
 use Rattle.pack.specs.Instruction.{Push, Instr, op, push}
@@ -32,39 +32,18 @@ use Rattle.sheet.proofs.Stack.{op-unknown, op-few, op-one, op-two, op-three, st
 use Rattle.stepping.specs.Steps.{AnswerCase, Answered, StepCase, Steps, Operands, Known, startAt, Put, pushed, Inputs}
 use Rattle.stepping.specs.declared.Step.{Step}
 use Rattle.stepping.specs.declared.Step.the-variants as St
-use Rattle.stepping.proofs.Putting.{Plain, formed-none}
 
--- ---- a result that is no List
+-- ---- an operand in parts, as an operator on parts asks for it
 
-int-plain : (a : Answer ℤ) → Plain (ofInt a)
-int-plain (gives z) = tt
-int-plain (refuses r) = tt
+module _ (is : List ℕ) (vs : List ℤ) (v : Value) {s n : ℕ} (es : s ≡ startOf v) (en : n ≡ lenOf v) (f : Formed (format1 .limit) is vs v) where
+  below : Formed itemNumbers is vs v
+  below = formed-limit (format1 .limit) is vs itemNumbers v (omega arith) f
 
-whole-plain : (o : ℕ) (vs : List Val) → Plain (whole o vs)
-whole-plain o [] = tt
-whole-plain o (a ∷ []) = tt
-whole-plain o (a ∷ b ∷ []) = int-plain (arithZ o (asInt a) (asInt b))
-whole-plain o (a ∷ b ∷ c ∷ vs) = tt
+  pub spans-in : Spans itemNumbers is vs s n
+  spans-in = spans-of itemNumbers is vs v s n es en below
 
-compute-plain : (u : ListDefinitions) (o : ℕ) (vs : List Val) (k : Kind) → (k ≡ listK → ⊥) → Plain (compute u o vs k)
-unfolding compute
-compute-plain u o vs boolK h = tt
-compute-plain u o vs intK h = whole-plain o vs
-compute-plain u o vs floatK h = tt
-compute-plain u o vs listK h = absurd (h refl)
-compute-plain u o vs voidK h = tt
-
-other-kind : (k : ℕ) → (k ≡ 3 → ⊥) → kindAt k ≡ listK → ⊥
-other-kind k h e = go (eqb k 0) (eqb k 1) (eqb k 2) (rw (ne-eqb k 3 h) at e)
-  where
-    go : (r s t : Bool) → cond r boolK (cond s intK (cond t floatK (cond false listK voidK))) ≡ listK → ⊥
-    go true s t q = let z : _≡_ {A = ℕ} 0 1 = cc in omega arith
-    go false true t q = let z : _≡_ {A = ℕ} 0 1 = cc in omega arith
-    go false false true q = let z : _≡_ {A = ℕ} 0 1 = cc in omega arith
-    go false false false q = let z : _≡_ {A = ℕ} 0 1 = cc in omega arith
-
-pub scalar-plain : (u : ListDefinitions) (o : ℕ) (vs : List Val) (k : ℕ) → (k ≡ 3 → ⊥) → Plain (compute u o vs (kindAt k))
-scalar-plain u o vs k h = compute-plain u o vs (kindAt k) (other-kind k h)
+  pub operand-in : {k : ℕ} {z : ℤ} {x : Float} → k ≡ codeOfValue v → z ≡ wholeIn v → x ≡ realIn v → Operand is vs v k z x s n
+  operand-in {k} {z} {x} ek ez ex = record { parts = parts-of v k z x s n ek ez ex es en; formed = below }
 
 -- ---- a call
 
@@ -80,30 +59,32 @@ module _ (is : List ℕ) (vs : List ℤ) (a b c : Value) where
   abbrev pub operandsOf : ℕ → List Val
   operandsOf n = take n (valOf is vs a ∷ valOf is vs b ∷ valOf is vs c ∷ [])
 
-  all-wf : Formed (format1 .limit) is vs a → Formed (format1 .limit) is vs b → Formed (format1 .limit) is vs c → (n : ℕ) → AllWf (format1 .limit) (operandsOf n)
-  all-wf f g h zero = tt
-  all-wf f g h (suc zero) = (wf-in is vs a f, tt)
-  all-wf f g h (suc (suc zero)) = (wf-in is vs a f, (wf-in is vs b g, tt))
-  all-wf f g h (suc (suc (suc zero))) = (wf-in is vs a f, (wf-in is vs b g, (wf-in is vs c h, tt)))
-  all-wf f g h (suc (suc (suc (suc n)))) = (wf-in is vs a f, (wf-in is vs b g, (wf-in is vs c h, tt)))
+  all-wf : (n : ℕ) → FirstFormed (format1 .limit) is vs n a b c → AllWf (format1 .limit) (operandsOf n)
+  all-wf zero f = tt
+  all-wf (suc zero) f = (wf-in is vs a (f .one (omega arith)), tt)
+  all-wf (suc (suc zero)) f = (wf-in is vs a (f .one (omega arith)), (wf-in is vs b (f .two (omega arith)), tt))
+  all-wf (suc (suc (suc zero))) f = (wf-in is vs a (f .one (omega arith)), (wf-in is vs b (f .two (omega arith)), (wf-in is vs c (f .three (omega arith)), tt)))
+  all-wf (suc (suc (suc (suc n)))) f = (wf-in is vs a (f .one (omega arith)), (wf-in is vs b (f .two (omega arith)), (wf-in is vs c (f .three (omega arith)), tt)))
 
   module _ (u : ListDefinitions) (o n : ℕ) where
-    pub call-rises : Formed (format1 .limit) is vs a → Formed (format1 .limit) is vs b → Formed (format1 .limit) is vs c → u .limit ≡ format1 .limit
+    pub call-rises : FirstFormed (format1 .limit) is vs n a b c → u .limit ≡ format1 .limit
         → length (u .defined) ≤ u .limit → Rising (format1 .limit) (written (call u o n (operandsOf n)))
     unfolding call
-    call-rises f g h e w = go (known o) (eqb n (arity o))
+    call-rises f e w = go (known o) (eqb n (arity o))
       where
         wf : AllWf (u .limit) (operandsOf n)
-        wf = rw e (all-wf f g h n)
+        wf = rw e (all-wf n f)
 
         go : (s t : Bool) → Rising (format1 .limit) (written (ask 8 s (ask 10 t (applyOp u o (operandsOf n)))))
         go true true = rw (← e) (apply-fine u (omega arith) w o (operandsOf n) wf .rising)
         go true false = tt
         go false t = tt
 
-    module _ (k : ℕ) (g : KindsGiven o n (take n (kindAt (codeOfValue a) ∷ kindAt (codeOfValue b) ∷ kindAt (codeOfValue c) ∷ [])) k) where
+    -- by the codes of the operands' kinds
+    module _ {i j l k : ℕ} (p : i ≡ codeOfValue a) (q : j ≡ codeOfValue b) (r : l ≡ codeOfValue c)
+        (g : KindsGiven o n (take n (kindAt i ∷ kindAt j ∷ kindAt l ∷ [])) k) where
       kinds-are : kindCall o n (map kindOf (operandsOf n)) ≡ decoded k
-      kinds-are = ap (kindCall o n) (codes-of is vs n a b c) ∙ sym (g .answered)
+      kinds-are = ap (kindCall o n) (codes-are is vs n a b c i j l p q r) ∙ sym (g .answered)
 
       pub call-computes : k < 5 → call u o n (operandsOf n) ≡ compute u o (operandsOf n) (kindAt k)
       call-computes h = call-gives u o n (operandsOf n) (kindAt k) (kinds-are ∙ decoded-kind k h)
@@ -114,6 +95,11 @@ module _ (is : List ℕ) (vs : List ℤ) (a b c : Value) where
   call-applies : (u : ListDefinitions) (o n : ℕ) → 1 ≤ n → operandCount o ≡ n → call u o n (operandsOf n) ≡ applyOp u o (operandsOf n)
   unfolding call
   call-applies u o n h e = let t = takes o n h e in rw (t .is-known, t .arity-is, eq-eqb n n refl)
+
+-- of one or two operands, the third does not matter
+pub computes-two : (u : ListDefinitions) (o n : ℕ) (a b x : Val) {k k′ : Kind} → 1 ≤ n → n ≤ 2 → k ≡ k′
+    → compute u o (take n (a ∷ b ∷ x ∷ [])) k ≡ compute u o (take n (a ∷ b ∷ [])) k′
+computes-two u o n a b x {k} h m e = ap (λ (vs : List Val). compute u o vs k) (sym (two-of n a b x h m)) ∙ ap (compute u o (take n (a ∷ b ∷ []))) e
 
 pub answered-is : (a b : Answer Val) (place : ℕ) (r : Step) (wi wi′ : List ℕ) (wv wv′ : List ℤ) → b ≡ a → Answered a place r wi wi′ wv wv′ → Answered b place r wi wi′ wv wv′
 answered-is a b place r wi wi′ wv wv′ e w = subst (λ (x : Answer Val). Answered x place r wi wi′ wv wv′) (sym e) w
@@ -167,30 +153,6 @@ module _ (wi : List ℕ) (wv : List ℤ) (a b c : Value) (f : ℕ → Val) (u : 
   operands-topped (suc (suc (suc (suc m)))) t e h l =
       let z = count-three o (suc (suc (suc (suc m)))) e h (λ k. omega arith) (λ k. omega arith) in
       absurd (omega arith)
-
--- Void in the place of an operand that is not used
-module _ (is : List ℕ) (vs : List ℤ) (n : ℕ) (a b c : Value) where
-  pub used-take : operandsOf is vs (cond (ltb 0 n) a Is.Void) (cond (ltb 1 n) b Is.Void) (cond (ltb 2 n) c Is.Void) n ≡ operandsOf is vs a b c n
-  used-take = go n
-    where
-      go : (n : ℕ) → operandsOf is vs (cond (ltb 0 n) a Is.Void) (cond (ltb 1 n) b Is.Void) (cond (ltb 2 n) c Is.Void) n ≡ operandsOf is vs a b c n
-      go zero = refl
-      go (suc zero) = refl
-      go (suc (suc zero)) = refl
-      go (suc (suc (suc n))) =
-          rw (lt-ltb 0 (suc (suc (suc n))) (omega arith), lt-ltb 1 (suc (suc (suc n))) (omega arith), lt-ltb 2 (suc (suc (suc n))) (omega arith))
-
-  one-formed : (yes : Bool) (v : Value) → (yes ≡ true → Formed (format1 .limit) is vs v) → Formed (format1 .limit) is vs (cond yes v Is.Void)
-  one-formed true v f = f refl
-  one-formed false v f = formed-none is vs Is.Void refl refl
-
-  pub used-formed : FirstFormed (format1 .limit) is vs n a b c
-      → Formed (format1 .limit) is vs (cond (ltb 0 n) a Is.Void) × Formed (format1 .limit) is vs (cond (ltb 1 n) b Is.Void) × Formed (format1 .limit) is vs (cond (ltb 2 n) c Is.Void)
-  used-formed f = (
-    one-formed (ltb 0 n) a (λ e. f .one (omega (arith, ltb-true 0 n e))),
-    one-formed (ltb 1 n) b (λ e. f .two (omega (arith, ltb-true 1 n e))),
-    one-formed (ltb 2 n) c (λ e. f .three (omega (arith, ltb-true 2 n e))),
-  )
 
 -- ---- no operator, and too few operands
 

@@ -82,28 +82,6 @@ module _ (n : ℕ) (x : Val) (wi wi′ : List ℕ) (wv wv′ : List ℤ) where
 
 -- ---- results
 
--- an answer that is no List
-abbrev pub Plain : Answer Val → Type 0
-Plain (gives (bool b)) = Unit {0}
-Plain (gives (int z)) = Unit {0}
-Plain (gives (float x)) = Unit {0}
-Plain (gives (list o es)) = ⊥
-Plain (gives void) = Unit {0}
-Plain (refuses r) = Unit {0}
-
-module _ (place : ℕ) (h : place < stackLimit) (wi : List ℕ) (wv : List ℤ) where
-  plain-put : (x : Val) → Plain (gives x) → (v : Value) → v ≡ placedVal x → Put x (startAt place) v wi wi wv wv
-  plain-put (bool b) g v e = put-none (bool b) (startAt place) v wi wv refl e
-  plain-put (int z) g v e = put-none (int z) (startAt place) v wi wv refl e
-  plain-put (float x) g v e = put-none (float x) (startAt place) v wi wv refl e
-  plain-put (list o es) g v e = absurd g
-  plain-put void g v e = put-none void (startAt place) v wi wv refl e
-
-  pub plain-value : (a : Answer Val) (r : Outcome) → r ≡ placed a → Plain a → (v : Value) → r ≡ Out.Value v → Answered a place (St.Put place v) wi wi wv wv
-  plain-value (gives x) r e g v q =
-      record { by = record { value = x; given = refl; at-place = refl; depth = h; put = plain-put x g v (let s : Out.Value v ≡ Out.Value (placedVal x) = sym q ∙ e in cc) } }
-  plain-value (refuses n) r e g v q = let z : _≡_ {A = ℕ} 0 1 = cc in absurd (omega arith)
-
 pub refusal : (a : Answer Val) (r : Outcome) (place : ℕ) (wi : List ℕ) (wv : List ℤ) → r ≡ placed a → (q : ℕ) → r ≡ Out.Refused q → Answered a place (St.No q) wi wi wv wv
 refusal (gives x) r place wi wv e q s = let z : _≡_ {A = ℕ} 0 1 = cc in absurd (omega arith)
 refusal (refuses n) r place wi wv e q s = record { by = record { refused = cc; items-same = refl; values-same = refl } }
@@ -133,3 +111,9 @@ module _ (oi oi′ : List ℕ) (ov ov′ : List ℤ) (hi : format1 .limit ≤ le
 pub result-put : (a : Answer Val) (x : Val) (place : ℕ) (v : Value) (wi wi′ : List ℕ) (wv wv′ : List ℤ) → place < stackLimit → a ≡ gives x
     → Put x (startAt place) v wi wi′ wv wv′ → Answered a place (St.Put place v) wi wi′ wv wv′
 result-put a x place v wi wi′ wv wv′ h e w = record { by = record { value = x; given = e; at-place = refl; depth = h; put = w } }
+
+-- ---- a result that is no List
+
+pub scalar-put : (a : Answer Val) (place : ℕ) (v : Value) (wi : List ℕ) (wv : List ℤ) → place < stackLimit → (codeOfValue v ≡ 3 → ⊥) → a ≡ gives (valOf wi wv v)
+    → Answered a place (St.Put place v) wi wi wv wv
+scalar-put a place v wi wv h ne e = result-put a (valOf wi wv v) place v wi wi wv wv h e (put-plain (startAt place) wi wv v wi wv ne)

@@ -1,23 +1,26 @@
 // One instruction of a run: a push, or an operator on the values on top of the stack. The entries of the list at place p of
 // the stack stand in the work slices, from p * ITEM_LIMIT on.
 
+use ink_number::int::Divided;
 use ink_value::Outcome;
 use ink_value::Value;
+use native_function_call::real;
+use native_function_call::test;
+use native_function_call::whole;
 use pack::instruction::Instruction;
 use sheet::STACK_LIMIT;
 ghost use mathlib.Core.Path.{_≡_};
-ghost use mathlib.Core.Bool.{cond};
 ghost use mathlib.Core.List.{List, [], _∷_, map};
 ghost use Prim.Native.Nat.{ℕ, _<_, _≤_, _+_, _-_};
 ghost use lib.IntN.{ℤ};
 ghost use lib.ListN.{length, take};
+ghost use Rattle.ink_number.specs.Int.{divided};
 ghost use Rattle.ink_list.specs.Entries.{Rising};
 ghost use Rattle.ink_value.specs.Val.{Val, list, listK, kindAt};
 ghost use Rattle.ink_value.specs.Slices.{valIn};
 ghost use Rattle.ink_value.specs.Value.{valOf, codeOfValue, lenOf, written, Formed, FirstFormed};
-ghost use Rattle.ink_value.specs.declared.Value.the-variants as Is;
 ghost use Rattle.kind_table.specs.Kinds.{operandCount};
-ghost use Rattle.native_function_call.specs.Apply.{applyOp, call, compute};
+ghost use Rattle.native_function_call.specs.Apply.{ofInt, applyOp, call, compute};
 ghost use Rattle.list_definitions.specs.Defs.{ListDefinitions};
 ghost use Rattle.native_function_call.specs.Lists.{definitions, definitionsIn};
 ghost use Rattle.pack.specs.Bodies.{decoded};
@@ -128,26 +131,69 @@ fn push_literal(
     Step::Put { place: n, value }
 }
 
-// A result that is no List, at a place of the stack.
+// A result that is an Int, at a place of the stack, or question 15.
+fn whole_result(d: Divided, place: usize) -> Step
+    requires { ⌜ place < stackLimit ⌝ }
+    ensures { λ r. ⌜ ((wi : List ℕ) (wv : List ℤ) → Answered (ofInt (divided d)) place r wi wi wv wv) ⌝ }
+{
+    match d {
+        Divided::Value(z) => Step::Put {
+            place,
+            value: Value::Int(z),
+        },
+        Divided::Refused => Step::No(15),
+    }
+}
+
+// A result that is no List, of n operands, at a place of the stack: the operands are handed on in parts.
 fn scalar_result(
     op: u8,
     kind: u8,
-    count: usize,
+    n: usize,
     a: Value,
     b: Value,
     items: &[u16],
     values: &[i32],
     place: usize,
 ) -> Step
-    requires { ⌜ (kind ≡ 3 → ⊥) × (1 ≤ count) × (count ≤ 2) × (place < stackLimit) ⌝ }
-    requires { ⌜ Formed (format1 .limit) (now items) (now values) a × Formed (format1 .limit) (now items) (now values) b ⌝ }
-    ensures { λ r. ⌜ ((u : ListDefinitions) (x : Val) → Answered (compute u op (take count (valIn items values a ∷ valIn items values b ∷ x ∷ [])) (kindAt kind)) place r
+    requires { ⌜ (kind ≡ 3 → ⊥) × (1 ≤ n) × (n ≤ 2) × (place < stackLimit) ⌝ }
+    requires { ⌜ Formed (format1 .limit) (now items) (now values) a × (n ≡ 2 → Formed (format1 .limit) (now items) (now values) b) ⌝ }
+    ensures { λ r. ⌜ ((u : ListDefinitions) (x : Val) → Answered (compute u op (take n (valIn items values a ∷ valIn items values b ∷ x ∷ [])) (kindAt kind)) place r
         (now (items .entry)) (now (items .entry)) (now (values .entry)) (now (values .entry))) ⌝ }
 {
-    let outcome = native_function_call::scalar(op, kind, count, a, b, items, values);
-    match outcome {
-        Outcome::Value(value) => Step::Put { place, value },
-        Outcome::Refused(number) => Step::No(number),
+    let ka = ink_value::kind(a);
+    let za = ink_value::whole_in(a);
+    let xa = ink_value::real_in(a);
+    let sa = ink_value::start_of(a);
+    let na = ink_value::len_of(a);
+    let kb = ink_value::kind(b);
+    let zb = ink_value::whole_in(b);
+    let xb = ink_value::real_in(b);
+    let sb = ink_value::start_of(b);
+    let nb = ink_value::len_of(b);
+    match kind {
+        0 => {
+            let t = test(op, n, ka, za, xa, sa, na, kb, zb, xb, sb, nb, items, values);
+            Step::Put {
+                place,
+                value: Value::Bool(t),
+            }
+        }
+        1 => whole_result(
+            whole(op, n, ka, za, xa, sa, na, kb, zb, xb, sb, nb, values),
+            place,
+        ),
+        2 => {
+            let x = real(op, n, ka, za, xa, sa, na, kb, zb, xb, sb, nb, values);
+            Step::Put {
+                place,
+                value: Value::Float(x),
+            }
+        }
+        _ => Step::Put {
+            place,
+            value: Value::Void,
+        },
     }
 }
 
@@ -165,7 +211,7 @@ fn list_result(
     work_values: &mut [i32],
 ) -> Step
     requires { ⌜ Known (now ends) (now defined) × Roomy (now «work_items») (now «work_values») × (1 ≤ count) × (count ≤ 3) × (place < stackLimit) ⌝ }
-    requires { ⌜ Formed (format1 .limit) (now «work_items») (now «work_values») a × Formed (format1 .limit) (now «work_items») (now «work_values») b × Formed (format1 .limit) (now «work_items») (now «work_values») c ⌝ }
+    requires { ⌜ FirstFormed (format1 .limit) (now «work_items») (now «work_values») count a b c ⌝ }
     requires { ⌜ Rising (format1 .limit) (written (compute (definitions (now ends) (now defined) (format1 .limit)) op (take count (valOf (now «work_items») (now «work_values») a ∷ valOf (now «work_items») (now «work_values») b ∷ valOf (now «work_items») (now «work_values») c ∷ [])) listK)) ⌝ }
     ensures { λ r. ⌜ Answered (compute (definitionsIn ends defined (format1 .limit)) op (take count (valIn «work_items» «work_values» a ∷ valIn «work_items» «work_values» b ∷ valIn «work_items» «work_values» c ∷ [])) listK) place r
         (now («work_items» .entry)) (now («work_items» .exit)) (now («work_values» .entry)) (now («work_values» .exit)) ⌝ }
@@ -196,8 +242,8 @@ fn list_result(
     }
 }
 
-// An operator on the first `count` of three operands, all well formed.
-fn operate_formed(
+// An operator on the first `count` of three operands: questions 8 and 10 to 16, and its result at a place of the stack.
+fn operate(
     op: u8,
     count: usize,
     a: Value,
@@ -210,11 +256,17 @@ fn operate_formed(
     work_values: &mut [i32],
 ) -> Step
     requires { ⌜ Known (now ends) (now defined) × Roomy (now «work_items») (now «work_values») × (place < stackLimit) ⌝ }
-    requires { ⌜ Formed (format1 .limit) (now «work_items») (now «work_values») a × Formed (format1 .limit) (now «work_items») (now «work_values») b × Formed (format1 .limit) (now «work_items») (now «work_values») c ⌝ }
+    requires { ⌜ FirstFormed (format1 .limit) (now «work_items») (now «work_values») count a b c ⌝ }
     ensures { λ r. ⌜ Answered (call (definitionsIn ends defined (format1 .limit)) op count (take count (valIn «work_items» «work_values» a ∷ valIn «work_items» «work_values» b ∷ valIn «work_items» «work_values» c ∷ []))) place r
         (now («work_items» .entry)) (now («work_items» .exit)) (now («work_values» .entry)) (now («work_values» .exit)) ⌝ }
 {
-    let kind = native_function_call::kinds(op, count, a, b, c);
+    let kind = native_function_call::kinds(
+        op,
+        count,
+        ink_value::kind(a),
+        ink_value::kind(b),
+        ink_value::kind(c),
+    );
     if 4 < kind {
         return Step::No(kind);
     }
@@ -241,48 +293,6 @@ fn operate_formed(
         &work_items[..],
         &work_values[..],
         place,
-    )
-}
-
-// An operand that is used, or Void in its place.
-fn used(yes: bool, v: Value) -> Value
-    ensures { λ r. ⌜ r ≡ cond yes v Is.Void ⌝ }
-{
-    if yes { v } else { Value::Void }
-}
-
-// An operator on the first `count` of three operands: questions 8 and 10 to 16, and its result at a place of the stack.
-fn operate(
-    op: u8,
-    count: usize,
-    a: Value,
-    b: Value,
-    c: Value,
-    ends: &[u16],
-    defined: &[i32],
-    place: usize,
-    work_items: &mut [u16],
-    work_values: &mut [i32],
-) -> Step
-    requires { ⌜ Known (now ends) (now defined) × Roomy (now «work_items») (now «work_values») × (place < stackLimit) ⌝ }
-    requires { ⌜ FirstFormed (format1 .limit) (now «work_items») (now «work_values») count a b c ⌝ }
-    ensures { λ r. ⌜ Answered (call (definitionsIn ends defined (format1 .limit)) op count (take count (valIn «work_items» «work_values» a ∷ valIn «work_items» «work_values» b ∷ valIn «work_items» «work_values» c ∷ []))) place r
-        (now («work_items» .entry)) (now («work_items» .exit)) (now («work_values» .entry)) (now («work_values» .exit)) ⌝ }
-{
-    let x = used(0 < count, a);
-    let y = used(1 < count, b);
-    let z = used(2 < count, c);
-    operate_formed(
-        op,
-        count,
-        x,
-        y,
-        z,
-        ends,
-        defined,
-        place,
-        work_items,
-        work_values,
     )
 }
 

@@ -1,3 +1,4 @@
+-- `stepping::list_result` meets its contract. Assumes nothing.
 use native.Mathlib.Omega.{arith}
 use Rattle.pack.specs.Format.{format1}
 use Rattle.ink_value.proofs.Reading.{few-in}

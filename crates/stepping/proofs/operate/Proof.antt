@@ -1,33 +1,50 @@
--- `stepping::operate` meets its contract: Void in the place of an operand that is not used changes nothing. Assumes nothing.
-use mathlib.Core.Path.{sym, ap, _∙_, subst}
-use mathlib.Core.List.{List}
-use Rattle.ink_value.specs.Val.{Val}
-use Rattle.ink_value.specs.Value.{Formed}
-use Rattle.ink_value.specs.declared.Value.{Value}
-use Rattle.ink_value.proofs.Reading.{ap3}
-use Rattle.native_function_call.specs.Apply.{call}
+-- `stepping::operate` meets its contract. Assumes nothing.
+use mathlib.Core.Path.{_≡_, refl, ap, _∙_, subst}
+use Prim.Native.Nat.{ℕ}
+use native.Mathlib.Omega.{arith}
+use Rattle.ink_number.specs.Answer.{Answer}
+use Rattle.ink_list.specs.Entries.{Rising}
+use Rattle.ink_value.specs.Val.{Val, kindAt}
+use Rattle.ink_value.specs.Value.{valOf, written}
+use Rattle.native_function_call.specs.Apply.{compute}
 use Rattle.native_function_call.specs.Lists.{definitions}
 use Rattle.pack.specs.Format.{format1}
-use Rattle.stepping.proofs.Operating.{operandsOf, used-take, used-formed, answered-is}
+use Rattle.stepping.proofs.Operating.{operandsOf, call-rises, call-computes, call-stops, answered-is}
 use borrow.Author.Needs.{needs}
 use Rattle.stepping.proofs.operate.Statement.{statement}
 use Rattle.stepping.proofs.operate.Tie as tie
 
-used-requires : tie.Need-used-requires
-used-requires c κs = search needs
+kind-requires : tie.Need-kind-requires
+kind-requires c κs = search needs
 
-used-requires-2 : tie.Need-used-requires-2
-used-requires-2 c κs = search needs
+kind-requires-2 : tie.Need-kind-requires-2
+kind-requires-2 c κs = search needs
 
-used-requires-3 : tie.Need-used-requires-3
-used-requires-3 c κs = search needs
+kind-requires-3 : tie.Need-kind-requires-3
+kind-requires-3 c κs = search needs
 
-operate-formed-requires : tie.Need-operate-formed-requires
-operate-formed-requires c κs =
+kinds-requires : tie.Need-kinds-requires
+kinds-requires c κs = search needs
+
+returns : tie.Need-returns
+returns c =
     let s = c .before .before .before .before .before .before .before in
-    let f = used-formed (s .args .work-items .now) (s .args .work-values .now) (s .args .count) (s .args .a) (s .args .b) (s .args .c) (s .pre .1) in
-    let formed : Value → Type 0 = λ v. Formed (format1 .limit) (s .args .work-items .now) (s .args .work-values .now) v in
-    (s .pre .0, (subst formed (sym (c .before .before .before .before .used .ensures)) (f .0), subst formed (sym (c .before .before .before .used2 .ensures)) (f .1), subst formed (sym (c .before .before .used3 .ensures)) (f .2)))
+    let is = s .args .work-items .now in
+    let vs = s .args .work-values .now in
+    let u = definitions (s .args .ends .now) (s .args .defined .now) (format1 .limit) in
+    record { by = record { refused = call-stops is vs (s .args .a) (s .args .b) (s .args .c) u (s .args .op) (s .args .count) (c .before .before .before .before .kind .ensures .0) (c .before .before .before .kind2 .ensures .0) (c .before .before .kind3 .ensures .0) (c .before .kinds .ensures) (c .if1 .taken); items-same = refl; values-same = refl } }
+
+list-result-requires : tie.Need-list-result-requires
+list-result-requires c κs =
+    let s = c .before .before .before .before .before .before .before .before .before .before in
+    let is = s .args .work-items .now in
+    let vs = s .args .work-values .now in
+    let u = definitions (s .args .ends .now) (s .args .defined .now) (format1 .limit) in
+    let few = c .before .before .before .if1 .left in
+    let g = c .before .before .before .before .kinds .ensures .counted (omega arith) in
+    let e = call-computes is vs (s .args .a) (s .args .b) (s .args .c) u (s .args .op) (s .args .count) (c .before .before .before .before .before .before .before .kind .ensures .0) (c .before .before .before .before .before .before .kind2 .ensures .0) (c .before .before .before .before .before .kind3 .ensures .0) (c .before .before .before .before .kinds .ensures) (omega arith) ∙ ap (λ (j : ℕ). compute u (s .args .op) (operandsOf is vs (s .args .a) (s .args .b) (s .args .c) (s .args .count)) (kindAt j)) (c .before .before .if2 .taken) in
+    let up = call-rises is vs (s .args .a) (s .args .b) (s .args .c) u (s .args .op) (s .args .count) (s .pre .1) refl (s .pre .0 .0 .within) in
+    ((s .pre .0 .0, s .pre .0 .1, g .0, g .1, s .pre .0 .2), (s .pre .1, subst (λ (x : Answer Val). Rising (format1 .limit) (written x)) e up))
 
 same-length : tie.Need-same-length
 same-length c = search needs
@@ -35,23 +52,52 @@ same-length c = search needs
 same-length-2 : tie.Need-same-length-2
 same-length-2 c = search needs
 
-returns : tie.Need-returns
-returns c =
-    let s = c .before .before .before .before .before .before .before .before .before .before .before in
-    let u = definitions (s .args .ends .now) (s .args .defined .now) (format1 .limit) in
+returns-2 : tie.Need-returns-2
+returns-2 c =
+    let s = c .before .before .before .before .before .before .before .before .before .before .before .before .before .before in
     let is = s .args .work-items .now in
     let vs = s .args .work-values .now in
-    let same = ap3 (λ (x y z : Value). operandsOf is vs x y z (s .args .count)) (c .before .before .before .before .before .before .before .before .used .ensures) (c .before .before .before .before .before .before .before .used2 .ensures) (c .before .before .before .before .before .before .used3 .ensures) ∙ used-take is vs (s .args .count) (s .args .a) (s .args .b) (s .args .c) in
-    answered-is _ _ _ _ _ _ _ _ (sym (ap (λ (l : List Val). call u (s .args .op) (s .args .count) l) same)) (c .before .before .before .operate-formed .ensures)
+    let u = definitions (s .args .ends .now) (s .args .defined .now) (format1 .limit) in
+    let few = c .before .before .before .before .before .before .before .if1 .left in
+    answered-is _ _ _ _ _ _ _ _ (call-computes is vs (s .args .a) (s .args .b) (s .args .c) u (s .args .op) (s .args .count) (c .before .before .before .before .before .before .before .before .before .before .before .kind .ensures .0) (c .before .before .before .before .before .before .before .before .before .before .kind2 .ensures .0) (c .before .before .before .before .before .before .before .before .before .kind3 .ensures .0) (c .before .before .before .before .before .before .before .before .kinds .ensures) (omega arith) ∙ ap (λ (j : ℕ). compute u (s .args .op) (operandsOf is vs (s .args .a) (s .args .b) (s .args .c) (s .args .count)) (kindAt j)) (c .before .before .before .before .before .before .if2 .taken)) (c .before .before .before .list-result .ensures)
+
+scalar-result-requires : tie.Need-scalar-result-requires
+scalar-result-requires c κs =
+    let s = c .before .before .before .before .before .before .before .before .before .before in
+    let few = c .before .before .before .if1 .left in
+    let g = c .before .before .before .before .kinds .ensures .counted (omega arith) in
+    let n3 : s .args .count ≡ 3 → ⊥ = λ e. c .before .before .if2 .left (g .2 e) in
+    ((c .before .before .if2 .left, g .0, omega (arith, n3, g .1), s .pre .0 .2), (s .pre .1 .one (g .0), λ t. s .pre .1 .two (omega arith)))
+
+same-length-3 : tie.Need-same-length-3
+same-length-3 c = search needs
+
+same-length-4 : tie.Need-same-length-4
+same-length-4 c = search needs
+
+returns-3 : tie.Need-returns-3
+returns-3 c =
+    let s = c .before .before .before .before .before .before .before .before .before .before .before in
+    let is = s .args .work-items .now in
+    let vs = s .args .work-values .now in
+    let u = definitions (s .args .ends .now) (s .args .defined .now) (format1 .limit) in
+    let few = c .before .before .before .before .if1 .left in
+    answered-is _ _ _ _ _ _ _ _ (call-computes is vs (s .args .a) (s .args .b) (s .args .c) u (s .args .op) (s .args .count) (c .before .before .before .before .before .before .before .before .kind .ensures .0) (c .before .before .before .before .before .before .before .kind2 .ensures .0) (c .before .before .before .before .before .before .kind3 .ensures .0) (c .before .before .before .before .before .kinds .ensures) (omega arith)) (c .scalar-result .ensures u (valOf is vs (s .args .c)))
 
 pub operate-spec : {M : Type 1} → statement M
 operate-spec =
     tie.close
     (tie.spec
-    used-requires
-    used-requires-2
-    used-requires-3
-    operate-formed-requires
+    kind-requires
+    kind-requires-2
+    kind-requires-3
+    kinds-requires
+    returns
+    list-result-requires
     same-length
     same-length-2
-    returns)
+    returns-2
+    scalar-result-requires
+    same-length-3
+    same-length-4
+    returns-3)

@@ -1,40 +1,137 @@
+-- `stepping::scalar_result` meets its contract. Assumes nothing.
+use mathlib.Core.Path.{sym, ap, _∙_}
+use mathlib.Core.Bool.{Bool}
 use native.Mathlib.Omega.{arith}
-use mathlib.Core.List.{[]}
-use Rattle.pack.specs.Format.{format1}
+use lib.Ieee.{Float}
+use Rattle.ink_number.specs.Answer.{gives}
+use Rattle.ink_number.proofs.Signed.{returned}
+use Rattle.ink_value.specs.Val.{bool, float, kindAt}
 use Rattle.ink_value.specs.Value.{valOf}
-use Rattle.ink_value.proofs.Reading.{formed-limit}
-use Rattle.native_function_call.proofs.Calling.{scalar-gave}
-use Rattle.stepping.proofs.Putting.{plain-value, refusal}
-use Rattle.stepping.proofs.Operating.{scalar-plain}
+use Rattle.ink_value.proofs.Reading.{few-in}
+use Rattle.native_function_call.specs.Apply.{compute}
+use Rattle.native_function_call.proofs.Applying.{kind-other}
+use Rattle.pack.specs.Format.{format1}
+use Rattle.stepping.proofs.Putting.{scalar-put}
+use Rattle.stepping.proofs.Operating.{spans-in, operand-in, computes-two, answered-is}
 use borrow.Author.Needs.{needs}
 use Rattle.stepping.proofs.scalar_result.Statement.{statement}
 use Rattle.stepping.proofs.scalar_result.Tie as tie
 
-scalar-requires : tie.Need-scalar-requires
-scalar-requires c κs =
-    let s = c .before in
-    ((s .pre .0 .0, s .pre .0 .1, s .pre .0 .2), (formed-limit (format1 .limit) _ _ 65536 (s .args .a) (omega arith) (s .pre .1 .0), formed-limit (format1 .limit) _ _ 65536 (s .args .b) (omega arith) (s .pre .1 .1)))
+kind-requires : tie.Need-kind-requires
+kind-requires c κs = search needs
 
-enum-known-outcome : tie.Need-enum-known-outcome
-enum-known-outcome c = search needs
+whole-in-requires : tie.Need-whole-in-requires
+whole-in-requires c κs = search needs
 
-enum-known-outcome-2 : tie.Need-enum-known-outcome-2
-enum-known-outcome-2 c = search needs
+real-in-requires : tie.Need-real-in-requires
+real-in-requires c κs = search needs
+
+start-of-requires : tie.Need-start-of-requires
+start-of-requires c κs = search needs
+
+len-of-requires : tie.Need-len-of-requires
+len-of-requires c κs = search needs
+
+kind-requires-2 : tie.Need-kind-requires-2
+kind-requires-2 c κs = search needs
+
+whole-in-requires-2 : tie.Need-whole-in-requires-2
+whole-in-requires-2 c κs = search needs
+
+real-in-requires-2 : tie.Need-real-in-requires-2
+real-in-requires-2 c κs = search needs
+
+start-of-requires-2 : tie.Need-start-of-requires-2
+start-of-requires-2 c κs = search needs
+
+len-of-requires-2 : tie.Need-len-of-requires-2
+len-of-requires-2 c κs = search needs
+
+test-requires : tie.Need-test-requires
+test-requires c κs =
+    let s = c .before .before .before .before .before .before .before .before .before .before .before .before in
+    let is = s .args .items .now in
+    let vs = s .args .values .now in
+    (s .pre .0 .1, s .pre .0 .2, spans-in is vs (s .args .a) (c .before .before .before .before .before .before .before .start-of .ensures) (c .before .before .before .before .before .before .len-of .ensures) (s .pre .1 .0), λ t. spans-in is vs (s .args .b) (c .before .before .start-of2 .ensures) (c .before .len-of2 .ensures) (s .pre .1 .1 t))
+
+whole-requires : tie.Need-whole-requires
+whole-requires c κs =
+    let s = c .before .before .before .before .before .before .before .before .before .before .before .before in
+    let is = s .args .items .now in
+    let vs = s .args .values .now in
+    (s .pre .0 .1, s .pre .0 .2, spans-in is vs (s .args .a) (c .before .before .before .before .before .before .before .start-of .ensures) (c .before .before .before .before .before .before .len-of .ensures) (s .pre .1 .0) .values-in, omega (arith, c .before .before .before .before .before .before .len-of .ensures, few-in (format1 .limit) is vs (s .args .a) (s .pre .1 .0)), λ t. spans-in is vs (s .args .b) (c .before .before .start-of2 .ensures) (c .before .len-of2 .ensures) (s .pre .1 .1 t) .values-in)
+
+whole-result-requires : tie.Need-whole-result-requires
+whole-result-requires c κs = search needs
+
+real-requires : tie.Need-real-requires
+real-requires c κs =
+    let s = c .before .before .before .before .before .before .before .before .before .before .before .before in
+    let is = s .args .items .now in
+    let vs = s .args .values .now in
+    (s .pre .0 .1, s .pre .0 .2, spans-in is vs (s .args .a) (c .before .before .before .before .before .before .before .start-of .ensures) (c .before .before .before .before .before .before .len-of .ensures) (s .pre .1 .0) .values-in, λ t. spans-in is vs (s .args .b) (c .before .before .start-of2 .ensures) (c .before .len-of2 .ensures) (s .pre .1 .1 t) .values-in)
 
 returns : tie.Need-returns
+unfolding compute
 returns c =
-    let s = c .before .before .before .before .before in
-    λ u x.
-    let g = scalar-gave u (s .args .op) (s .args .kind) (s .args .count) (valOf (s .args .items .now) (s .args .values .now) (s .args .a)) (valOf (s .args .items .now) (s .args .values .now) (s .args .b)) x {oi = []} {ov = []} (s .pre .0 .0) (s .pre .0 .1) (s .pre .0 .2) (c .before .before .before .scalar .ensures u) in
-    plain-value (s .args .place) (s .pre .0 .3) (s .args .items .now) (s .args .values .now) _ _ (g .answered) (scalar-plain u (s .args .op) _ (s .args .kind) (s .pre .0 .0)) _ (c .before .outcome .given .1)
+    let s = c .before .before .before .before .before .before .before .before .before .before .before .before .before in
+    let is = s .args .items .now in
+    let vs = s .args .values .now in
+    λ u x. scalar-put _ (s .args .place) _ is vs (s .pre .0 .3) (λ q. omega arith)
+    (computes-two u (s .args .op) (s .args .n) (valOf is vs (s .args .a)) (valOf is vs (s .args .b)) x (s .pre .0 .1) (s .pre .0 .2) (ap kindAt (c .before .match .keys1)) ∙ sym (ap (λ (t : Bool). gives (bool t)) (c .test .ensures (s .args .a) (s .args .b)
+    (operand-in is vs (s .args .a) (c .before .before .before .before .before .before .before .before .start-of .ensures) (c .before .before .before .before .before .before .before .len-of .ensures) (s .pre .1 .0) (c .before .before .before .before .before .before .before .before .before .before .before .kind .ensures .0) (returned (c .before .before .before .before .before .before .before .before .before .before .whole-in .ok) ∙ c .before .before .before .before .before .before .before .before .before .before .whole-in .ensures) (c .before .before .before .before .before .before .before .before .before .real-in .ensures))
+    (λ t. operand-in is vs (s .args .b) (c .before .before .before .start-of2 .ensures) (c .before .before .len-of2 .ensures) (s .pre .1 .1 t) (c .before .before .before .before .before .before .kind2 .ensures .0) (returned (c .before .before .before .before .before .whole-in2 .ok) ∙ c .before .before .before .before .before .whole-in2 .ensures) (c .before .before .before .before .real-in2 .ensures)))))
 
 returns-2 : tie.Need-returns-2
+unfolding compute
 returns-2 c =
-    let s = c .before .before .before .before .before in
-    λ u x.
-    let g = scalar-gave u (s .args .op) (s .args .kind) (s .args .count) (valOf (s .args .items .now) (s .args .values .now) (s .args .a)) (valOf (s .args .items .now) (s .args .values .now) (s .args .b)) x {oi = []} {ov = []} (s .pre .0 .0) (s .pre .0 .1) (s .pre .0 .2) (c .before .before .before .scalar .ensures u) in
-    refusal _ _ (s .args .place) (s .args .items .now) (s .args .values .now) (g .answered) _ (c .before .outcome2 .given .1)
+    let s = c .before .before .before .before .before .before .before .before .before .before .before .before .before .before in
+    let is = s .args .items .now in
+    let vs = s .args .values .now in
+    λ u x. answered-is _ _ (s .args .place) _ is is vs vs
+    (computes-two u (s .args .op) (s .args .n) (valOf is vs (s .args .a)) (valOf is vs (s .args .b)) x (s .pre .0 .1) (s .pre .0 .2) (ap kindAt (c .before .before .match .keys2)) ∙ sym (c .before .whole .ensures (s .args .a) (s .args .b) is
+    (operand-in is vs (s .args .a) (c .before .before .before .before .before .before .before .before .before .start-of .ensures) (c .before .before .before .before .before .before .before .before .len-of .ensures) (s .pre .1 .0) (c .before .before .before .before .before .before .before .before .before .before .before .before .kind .ensures .0) (returned (c .before .before .before .before .before .before .before .before .before .before .before .whole-in .ok) ∙ c .before .before .before .before .before .before .before .before .before .before .before .whole-in .ensures) (c .before .before .before .before .before .before .before .before .before .before .real-in .ensures))
+    (λ t. operand-in is vs (s .args .b) (c .before .before .before .before .start-of2 .ensures) (c .before .before .before .len-of2 .ensures) (s .pre .1 .1 t) (c .before .before .before .before .before .before .before .kind2 .ensures .0) (returned (c .before .before .before .before .before .before .whole-in2 .ok) ∙ c .before .before .before .before .before .before .whole-in2 .ensures) (c .before .before .before .before .before .real-in2 .ensures)))) (c .whole-result .ensures is vs)
+
+returns-3 : tie.Need-returns-3
+unfolding compute
+returns-3 c =
+    let s = c .before .before .before .before .before .before .before .before .before .before .before .before .before in
+    let is = s .args .items .now in
+    let vs = s .args .values .now in
+    λ u x. scalar-put _ (s .args .place) _ is vs (s .pre .0 .3) (λ q. omega arith)
+    (computes-two u (s .args .op) (s .args .n) (valOf is vs (s .args .a)) (valOf is vs (s .args .b)) x (s .pre .0 .1) (s .pre .0 .2) (ap kindAt (c .before .match .keys3)) ∙ sym (ap (λ (y : Float). gives (float y)) (c .real .ensures (s .args .a) (s .args .b) is
+    (operand-in is vs (s .args .a) (c .before .before .before .before .before .before .before .before .start-of .ensures) (c .before .before .before .before .before .before .before .len-of .ensures) (s .pre .1 .0) (c .before .before .before .before .before .before .before .before .before .before .before .kind .ensures .0) (returned (c .before .before .before .before .before .before .before .before .before .before .whole-in .ok) ∙ c .before .before .before .before .before .before .before .before .before .before .whole-in .ensures) (c .before .before .before .before .before .before .before .before .before .real-in .ensures))
+    (λ t. operand-in is vs (s .args .b) (c .before .before .before .start-of2 .ensures) (c .before .before .len-of2 .ensures) (s .pre .1 .1 t) (c .before .before .before .before .before .before .kind2 .ensures .0) (returned (c .before .before .before .before .before .whole-in2 .ok) ∙ c .before .before .before .before .before .whole-in2 .ensures) (c .before .before .before .before .real-in2 .ensures)))))
+
+returns-4 : tie.Need-returns-4
+unfolding compute
+returns-4 c =
+    let s = c .before .before .before .before .before .before .before .before .before .before .before .before in
+    let is = s .args .items .now in
+    let vs = s .args .values .now in
+    λ u x. scalar-put _ (s .args .place) _ is vs (s .pre .0 .3) (λ q. omega arith)
+    (computes-two u (s .args .op) (s .args .n) (valOf is vs (s .args .a)) (valOf is vs (s .args .b)) x (s .pre .0 .1) (s .pre .0 .2) (kind-other (s .args .kind) (c .match .rest .0 .0 .1) (c .match .rest .0 .1) (c .match .rest .1) (s .pre .0 .0)))
 
 pub scalar-result-spec : {M : Type 1} → statement M
 scalar-result-spec =
-    tie.close (tie.spec scalar-requires enum-known-outcome enum-known-outcome-2 returns returns-2)
+    tie.close
+    (tie.spec
+    kind-requires
+    whole-in-requires
+    real-in-requires
+    start-of-requires
+    len-of-requires
+    kind-requires-2
+    whole-in-requires-2
+    real-in-requires-2
+    start-of-requires-2
+    len-of-requires-2
+    test-requires
+    whole-requires
+    whole-result-requires
+    real-requires
+    returns
+    returns-2
+    returns-3
+    returns-4)
