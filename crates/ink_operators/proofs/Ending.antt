@@ -1,31 +1,21 @@
 -- A run ends in a value that is well formed, so that it stands whole in its words; and a run as the boundary says it. Assumes nothing.
 use mathlib.Core.Path.{_≡_, refl, sym, ap, _∙_, subst}
-use mathlib.Core.Bool.{Bool, true, false, cond}
+use mathlib.Core.Bool.{Bool, true, false}
 use mathlib.Core.List.{List, [], _∷_, map}
-use Prim.Native.Nat.{ℕ, _+_, _≤_}
+use Prim.Native.Nat.{ℕ, _+_}
 use native.Mathlib.Omega.{arith}
-use lib.Dec.{eqb, ltb}
-use lib.IntN.{ℤ, pos}
-use lib.ListN.{length, take, List·getD-eq-default}
+use lib.Dec.{ltb}
+use lib.IntN.{ℤ}
+use lib.ListN.{length, List·getD-eq-default}
 use borrow.Author.Tests.{ltb-true, ltb-false}
 use Rattle.ink_number.specs.Answer.{Answer, gives, refuses, ask, andThen}
-use Rattle.ink_number.specs.Int.{eqZ}
 use Rattle.ink_list.specs.Entries.{Rising}
-use Rattle.ink_list.specs.Every.{_and_}
 use Rattle.ink_list.proofs.Every.{and-left, and-right}
 use Rattle.ink_list.proofs.Laws.{rising-length, rising-limit}
-use Rattle.list_definitions.specs.Defs.{ListDefinitions}
-use Rattle.ink_value.specs.Val.{Val, bool, int, float, list, void, kindOf, codeOf}
-use Rattle.ink_value.specs.Convert.{entriesOf, truthy, asInt, asFloat, castable, converted, cast, coerceBool, coerceInt, coerceFloat}
-use Rattle.ink_value.specs.Value.{valOf, eachFormed, written, placed, Wf, AllWf}
+use Rattle.ink_value.specs.Val.{Val, bool, int, float, list, void}
+use Rattle.ink_value.specs.Value.{valOf, Wf, AllWf}
 use Rattle.ink_value.specs.declared.Value.{Value}
-use Rattle.ink_value.specs.declared.Outcome.{Outcome}
-use Rattle.ink_value.proofs.Forming.{formed-yes}
-use Rattle.ink_value.proofs.Results.{entries-wf}
-use Rattle.native_function_call.specs.Apply.{call, applyOp}
-use Rattle.kind_table.specs.Kinds.{known, arity}
-use Rattle.native_function_call.specs.Lists.{definitions}
-use Rattle.native_function_call.proofs.Results.{apply-fine}
+use Rattle.native_function_call.specs.Apply.{applyOp}
 use Rattle.pack.specs.Bodies.{Literal, Pack, decoded}
 use Rattle.pack.specs.Contents.{literalCount}
 use Rattle.pack.specs.Format.{format1}
@@ -35,7 +25,6 @@ use Rattle.pack.specs.Read.{definedOf, endsOf, definitionsOf, literalOf, sheetO
 use Rattle.pack.proofs.Judged.{judged}
 use Rattle.pack.proofs.Listed.{literal-formed, literals-long}
 use Rattle.pack.proofs.Values.{pack-tables}
-use Rattle.calls.specs.Call.{operandsOk, resultsOk, called, castTo, coerced, onPack}
 use Rattle.sheet.specs.Machine.{End, ended, stopped, Run, finish, onward, step, runFrom, valuePushed}
 use Rattle.sheet.specs.Whole.{opened}
 use Rattle.sheet.proofs.Wellformed.{WfStep, step-wf}

@@ -4,14 +4,9 @@ use mathlib.Core.List.{List, [], _∷_}
 use Prim.Native.Nat.{ℕ, _<_}
 use lib.IntN.{ℤ, pos}
 use lib.ListN.{length, getD, replicate}
-use Rattle.ink_number.specs.Answer.{Answer, gives, refuses}
-use Rattle.ink_list.specs.Entries.{items, values}
+use Rattle.ink_number.specs.Answer.{Answer, gives}
 use Rattle.ink_list.specs.Filled.{over}
 use Rattle.ink_value.specs.Val.{Val}
-use Rattle.ink_value.specs.Value.{placed, written}
-use Rattle.ink_value.specs.declared.Outcome.{Outcome}
-use Rattle.ink_value.specs.declared.Outcome.the-variants as Out
-use Rattle.ink_value.specs.declared.Value.{Value}
 use Rattle.pack.specs.Bodies.{Pack, decoded}
 use Rattle.pack.specs.Format.{format1, definitionLimit}
 use Rattle.pack.specs.Judge.{judge}

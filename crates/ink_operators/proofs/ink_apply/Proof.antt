@@ -1,41 +1,52 @@
--- `ink_operators::ink_apply` meets its contract: the answer of `calls::call_formed` on the operands that the words hold. Assumes nothing.
-use mathlib.Core.Path.{_∙_}
-use mathlib.Core.List.{List, [], _∷_}
-use lib.ListN.{take}
-use Rattle.ink_value.specs.declared.Value.{Value}
-use Rattle.calls.specs.Call.{operandsOk, called}
+-- `ink_operators::ink_apply` meets its contract: numbers by their words, and else the operator on values. Assumes nothing.
+use mathlib.Core.Path.{_≡_, sym, ap, _∙_}
+use native.Mathlib.Omega.{arith}
+use Rattle.kind_table.specs.Kinds.{kindCall}
 use Rattle.native_function_call.specs.Lists.{definitions}
 use Rattle.pack.specs.Format.{format1}
-use Rattle.value_words.proofs.Saying.{calls, operands}
-use Rattle.value_words.proofs.Few.{small-outcome, called-few}
+use Rattle.value_words.specs.Words.{valueAt}
+use Rattle.value_words.proofs.Operands.{both-numbers, number-kinds}
+use Rattle.value_words.proofs.Called.{called-two}
+use Rattle.value_words.proofs.Saying.{calls-is, said-calls}
 use borrow.Author.Needs.{needs}
 use Rattle.ink_operators.proofs.ink_apply.Statement.{statement}
 use Rattle.ink_operators.proofs.ink_apply.Tie as tie
 
-operand-at-requires : tie.Need-operand-at-requires
-operand-at-requires c κs = search needs
+numbers-requires : tie.Need-numbers-requires
+numbers-requires c κs = search needs
 
-operand-at-requires-2 : tie.Need-operand-at-requires-2
-operand-at-requires-2 c κs = search needs
+kind-of-requires : tie.Need-kind-of-requires
+kind-of-requires c κs = search needs
 
-operand-at-requires-3 : tie.Need-operand-at-requires-3
-operand-at-requires-3 c κs = search needs
+number-requires : tie.Need-number-requires
+number-requires c κs =
+    let s = c .before .before .before .before .before .before .before .before in
+    let is = s .args .items .now in
+    let vs = s .args .values .now in
+    let ws = s .args .operands .now in
+    let small = c .before .if2 .taken in
+    let q = c .before .before .kind-of .ensures .counted (omega arith) in
+    let n3 : s .args .count ≡ 3 → ⊥ = λ e. let three = q .2 e in omega arith in
+    let b = both-numbers (s .args .count) _ _ (sym (c .before .before .before .if1 .taken) ∙ c .before .before .before .before .numbers .ensures) in
+    ((small, q .0, omega (arith, n3, q .1)), b)
 
-call-formed-requires : tie.Need-call-formed-requires
-call-formed-requires c κs =
-    let s = c .before .before .before .before .before .before .before .before in (
-      s .pre .0,
-      (
-        operands (λ (l : List Value). operandsOk (definitions (s .args .ends .now) (s .args .defined .now) (format1 .limit)) (s .args .items .now) (s .args .values .now) (take (s .args .count) l)) _ _ _ _ _ _ (c .before .before .before .before .operand-at .ensures) (c .before .before .before .operand-at2 .ensures) (c .before .before .operand-at3 .ensures) ∙ s .pre .1 .0,
-        s .pre .1 .1,
-      ),
-    )
+returns : tie.Need-returns
+returns c =
+    let s = c .before .before .before .before .before .before .before .before .before in
+    let is = s .args .items .now in
+    let vs = s .args .values .now in
+    let ws = s .args .operands .now in
+    let small = c .before .before .if2 .taken in
+    let q = c .before .before .before .kind-of .ensures .counted (omega arith) in
+    let n3 : s .args .count ≡ 3 → ⊥ = λ e. let three = q .2 e in omega arith in
+    let b = both-numbers (s .args .count) _ _ (sym (c .before .before .before .before .if1 .taken) ∙ c .before .before .before .before .before .numbers .ensures) in
+    let g = ap (kindCall (s .args .op) (s .args .count)) (number-kinds is vs ws (s .args .count) (q .0) (omega (arith, n3, q .1)) (b .0) (b .1)) ∙ sym (c .before .before .before .kind-of .ensures .answered) in
+    let l3 : c .before .before .before .kind-of .result ≡ 3 → ⊥ = λ e. omega arith in
+    calls-is (called-two (s .args .ends .now) (s .args .defined .now) is vs (s .args .result-items .now) (s .args .result-values .now) (valueAt ws 0) (valueAt ws 1) (valueAt ws 2) (s .args .op) (s .args .count) (s .pre .0) (s .pre .1 .0) (s .pre .1 .1 .0) (s .pre .1 .1 .1) (c .before .before .before .kind-of .result) g (omega arith) (q .0) (omega (arith, n3, q .1)))
+    (said-calls (definitions (s .args .ends .now) (s .args .defined .now) (format1 .limit)) (s .args .op) _ (c .before .before .before .kind-of .result) l3 _ _ _ _ (c .number .ensures (definitions (s .args .ends .now) (s .args .defined .now) (format1 .limit)) is vs))
 
-outcome-requires : tie.Need-outcome-requires
-outcome-requires c κs =
-    let s = c .before .before .before .before .before .before .before .before .before .before .before .before .before in
-    let l = c .before .before .before .before .before .before .before .before .before .operand-at .result ∷ c .before .before .before .before .before .before .before .before .operand-at2 .result ∷ c .before .before .before .before .before .before .before .operand-at3 .result ∷ [] in
-    small-outcome (called (s .args .items .now) (s .args .values .now) (s .args .result-items .now) (s .args .result-values .now) (s .args .op) (s .args .count) l (definitions (s .args .ends .now) (s .args .defined .now) (format1 .limit))) _ (c .before .before .before .before .call-formed .ensures .answered) (called-few (s .args .ends .now) (s .args .defined .now) (s .pre .0 .within) (s .args .items .now) (s .args .values .now) (s .args .result-items .now) (s .args .result-values .now) (s .args .op) (s .args .count) l)
+apply-requires : tie.Need-apply-requires
+apply-requires c κs = search needs
 
 same-length : tie.Need-same-length
 same-length c = search needs
@@ -43,20 +54,18 @@ same-length c = search needs
 same-length-2 : tie.Need-same-length-2
 same-length-2 c = search needs
 
-returns : tie.Need-returns
-returns c =
-    let s = c .before .before .before .before .before .before .before .before .before .before .before .before .before .before in
-    calls _ _ _ _ _ _ _ _ _ (operands (λ (l : List Value). called (s .args .items .now) (s .args .values .now) (s .args .result-items .now) (s .args .result-values .now) (s .args .op) (s .args .count) l (definitions (s .args .ends .now) (s .args .defined .now) (format1 .limit))) _ _ _ _ _ _ (c .before .before .before .before .before .before .before .before .before .before .operand-at .ensures) (c .before .before .before .before .before .before .before .before .before .operand-at2 .ensures) (c .before .before .before .before .before .before .before .before .operand-at3 .ensures)) (c .before .before .before .before .before .call-formed .ensures) (c .outcome .ensures)
+returns-2 : tie.Need-returns-2
+returns-2 c = search needs
 
 pub ink-apply-spec : {M : Type 1} → statement M
 ink-apply-spec =
     tie.close
     (tie.spec
-    operand-at-requires
-    operand-at-requires-2
-    operand-at-requires-3
-    call-formed-requires
-    outcome-requires
+    numbers-requires
+    kind-of-requires
+    number-requires
+    returns
+    apply-requires
     same-length
     same-length-2
-    returns)
+    returns-2)
