@@ -146,7 +146,7 @@ fn list(origins: u64, start: usize, len: usize) -> Value {
 }
 
 fn float(bits: u32) -> Value {
-    Value::Float(ink_number::convert::float_from_bits(bits))
+    Value::Float(ink_float::convert::float_from_bits(bits))
 }
 
 fn call(name: &[u8], op: u8, count: usize, a: Value, b: Value, c: Value) {

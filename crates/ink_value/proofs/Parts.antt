@@ -11,7 +11,7 @@ use lib.ListN.{length, take, drop}
 use mir.Syntax.{w32}
 use mir.Val.{SFits}
 use Rattle.ink_number.specs.Int.{truthyZ}
-use Rattle.ink_number.specs.Real.{ofInt32, toInt32, truthyF}
+use Rattle.ink_float.specs.Real.{ofInt32, toInt32, truthyF}
 use Rattle.ink_number.proofs.Signed.{back, back32}
 use Rattle.ink_list.specs.Ops.{valueOfList}
 use Rattle.ink_list.specs.Entries.{entries, itemNumbers, Lent}

@@ -14,7 +14,7 @@ use Rattle.ink_value.specs.Val.{list, kindOf, kindAt, codeOf}
 use Rattle.ink_value.specs.Convert.{lowerOf, upperOf, asInt, asFloat, truthy, entriesOf, originsIn}
 use Rattle.ink_value.specs.Value.{valOf, part, codeOfValue, startOf, lenOf, setIn, intOf, floatOf, truthOf, lowOf, highOf, held, Formed}
 use Rattle.ink_value.specs.declared.Value.{Value}
-use Rattle.ink_number.specs.Real.{ofInt32}
+use Rattle.ink_float.specs.Real.{ofInt32}
 use Rattle.ink_list.specs.Ops as Ops
 use Rattle.ink_list.specs.Ops.{lowerBound, upperBound, valueOfList}
 use Rattle.ink_list.proofs.Results.{lent-limit}

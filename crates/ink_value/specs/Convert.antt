@@ -7,7 +7,7 @@ use lib.IntN.{ℤ, pos}
 use lib.Ieee.{Float}
 use Rattle.ink_number.specs.Answer.{Answer, gives, refuses}
 use Rattle.ink_number.specs.Int.{eqZ, truthyZ}
-use Rattle.ink_number.specs.Real.{ofInt32, toInt32, truthyF}
+use Rattle.ink_float.specs.Real.{ofInt32, toInt32, truthyF}
 use Rattle.ink_list.specs.Entries.{Entry, items, values}
 use Rattle.ink_list.specs.Ops as Ops
 use Rattle.ink_list.specs.Ops.{lowerBound, upperBound, valueOfList}

@@ -9,7 +9,7 @@ use lib.Ieee.{Float}
 use lib.ListN.{length, take, drop}
 use Rattle.ink_number.specs.Answer.{Answer, gives, refuses}
 use Rattle.ink_number.specs.Int.{truthyZ}
-use Rattle.ink_number.specs.Real.{ofInt32, toInt32, truthyF}
+use Rattle.ink_float.specs.Real.{ofInt32, toInt32, truthyF}
 use Rattle.ink_list.specs.Ops.{lowerBound, upperBound, valueOfList}
 use Rattle.ink_list.specs.Every.{_and_}
 use Rattle.ink_list.specs.Filled.{over}

@@ -156,14 +156,14 @@ pub fn real_in(v: Value) -> f32
 {
     match v {
         Value::Float(x) => x,
-        Value::Bool(_) => ink_number::convert::int_to_float(0),
-        Value::Int(_) => ink_number::convert::int_to_float(0),
+        Value::Bool(_) => ink_float::convert::int_to_float(0),
+        Value::Int(_) => ink_float::convert::int_to_float(0),
         Value::List {
             origins: _,
             start: _,
             len: _,
-        } => ink_number::convert::int_to_float(0),
-        Value::Void => ink_number::convert::int_to_float(0),
+        } => ink_float::convert::int_to_float(0),
+        Value::Void => ink_float::convert::int_to_float(0),
     }
 }
 
@@ -172,7 +172,7 @@ pub fn number_int(kind: u8, whole: i32, real: f32) -> i32
     ensures { λ r. ⌜ ((v : Value) (vs : List ℤ) (start len : ℕ) → Parts v kind whole real start len → kind < 3 → r ≡ intOf vs v) ⌝ }
 {
     if kind == 2 {
-        return ink_number::convert::float_to_int(real);
+        return ink_float::convert::float_to_int(real);
     }
     whole
 }
@@ -183,14 +183,14 @@ pub fn number_float(kind: u8, whole: i32, real: f32) -> f32
     if kind == 2 {
         return real;
     }
-    ink_number::convert::int_to_float(whole)
+    ink_float::convert::int_to_float(whole)
 }
 
 pub fn number_truth(kind: u8, whole: i32, real: f32) -> bool
     ensures { λ r. ⌜ ((v : Value) (start len : ℕ) → Parts v kind whole real start len → kind < 3 → r ≡ truthOf v) ⌝ }
 {
     if kind == 2 {
-        return ink_number::float::truthy(real);
+        return ink_float::float::truthy(real);
     }
     ink_number::int::truthy(whole)
 }
@@ -213,8 +213,8 @@ pub fn float_from(kind: u8, whole: i32, real: f32, start: usize, len: usize, val
     ensures { λ r. ⌜ ((v : Value) → Parts v kind whole real start len → r ≡ floatOf (now (values .entry)) v) ⌝ }
 {
     match kind {
-        3 => ink_number::convert::int_to_float(greatest(values, start, len)),
-        4 => ink_number::convert::int_to_float(0),
+        3 => ink_float::convert::int_to_float(greatest(values, start, len)),
+        4 => ink_float::convert::int_to_float(0),
         _ => number_float(kind, whole, real),
     }
 }
@@ -394,7 +394,7 @@ pub fn coerce_to_int(v: Value) -> Outcome
     match v {
         Value::Bool(b) => Outcome::Value(Value::Int(bit(b))),
         Value::Int(z) => Outcome::Value(Value::Int(z)),
-        Value::Float(x) => Outcome::Value(Value::Int(ink_number::convert::float_to_int(x))),
+        Value::Float(x) => Outcome::Value(Value::Int(ink_float::convert::float_to_int(x))),
         Value::List {
             origins: _,
             start: _,
@@ -408,8 +408,8 @@ pub fn coerce_to_float(v: Value) -> Outcome
     ensures { λ r. ⌜ ((is : List ℕ) (vs : List ℤ) → r ≡ placed (coerceFloat (valOf is vs v))) ⌝ }
 {
     match v {
-        Value::Bool(b) => Outcome::Value(Value::Float(ink_number::convert::int_to_float(bit(b)))),
-        Value::Int(z) => Outcome::Value(Value::Float(ink_number::convert::int_to_float(z))),
+        Value::Bool(b) => Outcome::Value(Value::Float(ink_float::convert::int_to_float(bit(b)))),
+        Value::Int(z) => Outcome::Value(Value::Float(ink_float::convert::int_to_float(z))),
         Value::Float(x) => Outcome::Value(Value::Float(x)),
         Value::List {
             origins: _,

@@ -18,7 +18,7 @@ use Rattle.native_function_call.specs.Numbers.{arithZ, arithF, testZ, te
 use Rattle.list_definitions.specs.Defs.{ListDefinitions, originsOf}
 use Rattle.native_function_call.specs.Lists.{testL, mergeL, shiftL, unaryL, rangeL}
 use Rattle.ink_number.specs.Int.{wrap}
-use Rattle.ink_number.specs.Real.{negF, ofInt32}
+use Rattle.ink_float.specs.Real.{negF, ofInt32}
 
 -- ---- results that are Bools
 

@@ -8,7 +8,7 @@ use lib.Ieee.{Float}
 use Rattle.kind_table.specs.Op.{opAdd, opSubtract, opDivide, opMultiply, opMod, opEqual, opGreater, opLess, opGreaterThanOrEquals, opLessThanOrEquals, opNotEquals, opAnd, opMin}
 use Rattle.ink_number.specs.Answer.{Answer, gives}
 use Rattle.ink_number.specs.Int.{wrap, quotient, remainder, minZ, maxZ, eqZ, truthyZ}
-use Rattle.ink_number.specs.Real.{addF, subF, mulF, divF, remF, minF, maxF, eqF, neF, ltF, leF, truthyF}
+use Rattle.ink_float.specs.Real.{addF, subF, mulF, divF, remF, minF, maxF, eqF, neF, ltF, leF, truthyF}
 
 -- the arithmetic of two Ints; Max is the last
 unfoldable pub arithZ : ℕ → ℤ → ℤ → Answer ℤ

@@ -50,13 +50,13 @@ fn arith_float(op: u8, x: f32, y: f32) -> f32
     ensures { λ r. ⌜ r ≡ arithF op x y ⌝ }
 {
     match op {
-        0 => ink_number::float::add(x, y),
-        1 => ink_number::float::sub(x, y),
-        2 => ink_number::float::div(x, y),
-        3 => ink_number::float::mul(x, y),
-        4 => ink_number::float::rem(x, y),
-        15 => ink_number::float::min(x, y),
-        _ => ink_number::float::max(x, y),
+        0 => ink_float::float::add(x, y),
+        1 => ink_float::float::sub(x, y),
+        2 => ink_float::float::div(x, y),
+        3 => ink_float::float::mul(x, y),
+        4 => ink_float::float::rem(x, y),
+        15 => ink_float::float::min(x, y),
+        _ => ink_float::float::max(x, y),
     }
 }
 
@@ -91,14 +91,14 @@ fn test_float(op: u8, x: f32, y: f32) -> bool
     ensures { λ r. ⌜ r ≡ testF op x y ⌝ }
 {
     match op {
-        6 => ink_number::float::eq(x, y),
-        7 => ink_number::float::gt(x, y),
-        8 => ink_number::float::lt(x, y),
-        9 => ink_number::float::ge(x, y),
-        10 => ink_number::float::le(x, y),
-        11 => ink_number::float::ne(x, y),
-        13 => both(ink_number::float::truthy(x), ink_number::float::truthy(y)),
-        _ => either(ink_number::float::truthy(x), ink_number::float::truthy(y)),
+        6 => ink_float::float::eq(x, y),
+        7 => ink_float::float::gt(x, y),
+        8 => ink_float::float::lt(x, y),
+        9 => ink_float::float::ge(x, y),
+        10 => ink_float::float::le(x, y),
+        11 => ink_float::float::ne(x, y),
+        13 => both(ink_float::float::truthy(x), ink_float::float::truthy(y)),
+        _ => either(ink_float::float::truthy(x), ink_float::float::truthy(y)),
     }
 }
 
@@ -266,7 +266,7 @@ fn number_real1(op: u8, ka: u8, za: i32, xa: f32) -> f32
 {
     let x = ink_value::number_float(ka, za, xa);
     if op == 5 {
-        return ink_number::float::neg(x);
+        return ink_float::float::neg(x);
     }
     x
 }
@@ -442,7 +442,7 @@ fn real1(op: u8, ka: u8, za: i32, xa: f32, sa: usize, na: usize, values: &[i32])
 {
     let x = ink_value::float_from(ka, za, xa, sa, na, values);
     if op == 5 {
-        return ink_number::float::neg(x);
+        return ink_float::float::neg(x);
     }
     x
 }

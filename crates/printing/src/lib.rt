@@ -72,7 +72,7 @@ pub fn value(v: Value, items: &[u16], values: &[i32]) {
         }
         Value::Float(x) => {
             text(b" F ");
-            io::print_hex(STDOUT, ink_number::convert::float_to_bits(x) as u64, 8);
+            io::print_hex(STDOUT, ink_float::convert::float_to_bits(x) as u64, 8);
         }
         Value::List {
             origins: _,

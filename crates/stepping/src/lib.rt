@@ -365,7 +365,7 @@ pub fn run_step(
         Instruction::Bool(b) => push_value(Value::Bool(b), n),
         Instruction::Int(z) => push_value(Value::Int(z), n),
         Instruction::Float(b) => push_value(
-            Value::Float(ink_number::convert::float_from_bits(b)),
+            Value::Float(ink_float::convert::float_from_bits(b)),
             n,
         ),
         Instruction::List(l) => push_literal(pack, l as usize, n, work_items, work_values),

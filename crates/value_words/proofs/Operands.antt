@@ -10,7 +10,7 @@ use lib.Ieee.{Float}
 use lib.ListN.{getD, take}
 use borrow.Author.Tests.{lt-ltb, le-ltb, eqb-true, ltb-true}
 use Rattle.ink_number.specs.Int.{signed}
-use Rattle.ink_number.specs.Real.{ofBits32}
+use Rattle.ink_float.specs.Real.{ofBits32}
 use Rattle.ink_value.specs.Convert.{bitZ}
 use Rattle.ink_value.specs.Val.{Kind, kindOf, kindAt}
 use Rattle.ink_value.specs.Value.{valOf, codeOfValue, Parts, Number}

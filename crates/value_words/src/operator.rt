@@ -12,7 +12,7 @@ ghost use lib.Dec.{ltb};
 ghost use lib.IntN.{ℤ};
 ghost use lib.ListN.{length, getD, take};
 ghost use Rattle.ink_number.specs.Int.{signed, divided};
-ghost use Rattle.ink_number.specs.Real.{ofBits32};
+ghost use Rattle.ink_float.specs.Real.{ofBits32};
 ghost use Rattle.list_definitions.specs.Defs.{ListDefinitions};
 ghost use Rattle.ink_value.specs.Val.{kindAt, listK};
 ghost use Rattle.ink_list.specs.Entries.{itemNumbers};
@@ -43,7 +43,7 @@ fn whole_in(w: u64) -> i32
 fn real_in(w: u64) -> f32
     ensures { λ r. ⌜ r ≡ ofBits32 (w % 2 ^ 32) ⌝ }
 {
-    ink_number::convert::float_from_bits(words::low(w))
+    ink_float::convert::float_from_bits(words::low(w))
 }
 
 // Questions 8 and 10 to 14, which ask only for the operator, the count and the kinds: the code of the answer.

@@ -1,6 +1,6 @@
 -- `ink_value::float_from` meets its contract. Assumes nothing.
 use mathlib.Core.Path.{ap, _∙_}
-use Rattle.ink_number.specs.Real.{ofInt32}
+use Rattle.ink_float.specs.Real.{ofInt32}
 use Rattle.ink_number.proofs.Signed.{returned}
 use Rattle.ink_value.proofs.Parts.{float-list, float-void, number-kind, parts-back}
 use borrow.Author.Needs.{needs}

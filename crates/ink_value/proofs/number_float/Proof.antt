@@ -1,6 +1,6 @@
 -- `ink_value::number_float` meets its contract. Assumes nothing.
 use mathlib.Core.Path.{ap, _∙_}
-use Rattle.ink_number.specs.Real.{ofInt32}
+use Rattle.ink_float.specs.Real.{ofInt32}
 use Rattle.ink_number.proofs.Signed.{back32}
 use Rattle.ink_value.proofs.Parts.{float-real, float-whole}
 use borrow.Author.Needs.{needs}

@@ -1,7 +1,7 @@
 -- `native_function_call::real1` meets its contract. Assumes nothing.
 use mathlib.Core.Path.{ap, _∙_}
 use borrow.Author.Tests.{eq-eqb, ne-eqb}
-use Rattle.ink_number.specs.Real.{negF}
+use Rattle.ink_float.specs.Real.{negF}
 use Rattle.ink_list.specs.Entries.{itemNumbers}
 use Rattle.ink_value.proofs.Reading.{float-in}
 use Rattle.ink_value.proofs.Parts.{parts-back}

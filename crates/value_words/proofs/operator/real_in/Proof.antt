@@ -1,6 +1,6 @@
 -- `value_words::operator::real_in` meets its contract. Assumes nothing.
 use mathlib.Core.Path.{ap, _∙_}
-use Rattle.ink_number.specs.Real.{ofBits32}
+use Rattle.ink_float.specs.Real.{ofBits32}
 use borrow.Author.Needs.{needs}
 use Rattle.value_words.proofs.operator.real_in.Statement.{statement}
 use Rattle.value_words.proofs.operator.real_in.Tie as tie
