@@ -2,7 +2,7 @@
 use ink_value::Outcome;
 use ink_value::Value;
 use pack::Checked;
-use pack::format::DEFINITION_LIMIT;
+use pack_check::format::DEFINITION_LIMIT;
 ghost use mathlib.Core.Path.{_≡_};
 ghost use mathlib.Core.Bool.{true, cond};
 ghost use mathlib.Core.List.{[], _∷_};
@@ -23,7 +23,7 @@ ghost use Rattle.pack.specs.Judge.{Sound};
 ghost use Rattle.calls.specs.Call.{operandsOk, called, castTo, coerced, onPack, PackLists};
 
 // The most items of a pack, and so the entries that a result may have.
-const ITEM_LIMIT: usize = pack::format::FORMAT1.limit;
+const ITEM_LIMIT: usize = pack_check::format::FORMAT1.limit;
 
 // Question 7 of a value, with its two slices equally long.
 fn one_formed(v: Value, items: &[u16], values: &[i32], total: usize, definitions: usize) -> bool
@@ -234,7 +234,7 @@ pub fn call(
 ) -> Outcome
     ensures { λ r. ⌜ Gives (onPack format1 (now (pack .entry)) (called (now (items .entry)) (now (values .entry)) (now («result_items» .entry)) (now («result_values» .entry)) op count (a ∷ b ∷ c ∷ []))) r «result_items» «result_values» ⌝ }
 {
-    match pack::check(pack) {
+    match pack_check::check(pack) {
         Checked::Refused(number) => Outcome::Refused(number),
         Checked::Passed => call_checked(
             pack,
@@ -301,7 +301,7 @@ pub fn cast(
 ) -> Outcome
     ensures { λ r. ⌜ Gives (onPack format1 (now (pack .entry)) (castTo (now (items .entry)) (now (values .entry)) (now («result_items» .entry)) (now («result_values» .entry)) to v)) r «result_items» «result_values» ⌝ }
 {
-    match pack::check(pack) {
+    match pack_check::check(pack) {
         Checked::Refused(number) => Outcome::Refused(number),
         Checked::Passed => cast_checked(pack, to, v, items, values, result_items, result_values),
     }
@@ -311,7 +311,7 @@ pub fn cast(
 pub fn coerce_to_bool(pack: &[u8], v: Value, items: &[u16], values: &[i32]) -> Outcome
     ensures { λ r. ⌜ r ≡ placed (onPack format1 (now (pack .entry)) (coerced (now (items .entry)) (now (values .entry)) coerceBool v)) ⌝ }
 {
-    match pack::check(pack) {
+    match pack_check::check(pack) {
         Checked::Refused(number) => Outcome::Refused(number),
         Checked::Passed => {
             if !operand_formed(pack, v, items, values) {
@@ -326,7 +326,7 @@ pub fn coerce_to_bool(pack: &[u8], v: Value, items: &[u16], values: &[i32]) -> O
 pub fn coerce_to_int(pack: &[u8], v: Value, items: &[u16], values: &[i32]) -> Outcome
     ensures { λ r. ⌜ r ≡ placed (onPack format1 (now (pack .entry)) (coerced (now (items .entry)) (now (values .entry)) coerceInt v)) ⌝ }
 {
-    match pack::check(pack) {
+    match pack_check::check(pack) {
         Checked::Refused(number) => Outcome::Refused(number),
         Checked::Passed => {
             if !operand_formed(pack, v, items, values) {
@@ -341,7 +341,7 @@ pub fn coerce_to_int(pack: &[u8], v: Value, items: &[u16], values: &[i32]) -> Ou
 pub fn coerce_to_float(pack: &[u8], v: Value, items: &[u16], values: &[i32]) -> Outcome
     ensures { λ r. ⌜ r ≡ placed (onPack format1 (now (pack .entry)) (coerced (now (items .entry)) (now (values .entry)) coerceFloat v)) ⌝ }
 {
-    match pack::check(pack) {
+    match pack_check::check(pack) {
         Checked::Refused(number) => Outcome::Refused(number),
         Checked::Passed => {
             if !operand_formed(pack, v, items, values) {

@@ -4,8 +4,8 @@ mod answers;
 mod ready;
 
 use pack::Checked;
-use pack::format::DEFINITION_LIMIT;
-use pack::format::FORMAT1;
+use pack_check::format::DEFINITION_LIMIT;
+use pack_check::format::FORMAT1;
 use value_words::operator;
 use value_words::words;
 ghost use mathlib.Core.Path.{_≡_};
@@ -32,7 +32,7 @@ ghost use Rattle.ink_operators.specs.Answers.{RunSays, VetSays, Passed, 
 pub extern "C" fn ink_check(pack: &[u8]) -> u32
     ensures { λ r. ⌜ r ≡ numberOf (judge format1 (now (pack .entry))) ⌝ }
 {
-    match pack::check(pack) {
+    match pack_check::check(pack) {
         Checked::Passed => 0,
         Checked::Refused(n) => value_words::answers::number(n),
     }

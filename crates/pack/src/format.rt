@@ -1,4 +1,4 @@
-// What a pack's format fixes, and the limits of every format.
+// What a pack's format fixes.
 
 pub struct Format {
     // Byte 0.
@@ -8,18 +8,3 @@ pub struct Format {
     // The most items in all.
     pub limit: usize,
 }
-
-pub const FORMAT1: Format = Format {
-    tag: 1,
-    wide: 1,
-    limit: 256,
-};
-
-// The most bytes, definitions, instructions in a sheet, and slots.
-pub const PACK_LIMIT: usize = 65535;
-
-pub const DEFINITION_LIMIT: usize = 64;
-
-pub const INSTRUCTION_LIMIT: usize = 1024;
-
-pub const SLOT_LIMIT: usize = 16;

@@ -207,7 +207,7 @@ fn show(p: &[u8])
 }
 
 fn report(p: &[u8]) {
-    match pack::check(p) {
+    match pack_check::check(p) {
         Checked::Refused(n) => {
             number(widen(n));
         }

@@ -3,9 +3,9 @@
 
 use ink_value::Value;
 use pack::Checked;
-use pack::format::DEFINITION_LIMIT;
-use pack::format::SLOT_LIMIT;
 use pack::instruction::Instruction;
+use pack_check::format::DEFINITION_LIMIT;
+use pack_sheets::SLOT_LIMIT;
 use sheet::STACK_LIMIT;
 use stepping::ITEM_LIMIT;
 use stepping::Step;
@@ -430,7 +430,7 @@ pub fn run(
         sheet (map (valIn «slot_items» «slot_values») slots) r (now («work_items» .entry)) (now («work_items» .exit)) (now («work_values» .entry)) (now («work_values» .exit))
         (now («result_items» .entry)) (now («result_items» .exit)) (now («result_values» .entry)) (now («result_values» .exit)) ⌝ }
 {
-    let checked = pack::check(pack);
+    let checked = pack_check::check(pack);
     match checked {
         Checked::Passed => run_passed(
             pack,

@@ -10,7 +10,7 @@ ghost use Rattle.pack.specs.Format.{format1};
 ghost use Rattle.pack.specs.Judge.{Sound};
 
 // The most entries of a list.
-const ITEM_LIMIT: usize = pack::format::FORMAT1.limit;
+const ITEM_LIMIT: usize = pack_check::format::FORMAT1.limit;
 
 fn answer(r: Ran, items: &[u16], values: &[i32]) {
     match r {
@@ -64,7 +64,7 @@ fn sheet_lines(pack: &[u8])
 }
 
 pub fn report(pack: &[u8]) {
-    match pack::check(pack) {
+    match pack_check::check(pack) {
         Checked::Passed => {
             sheet_lines(pack);
         }

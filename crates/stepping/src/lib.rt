@@ -40,7 +40,7 @@ pub enum Step {
 }
 
 // The most entries of a list.
-pub const ITEM_LIMIT: usize = pack::format::FORMAT1.limit;
+pub const ITEM_LIMIT: usize = pack_check::format::FORMAT1.limit;
 
 // A value, its list's entries copied to the places from `to` on.
 pub fn store(

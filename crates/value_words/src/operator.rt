@@ -3,7 +3,7 @@ use super::answers;
 use super::words;
 use ink_number::int::Divided;
 use ink_value::Value;
-use pack::format::FORMAT1;
+use pack_check::format::FORMAT1;
 ghost use mathlib.Core.Path.{_≡_};
 ghost use mathlib.Core.Bool.{true, false, cond};
 ghost use mathlib.Core.List.{List, [], _∷_};

@@ -1,6 +1,6 @@
 // Values as words: three for each, the code of its kind, what it holds, and where a List's entries stand.
 use ink_value::Value;
-use pack::format::SLOT_LIMIT;
+use pack_sheets::SLOT_LIMIT;
 ghost use mathlib.Core.Path.{_≡_};
 ghost use mathlib.Core.List.{[], _∷_};
 ghost use Prim.Native.Nat.{_<_, _+_, _*_, _/_, _%_, _^_};

@@ -188,7 +188,7 @@ fn vet_sheet(pack: &[u8], sheet: usize, kinds: [u8; 16], forecast: &mut [u8]) ->
 pub fn vet(pack: &[u8], sheet: usize, kinds: [u8; 16], forecast: &mut [u8]) -> Vetted
     ensures { λ r. ⌜ Answers format1 (now (pack .entry)) sheet kinds r (now (forecast .entry)) (now (forecast .exit)) ⌝ }
 {
-    match pack::check(pack) {
+    match pack_check::check(pack) {
         Checked::Refused(number) => Vetted::Refused { number, index: 0 },
         Checked::Passed => {
             if pack_read::sheet_count(pack) <= sheet {
