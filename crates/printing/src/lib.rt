@@ -20,7 +20,7 @@ fn wide_byte(n: u8) -> u64 {
     n as u64
 }
 
-fn decimal(v: i32) {
+pub fn decimal(v: i32) {
     let n = ink_number::int::pattern(v) as u64;
     if n < 2147483648 {
         natural(n);

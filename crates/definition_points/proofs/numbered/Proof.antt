@@ -1,4 +1,4 @@
--- `list_points::numbered` meets its contract: where the ends from d on number the items from `low` on, all of them number the items.
+-- `definition_points::numbered` meets its contract: where the ends from d on number the items from `low` on, all of them number the items.
 -- Assumes nothing.
 use Prim.Native.Nat.{ℕ, _-_, _≤_, _<_}
 use native.Mathlib.Omega.{arith}
@@ -9,8 +9,8 @@ use Rattle.ink_list.specs.Entries.{itemNumbers}
 use Rattle.ink_list.proofs.Every.{not-both}
 use Rattle.ink_list.proofs.Rests.{drop-at}
 use Rattle.list_definitions.specs.Defs.{Ends}
-use Rattle.list_points.proofs.numbered.Statement.{statement}
-use Rattle.list_points.proofs.numbered.Tie as tie
+use Rattle.definition_points.proofs.numbered.Statement.{statement}
+use Rattle.definition_points.proofs.numbered.Tie as tie
 
 abbrev Inv-loop : tie.InvT-loop
 Inv-loop ends defined low₀ d₀ low d = (d ≤ length ends) × (low < itemNumbers) × ((total : ℕ) → Ends low total (drop d ends) → Ends 0 total ends)

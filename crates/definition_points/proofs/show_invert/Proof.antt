@@ -1,10 +1,10 @@
--- `list_points::show_invert` is safe: it meets what it calls for. Assumes nothing.
+-- `definition_points::show_invert` is safe: it meets what it calls for. Assumes nothing.
 use native.Mathlib.Omega.{arith}
 use Rattle.ink_list.specs.Entries.{itemNumbers}
 use Rattle.ink_list.proofs.Results.{lent-limit}
 use borrow.Author.Needs.{needs}
-use Rattle.list_points.proofs.show_invert.Statement.{statement}
-use Rattle.list_points.proofs.show_invert.Tie as tie
+use Rattle.definition_points.proofs.show_invert.Statement.{statement}
+use Rattle.definition_points.proofs.show_invert.Tie as tie
 
 slice-aggregate-invert : tie.Need-slice-aggregate-invert
 slice-aggregate-invert c = search needs

@@ -1,9 +1,9 @@
--- `list_points::item_sum` is safe and ends. Assumes nothing.
+-- `list_cases::item_sum` is safe and ends. Assumes nothing.
 use Prim.Native.Nat.{_-_, _≤_}
 use borrow.Author.Needs.{needs}
 use lib.ListN.{length}
-use Rattle.list_points.proofs.item_sum.Statement.{statement}
-use Rattle.list_points.proofs.item_sum.Tie as tie
+use Rattle.list_cases.proofs.item_sum.Statement.{statement}
+use Rattle.list_cases.proofs.item_sum.Tie as tie
 
 abbrev Inv-loop : tie.InvT-loop
 Inv-loop items sum₀ i₀ sum i = i ≤ length items

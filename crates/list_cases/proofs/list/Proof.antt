@@ -1,9 +1,9 @@
--- `list_points::list` is safe and ends. Assumes nothing.
+-- `list_cases::list` is safe and ends. Assumes nothing.
 use Prim.Native.Nat.{_-_, _≤_}
 use borrow.Author.Needs.{needs}
 use lib.ListN.{length}
-use Rattle.list_points.proofs.list.Statement.{statement}
-use Rattle.list_points.proofs.list.Tie as tie
+use Rattle.list_cases.proofs.list.Statement.{statement}
+use Rattle.list_cases.proofs.list.Tie as tie
 
 abbrev Inv-loop : tie.InvT-loop
 Inv-loop items values i₀ i = i ≤ length items

@@ -1,9 +1,9 @@
--- `list_points::result` is safe: it meets what it calls for. Assumes nothing.
+-- `list_cases::result` is safe: it meets what it calls for. Assumes nothing.
 use mathlib.Core.Path.{sym}
 use lib.Seq.{length-take-le}
 use borrow.Author.Needs.{needs}
-use Rattle.list_points.proofs.result.Statement.{statement}
-use Rattle.list_points.proofs.result.Tie as tie
+use Rattle.list_cases.proofs.result.Statement.{statement}
+use Rattle.list_cases.proofs.result.Tie as tie
 
 slice-aggregate-text : tie.Need-slice-aggregate-text
 slice-aggregate-text c = search needs

@@ -1,10 +1,10 @@
--- `list_points::show_decrement` is safe: it meets what it calls for. Assumes nothing.
+-- `definition_points::show_decrement` is safe: it meets what it calls for. Assumes nothing.
 use native.Mathlib.Omega.{arith}
 use Rattle.ink_list.specs.Entries.{itemNumbers}
 use Rattle.ink_list.proofs.Results.{lent-limit}
 use borrow.Author.Needs.{needs}
-use Rattle.list_points.proofs.show_decrement.Statement.{statement}
-use Rattle.list_points.proofs.show_decrement.Tie as tie
+use Rattle.definition_points.proofs.show_decrement.Statement.{statement}
+use Rattle.definition_points.proofs.show_decrement.Tie as tie
 
 slice-aggregate-decrement : tie.Need-slice-aggregate-decrement
 slice-aggregate-decrement c = search needs

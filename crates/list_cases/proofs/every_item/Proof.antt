@@ -1,10 +1,10 @@
--- `list_points::every_item` is safe and ends. Assumes nothing.
+-- `list_cases::every_item` is safe and ends. Assumes nothing.
 use mathlib.Core.Path.{_≡_}
 use Prim.Native.Nat.{_-_, _≤_}
 use borrow.Author.Needs.{needs}
 use lib.ListN.{length}
-use Rattle.list_points.proofs.every_item.Statement.{statement}
-use Rattle.list_points.proofs.every_item.Tie as tie
+use Rattle.list_cases.proofs.every_item.Statement.{statement}
+use Rattle.list_cases.proofs.every_item.Tie as tie
 
 abbrev Inv-loop : tie.InvT-loop
 Inv-loop items₀ i₀ items i = (i ≤ 256) × (length items ≡ 256)

@@ -1,4 +1,4 @@
--- `list_points::by_definitions` is safe: it meets what it calls for. Assumes nothing.
+-- `definition_points::by_definitions` is safe: it meets what it calls for. Assumes nothing.
 use mathlib.Core.Path.{sym, _∙_}
 use borrow.Author.Tests.{not-false}
 use Rattle.ink_list.proofs.Formed.{formed-sound}
@@ -6,8 +6,8 @@ use native.Mathlib.Omega.{arith}
 use Rattle.ink_list.specs.Entries.{itemNumbers}
 use Rattle.ink_list.proofs.Results.{lent-limit}
 use borrow.Author.Needs.{needs}
-use Rattle.list_points.proofs.by_definitions.Statement.{statement}
-use Rattle.list_points.proofs.by_definitions.Tie as tie
+use Rattle.definition_points.proofs.by_definitions.Statement.{statement}
+use Rattle.definition_points.proofs.by_definitions.Tie as tie
 
 slice-aggregate-operand : tie.Need-slice-aggregate-operand
 slice-aggregate-operand c = search needs

@@ -1,10 +1,10 @@
--- `list_points::show_increment` is safe: it meets what it calls for. Assumes nothing.
+-- `definition_points::show_increment` is safe: it meets what it calls for. Assumes nothing.
 use native.Mathlib.Omega.{arith}
 use Rattle.ink_list.specs.Entries.{itemNumbers}
 use Rattle.ink_list.proofs.Results.{lent-limit}
 use borrow.Author.Needs.{needs}
-use Rattle.list_points.proofs.show_increment.Statement.{statement}
-use Rattle.list_points.proofs.show_increment.Tie as tie
+use Rattle.definition_points.proofs.show_increment.Statement.{statement}
+use Rattle.definition_points.proofs.show_increment.Tie as tie
 
 slice-aggregate-increment : tie.Need-slice-aggregate-increment
 slice-aggregate-increment c = search needs
