@@ -17,10 +17,10 @@ use list_cases::operand;
 use list_cases::ramp;
 use list_cases::result;
 use list_definitions::all;
-use list_definitions::decrement;
-use list_definitions::increment;
 use list_definitions::invert;
 use list_definitions::origins_of;
+use list_increment::decrement;
+use list_increment::increment;
 use printing::natural;
 use printing::text;
 

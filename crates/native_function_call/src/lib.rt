@@ -175,8 +175,8 @@ fn shift(
     ensures { λ r. ⌜ Answers (shiftL (now (ends .entry)) (now (defined .entry)) op set by (list ai av)) r oi ov ⌝ }
 {
     match op {
-        0 => list_definitions::increment(ai, av, by, set, ends, defined, oi, ov),
-        _ => list_definitions::decrement(ai, av, by, set, ends, defined, oi, ov),
+        0 => list_increment::increment(ai, av, by, set, ends, defined, oi, ov),
+        _ => list_increment::decrement(ai, av, by, set, ends, defined, oi, ov),
     }
 }
 

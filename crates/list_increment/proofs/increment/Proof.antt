@@ -1,4 +1,4 @@
--- `list_definitions::increment` meets its contract: what is left of the answer are the targets from the first item of definition d on,
+-- `list_increment::increment` meets its contract: what is left of the answer are the targets from the first item of definition d on,
 -- those of the entries from cursor j on. Assumes nothing.
 use mathlib.Core.Path.{_≡_, refl, sym, _∙_, subst}
 use mathlib.Core.List.{List, []}
@@ -12,16 +12,16 @@ use mir.Syntax.{w32}
 use mir.Val.{toZ}
 use Rattle.ink_number.proofs.Signed.{back, back32}
 use Rattle.ink_list.specs.Entries.{itemNumbers, Entry, entries, RisingFrom, Wrote}
 use Rattle.list_definitions.specs.Defs.{Ends, retarget, increment}
 use Rattle.list_definitions.specs.Search.{raised}
 use Rattle.ink_list.proofs.Rests.{rest, of-lent}
 use Rattle.ink_list.proofs.Output.{Writing, begin, appended, fits, turn, kept, done}
 use Rattle.list_definitions.proofs.Raised.{length-raised, raised-entries}
 use Rattle.list_definitions.proofs.DefLaws.{onward, onward-end, ends-done}
 use Rattle.list_definitions.proofs.Chosen.{chosen-length}
 use Rattle.list_definitions.proofs.TargetLaws.{targetFrom, retarget-length, retarget-start, cursor-on, low-on, numbered-on, rising-on, step-out, step-in}
-use Rattle.list_definitions.proofs.increment.Statement.{statement}
-use Rattle.list_definitions.proofs.increment.Tie as tie
+use Rattle.list_increment.proofs.increment.Statement.{statement}
+use Rattle.list_increment.proofs.increment.Tie as tie
 
 abbrev Inv-loop : tie.InvT-loop
 Inv-loop ai av by set ends defined oi₀ ov₀ d₀ s₀ low₀ j₀ n₀ oi ov d s low j n =

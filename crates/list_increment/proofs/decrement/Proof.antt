@@ -1,13 +1,13 @@
--- `list_definitions::decrement` meets its contract: to take an Int is to add its negative. Assumes nothing.
+-- `list_increment::decrement` meets its contract: to take an Int is to add its negative. Assumes nothing.
 use mathlib.Core.Path.{_∙_}
 use borrow.Author.Needs.{needs}
 use lib.IntN.{ℤ, negℤ}
 use Rattle.ink_number.specs.Int.{wrap}
 use Rattle.ink_number.proofs.Signed.{read, returned}
 use Rattle.ink_list.specs.Entries.{entries}
 use Rattle.list_definitions.proofs.Raised.{wrote-lower}
-use Rattle.list_definitions.proofs.decrement.Statement.{statement}
-use Rattle.list_definitions.proofs.decrement.Tie as tie
+use Rattle.list_increment.proofs.decrement.Statement.{statement}
+use Rattle.list_increment.proofs.decrement.Tie as tie
 
 wrapping-neg-requires : tie.Need-wrapping-neg-requires
 wrapping-neg-requires c κs = search needs

@@ -1,15 +1,15 @@
--- `list_definitions::retarget::retarget` meets its contract: with no entry there is nothing to store, and both searches store the same. Assumes nothing.
+-- `list_increment::retarget::retarget` meets its contract: with no entry there is nothing to store, and both searches store the same. Assumes nothing.
 use mathlib.Core.Path.{_≡_, sym, _∙_, subst}
 use mathlib.Core.Bool.{true}
 use mathlib.Core.List.{List, []}
 use borrow.Author.Needs.{needs}
 use lib.IntN.{ℤ}
 use Rattle.ink_list.specs.Entries.{Entry, Stored}
 use Rattle.list_definitions.specs.Search.{rises}
 use Rattle.ink_list.proofs.Output.{nothing}
 use Rattle.list_definitions.proofs.Chosen.{stored-read, chosen-empty}
-use Rattle.list_definitions.proofs.retarget.retarget.Statement.{statement}
-use Rattle.list_definitions.proofs.retarget.retarget.Tie as tie
+use Rattle.list_increment.proofs.retarget.retarget.Statement.{statement}
+use Rattle.list_increment.proofs.retarget.retarget.Tie as tie
 
 returns : tie.Need-returns
 returns c =
