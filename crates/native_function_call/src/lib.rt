@@ -646,18 +646,10 @@ fn list3(
 // ---- an operator, by the kind of its result
 
 // A result that is no List: no slice is written.
-fn scalar(
-    op: u8,
-    kind: u8,
-    count: usize,
-    a: Value,
-    b: Value,
-    items: &[u16],
-    values: &[i32],
-) -> Outcome
-    requires { ⌜ (kind ≡ 3 → ⊥) × (1 ≤ count) × (count ≤ 2) ⌝ }
-    requires { ⌜ Formed itemNumbers (now items) (now values) a × (count ≡ 2 → Formed itemNumbers (now items) (now values) b) ⌝ }
-    ensures { λ r. ⌜ ((u : ListDefinitions) → r ≡ placed (compute u op (take count (valIn items values a ∷ valIn items values b ∷ [])) (kindAt kind))) ⌝ }
+fn scalar(op: u8, kind: u8, n: usize, a: Value, b: Value, items: &[u16], values: &[i32]) -> Outcome
+    requires { ⌜ (kind ≡ 3 → ⊥) × (1 ≤ n) × (n ≤ 2) ⌝ }
+    requires { ⌜ Formed itemNumbers (now items) (now values) a × (n ≡ 2 → Formed itemNumbers (now items) (now values) b) ⌝ }
+    ensures { λ r. ⌜ ((u : ListDefinitions) → r ≡ placed (compute u op (take n (valIn items values a ∷ valIn items values b ∷ [])) (kindAt kind))) ⌝ }
 {
     let ka = ink_value::kind(a);
     let za = ink_value::whole_in(a);
@@ -670,38 +662,15 @@ fn scalar(
     let sb = ink_value::start_of(b);
     let nb = ink_value::len_of(b);
     match kind {
-        0 => Outcome::Value(Value::Bool(test(
-            op,
-            count,
-            ka,
-            za,
-            xa,
-            sa,
-            na,
-            kb,
-            zb,
-            xb,
-            sb,
-            nb,
-            items,
-            values,
-        ))),
-        1 => whole_outcome(whole(op, count, ka, za, xa, sa, na, kb, zb, xb, sb, nb, values)),
-        2 => Outcome::Value(Value::Float(real(
-            op,
-            count,
-            ka,
-            za,
-            xa,
-            sa,
-            na,
-            kb,
-            zb,
-            xb,
-            sb,
-            nb,
-            values,
-        ))),
+        0 => {
+            let t = test(op, n, ka, za, xa, sa, na, kb, zb, xb, sb, nb, items, values);
+            Outcome::Value(Value::Bool(t))
+        }
+        1 => whole_outcome(whole(op, n, ka, za, xa, sa, na, kb, zb, xb, sb, nb, values)),
+        2 => {
+            let x = real(op, n, ka, za, xa, sa, na, kb, zb, xb, sb, nb, values);
+            Outcome::Value(Value::Float(x))
+        }
         _ => Outcome::Value(Value::Void),
     }
 }

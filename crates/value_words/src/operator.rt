@@ -3,6 +3,9 @@ use super::answers;
 use super::words;
 use ink_number::int::Divided;
 use ink_value::Value;
+use native_function_call::real;
+use native_function_call::test;
+use native_function_call::whole;
 use pack_check::format::FORMAT1;
 ghost use mathlib.Core.Path.{_≡_};
 ghost use mathlib.Core.Bool.{true, false, cond};
@@ -119,16 +122,16 @@ pub fn number(op: u8, kind: u8, count: usize, operands: &[u64; 9], answer: &mut 
 fn scalar(
     op: u8,
     kind: u8,
-    count: usize,
+    n: usize,
     a: Value,
     b: Value,
     items: &[u16],
     values: &[i32],
     answer: &mut [u64; 3],
 ) -> u32
-    requires { ⌜ (kind < 5) × (kind ≡ 3 → ⊥) × (1 ≤ count) × (count ≤ 2) ⌝ }
-    requires { ⌜ Formed itemNumbers (now items) (now values) a × (count ≡ 2 → Formed itemNumbers (now items) (now values) b) ⌝ }
-    ensures { λ r. ⌜ ((u : ListDefinitions) → Says (compute u op (take count (valIn items values a ∷ valIn items values b ∷ [])) (kindAt kind)) r (now (answer .exit))) ⌝ }
+    requires { ⌜ (kind < 5) × (kind ≡ 3 → ⊥) × (1 ≤ n) × (n ≤ 2) ⌝ }
+    requires { ⌜ Formed itemNumbers (now items) (now values) a × (n ≡ 2 → Formed itemNumbers (now items) (now values) b) ⌝ }
+    ensures { λ r. ⌜ ((u : ListDefinitions) → Says (compute u op (take n (valIn items values a ∷ valIn items values b ∷ [])) (kindAt kind)) r (now (answer .exit))) ⌝ }
 {
     let ka = ink_value::kind(a);
     let za = ink_value::whole_in(a);
@@ -142,45 +145,16 @@ fn scalar(
     let nb = ink_value::len_of(b);
     match kind {
         0 => {
-            let b = native_function_call::test(
-                op,
-                count,
-                ka,
-                za,
-                xa,
-                sa,
-                na,
-                kb,
-                zb,
-                xb,
-                sb,
-                nb,
-                items,
-                values,
-            );
-            words::put_value(answer, Value::Bool(b));
+            let t = test(op, n, ka, za, xa, sa, na, kb, zb, xb, sb, nb, items, values);
+            words::put_value(answer, Value::Bool(t));
             0
         }
-        1 => put_whole(
-            native_function_call::whole(op, count, ka, za, xa, sa, na, kb, zb, xb, sb, nb, values),
-            answer,
-        ),
+        1 => {
+            let d = whole(op, n, ka, za, xa, sa, na, kb, zb, xb, sb, nb, values);
+            put_whole(d, answer)
+        }
         2 => {
-            let x = native_function_call::real(
-                op,
-                count,
-                ka,
-                za,
-                xa,
-                sa,
-                na,
-                kb,
-                zb,
-                xb,
-                sb,
-                nb,
-                values,
-            );
+            let x = real(op, n, ka, za, xa, sa, na, kb, zb, xb, sb, nb, values);
             words::put_value(answer, Value::Float(x));
             0
         }

@@ -84,7 +84,7 @@ returns c =
     let pa = parts-of (s .args .a) _ _ _ _ _ (c .before .before .before .before .before .before .before .before .before .before .before .kind .ensures .0) (returned (c .before .before .before .before .before .before .before .before .before .before .whole-in .ok) ∙ c .before .before .before .before .before .before .before .before .before .before .whole-in .ensures) (c .before .before .before .before .before .before .before .before .before .real-in .ensures) (c .before .before .before .before .before .before .before .before .start-of .ensures) (c .before .before .before .before .before .before .before .len-of .ensures) in
     let pb = parts-of (s .args .b) _ _ _ _ _ (c .before .before .before .before .before .before .kind2 .ensures .0) (returned (c .before .before .before .before .before .whole-in2 .ok) ∙ c .before .before .before .before .before .whole-in2 .ensures) (c .before .before .before .before .real-in2 .ensures) (c .before .before .before .start-of2 .ensures) (c .before .before .len-of2 .ensures) in
     λ u. ap (λ (t : Bool). Out.Value (Is.Bool t)) (c .test .ensures (s .args .a) (s .args .b) (record { parts = pa; formed = s .pre .1 .0 }) (λ t. record { parts = pb; formed = s .pre .1 .1 t }))
-    ∙ ap (λ (j : ℕ). placed (compute u (s .args .op) (take (s .args .count) (valOf is vs (s .args .a) ∷ valOf is vs (s .args .b) ∷ [])) (kindAt j))) (sym (c .before .match .keys1))
+    ∙ ap (λ (j : ℕ). placed (compute u (s .args .op) (take (s .args .n) (valOf is vs (s .args .a) ∷ valOf is vs (s .args .b) ∷ [])) (kindAt j))) (sym (c .before .match .keys1))
 
 returns-2 : tie.Need-returns-2
 unfolding compute
@@ -96,7 +96,7 @@ returns-2 c =
     let pb = parts-of (s .args .b) _ _ _ _ _ (c .before .before .before .before .before .before .before .kind2 .ensures .0) (returned (c .before .before .before .before .before .before .whole-in2 .ok) ∙ c .before .before .before .before .before .before .whole-in2 .ensures) (c .before .before .before .before .before .real-in2 .ensures) (c .before .before .before .before .start-of2 .ensures) (c .before .before .before .len-of2 .ensures) in
     λ u. c .whole-outcome .ensures
     ∙ ap placed (c .before .whole .ensures (s .args .a) (s .args .b) is (record { parts = pa; formed = s .pre .1 .0 }) (λ t. record { parts = pb; formed = s .pre .1 .1 t }))
-    ∙ ap (λ (j : ℕ). placed (compute u (s .args .op) (take (s .args .count) (valOf is vs (s .args .a) ∷ valOf is vs (s .args .b) ∷ [])) (kindAt j))) (sym (c .before .before .match .keys2))
+    ∙ ap (λ (j : ℕ). placed (compute u (s .args .op) (take (s .args .n) (valOf is vs (s .args .a) ∷ valOf is vs (s .args .b) ∷ [])) (kindAt j))) (sym (c .before .before .match .keys2))
 
 returns-3 : tie.Need-returns-3
 unfolding compute
@@ -107,7 +107,7 @@ returns-3 c =
     let pa = parts-of (s .args .a) _ _ _ _ _ (c .before .before .before .before .before .before .before .before .before .before .before .kind .ensures .0) (returned (c .before .before .before .before .before .before .before .before .before .before .whole-in .ok) ∙ c .before .before .before .before .before .before .before .before .before .before .whole-in .ensures) (c .before .before .before .before .before .before .before .before .before .real-in .ensures) (c .before .before .before .before .before .before .before .before .start-of .ensures) (c .before .before .before .before .before .before .before .len-of .ensures) in
     let pb = parts-of (s .args .b) _ _ _ _ _ (c .before .before .before .before .before .before .kind2 .ensures .0) (returned (c .before .before .before .before .before .whole-in2 .ok) ∙ c .before .before .before .before .before .whole-in2 .ensures) (c .before .before .before .before .real-in2 .ensures) (c .before .before .before .start-of2 .ensures) (c .before .before .len-of2 .ensures) in
     λ u. ap (λ (x : Float). Out.Value (Is.Float x)) (c .real .ensures (s .args .a) (s .args .b) is (record { parts = pa; formed = s .pre .1 .0 }) (λ t. record { parts = pb; formed = s .pre .1 .1 t }))
-    ∙ ap (λ (j : ℕ). placed (compute u (s .args .op) (take (s .args .count) (valOf is vs (s .args .a) ∷ valOf is vs (s .args .b) ∷ [])) (kindAt j))) (sym (c .before .match .keys3))
+    ∙ ap (λ (j : ℕ). placed (compute u (s .args .op) (take (s .args .n) (valOf is vs (s .args .a) ∷ valOf is vs (s .args .b) ∷ [])) (kindAt j))) (sym (c .before .match .keys3))
 
 returns-4 : tie.Need-returns-4
 unfolding compute
@@ -115,7 +115,7 @@ returns-4 c =
     let s = c .before .before .before .before .before .before .before .before .before .before .before .before in
     let is = s .args .items .now in
     let vs = s .args .values .now in
-    λ u. ap (λ (k : Kind). placed (compute u (s .args .op) (take (s .args .count) (valOf is vs (s .args .a) ∷ valOf is vs (s .args .b) ∷ [])) k)) (sym (kind-other (s .args .kind) (c .match .rest .0 .0 .1) (c .match .rest .0 .1) (c .match .rest .1) (s .pre .0 .0)))
+    λ u. ap (λ (k : Kind). placed (compute u (s .args .op) (take (s .args .n) (valOf is vs (s .args .a) ∷ valOf is vs (s .args .b) ∷ [])) k)) (sym (kind-other (s .args .kind) (c .match .rest .0 .0 .1) (c .match .rest .0 .1) (c .match .rest .1) (s .pre .0 .0)))
 
 pub scalar-spec : {M : Type 1} → statement M
 scalar-spec =
