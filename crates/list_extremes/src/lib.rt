@@ -119,9 +119,9 @@ pub fn greater_or_equals(av: &[i32], bv: &[i32]) -> bool
     }
     let bl = extreme_value(true, bv);
     let al = extreme_value(true, av);
-    let bh = extreme_value(false, bv);
-    let ah = extreme_value(false, av);
     if bl <= al {
+        let bh = extreme_value(false, bv);
+        let ah = extreme_value(false, av);
         return bh <= ah;
     }
     false

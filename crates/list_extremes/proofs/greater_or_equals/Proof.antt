@@ -33,33 +33,29 @@ extreme-value-requires-3 c κs = search needs
 extreme-value-requires-4 : tie.Need-extreme-value-requires-4
 extreme-value-requires-4 c κs = search needs
 
--- the two tests, of what the calls gave
-tests : (c : tie.After-extreme-value4) →
-    (leZ (toZ w32 (ofZ w32 (c .before .before .before .extreme-value .result))) (toZ w32 (ofZ w32 (c .before .before .extreme-value2 .result))) ≡ leZ (extremeValue true (c .before .before .before .before .before .before .args .bv .now)) (extremeValue true (c .before .before .before .before .before .before .args .av .now)))
-    × (leZ (toZ w32 (ofZ w32 (c .before .extreme-value3 .result))) (toZ w32 (ofZ w32 (c .extreme-value4 .result))) ≡ leZ (extremeValue false (c .before .before .before .before .before .before .args .bv .now)) (extremeValue false (c .before .before .before .before .before .before .args .av .now)))
-tests c =
-    let bl = c .before .before .before .extreme-value in
-    let al = c .before .before .extreme-value2 in
-    let bh = c .before .extreme-value3 in
-    let ah = c .extreme-value4 in (
-      read2 leZ (bl .result) (al .result) (record { sfits = bl .ok }) (record { sfits = al .ok }) ∙ ap₂ leZ (bl .ensures) (al .ensures),
-      read2 leZ (bh .result) (ah .result) (record { sfits = bh .ok }) (record { sfits = ah .ok }) ∙ ap₂ leZ (bh .ensures) (ah .ensures),
-    )
+-- the test of the least values, as the calls gave them
+lows : (c : tie.After-extreme-value2)
+    → leZ (toZ w32 (ofZ w32 (c .before .extreme-value .result))) (toZ w32 (ofZ w32 (c .extreme-value2 .result)))
+    ≡ leZ (extremeValue true (c .before .before .before .before .args .bv .now)) (extremeValue true (c .before .before .before .before .args .av .now))
+lows c =
+    let bl = c .before .extreme-value in
+    let al = c .extreme-value2 in
+    read2 leZ (bl .result) (al .result) (record { sfits = bl .ok }) (record { sfits = al .ok }) ∙ ap₂ leZ (bl .ensures) (al .ensures)
 
 returns-3 : tie.Need-returns-3
 returns-3 c =
     let a = c .before .before .before .before .before .before .before .args in
-    let t = tests (c .before) in
-    t .1
-    ∙ ap (λ (b : Bool). cond b (leZ (extremeValue false (a .bv .now)) (extremeValue false (a .av .now))) false) (sym (sym (t .0) ∙ c .if3 .taken))
+    let bh = c .before .extreme-value3 in
+    let ah = c .extreme-value4 in
+    read2 leZ (bh .result) (ah .result) (record { sfits = bh .ok }) (record { sfits = ah .ok }) ∙ ap₂ leZ (bh .ensures) (ah .ensures)
+    ∙ ap (λ (b : Bool). cond b (leZ (extremeValue false (a .bv .now)) (extremeValue false (a .av .now))) false) (sym (sym (lows (c .before .before .before)) ∙ c .before .before .if3 .taken))
     ∙ sym (greaterOrEquals-some (a .av .now) (a .bv .now) (c .before .before .before .before .before .before .if1 .left) (c .before .before .before .before .before .if2 .left))
 
 returns-4 : tie.Need-returns-4
 returns-4 c =
-    let a = c .before .before .before .before .before .before .before .args in
-    let t = tests (c .before) in
-    ap (λ (b : Bool). cond b (leZ (extremeValue false (a .bv .now)) (extremeValue false (a .av .now))) false) (sym (sym (t .0) ∙ c .if3 .left))
-    ∙ sym (greaterOrEquals-some (a .av .now) (a .bv .now) (c .before .before .before .before .before .before .if1 .left) (c .before .before .before .before .before .if2 .left))
+    let a = c .before .before .before .before .before .args in
+    ap (λ (b : Bool). cond b (leZ (extremeValue false (a .bv .now)) (extremeValue false (a .av .now))) false) (sym (sym (lows (c .before)) ∙ c .if3 .left))
+    ∙ sym (greaterOrEquals-some (a .av .now) (a .bv .now) (c .before .before .before .before .if1 .left) (c .before .before .before .if2 .left))
 
 pub greater-or-equals-spec : {M : Type 1} → statement M
 greater-or-equals-spec =
