@@ -6,7 +6,6 @@ mod ready;
 use pack::Checked;
 use pack_check::format::DEFINITION_LIMIT;
 use pack_check::format::FORMAT1;
-use value_words::operator;
 use value_words::words;
 ghost use mathlib.Core.Path.{_≡_};
 ghost use mathlib.Core.Bool.{true};
@@ -283,13 +282,13 @@ pub extern "C" fn ink_call_checked(
         words::put_index(answer, 0);
         return 7;
     }
-    if operator::numbers(count, operands) {
-        let kind = operator::kind_of(op, count, operands);
+    if word_operators::numbers(count, operands) {
+        let kind = word_operators::kind_of(op, count, operands);
         if kind < 3 {
-            return operator::number(op, kind, count, operands, answer);
+            return word_operators::number(op, kind, count, operands, answer);
         }
     }
-    operator::apply(
+    word_operators::apply(
         op,
         count,
         operands,
@@ -323,13 +322,13 @@ pub extern "C" fn ink_apply(
     ensures { λ r. ⌜ Calls (called (now (items .entry)) (now (values .entry)) (now («result_items» .entry)) (now («result_values» .entry)) op count (operandsIn (now (operands .entry))) (definitionsIn ends defined (format1 .limit)))
         r (now (answer .exit)) (now («result_items» .entry)) (now («result_items» .exit)) (now («result_values» .entry)) (now («result_values» .exit)) ⌝ }
 {
-    if operator::numbers(count, operands) {
-        let kind = operator::kind_of(op, count, operands);
+    if word_operators::numbers(count, operands) {
+        let kind = word_operators::kind_of(op, count, operands);
         if kind < 3 {
-            return operator::number(op, kind, count, operands, answer);
+            return word_operators::number(op, kind, count, operands, answer);
         }
     }
-    operator::apply(
+    word_operators::apply(
         op,
         count,
         operands,

@@ -3,5 +3,3 @@ pub mod Reading
 pub mod Round
 pub mod Saying
 pub mod Few
-pub mod Operands
-pub mod Called

@@ -1,4 +1,3 @@
-// Values as words, and direct calls on them.
+// Values as words, and the answers of calls in them.
 pub mod answers;
-pub mod operator;
 pub mod words;

@@ -5,9 +5,10 @@ use Rattle.kind_table.specs.Kinds.{kindCall}
 use Rattle.native_function_call.specs.Lists.{definitions}
 use Rattle.pack.specs.Format.{format1}
 use Rattle.value_words.specs.Words.{valueAt}
-use Rattle.value_words.proofs.Operands.{both-numbers, number-kinds}
-use Rattle.value_words.proofs.Called.{called-two}
-use Rattle.value_words.proofs.Saying.{calls-is, said-calls}
+use Rattle.word_operators.proofs.Operands.{both-numbers, number-kinds}
+use Rattle.word_operators.proofs.Called.{called-two}
+use Rattle.value_words.proofs.Saying.{calls-is}
+use Rattle.word_operators.proofs.Said.{said-calls}
 use borrow.Author.Needs.{needs}
 use Rattle.ink_operators.proofs.ink_apply.Statement.{statement}
 use Rattle.ink_operators.proofs.ink_apply.Tie as tie

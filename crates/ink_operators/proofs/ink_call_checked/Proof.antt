@@ -16,9 +16,10 @@ use Rattle.calls.specs.Call.{operandsOk, resultsOk, called}
 use Rattle.calls.proofs.Forms.{ill-lent}
 use Rattle.value_words.specs.Words.{valueAt}
 use Rattle.value_words.specs.Calls.{operandsIn}
-use Rattle.value_words.proofs.Operands.{both-numbers, number-kinds}
-use Rattle.value_words.proofs.Called.{called-two}
-use Rattle.value_words.proofs.Saying.{refused-calls, calls-is, said-calls}
+use Rattle.word_operators.proofs.Operands.{both-numbers, number-kinds}
+use Rattle.word_operators.proofs.Called.{called-two}
+use Rattle.value_words.proofs.Saying.{refused-calls, calls-is}
+use Rattle.word_operators.proofs.Said.{said-calls}
 use borrow.Author.Needs.{needs}
 use Rattle.ink_operators.proofs.ink_call_checked.Statement.{statement}
 use Rattle.ink_operators.proofs.ink_call_checked.Tie as tie

@@ -1,6 +1,6 @@
 use Rattle.ink_value.specs.Value.{placed}
 use Rattle.value_words.specs.Calls.{outcomeNumber, outcomeWords}
--- `value_words::operator::put_whole` meets its contract. Assumes nothing.
+-- `word_operators::put_whole` meets its contract. Assumes nothing.
 use mathlib.Core.Path.{sym, ap, _∙_}
 use lib.IntN.{ℤ}
 use Rattle.ink_number.specs.Int.{divided}
@@ -8,10 +8,10 @@ use Rattle.ink_number.specs.declared.int.Divided.{Divided}
 use Rattle.ink_number.proofs.Signed.{returned}
 use Rattle.ink_value.specs.declared.Value.the-variants as Is
 use Rattle.native_function_call.specs.Apply.{ofInt}
 use Rattle.value_words.specs.Words.{wordsOf}
 use borrow.Author.Needs.{needs}
-use Rattle.value_words.proofs.operator.put_whole.Statement.{statement}
-use Rattle.value_words.proofs.operator.put_whole.Tie as tie
+use Rattle.word_operators.proofs.put_whole.Statement.{statement}
+use Rattle.word_operators.proofs.put_whole.Tie as tie
 
 enum-known-d : tie.Need-enum-known-d
 enum-known-d c = search needs

@@ -1,9 +1,9 @@
 use native.Mathlib.Omega.{arith}
--- `value_words::operator::code_in` meets its contract. Assumes nothing.
+-- `word_operators::code_in` meets its contract. Assumes nothing.
 use borrow.Author.Tests.{lt-ltb, le-ltb}
 use borrow.Author.Needs.{needs}
-use Rattle.value_words.proofs.operator.code_in.Statement.{statement}
-use Rattle.value_words.proofs.operator.code_in.Tie as tie
+use Rattle.word_operators.proofs.code_in.Statement.{statement}
+use Rattle.word_operators.proofs.code_in.Tie as tie
 
 cast-result : tie.Need-cast-result
 cast-result c = search needs

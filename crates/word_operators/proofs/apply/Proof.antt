@@ -1,4 +1,4 @@
--- `value_words::operator::apply` meets its contract. Assumes nothing.
+-- `word_operators::apply` meets its contract. Assumes nothing.
 use mathlib.Core.Path.{_≡_, sym, ap, _∙_}
 use mathlib.Core.Bool.{true}
 use mathlib.Core.List.{List, [], _∷_}
@@ -16,12 +16,13 @@ use Rattle.native_function_call.specs.Apply.{compute}
 use Rattle.native_function_call.proofs.Calling.{codes-are}
 use Rattle.pack.specs.Format.{format1}
 use Rattle.calls.specs.Call.{operandsOk, called}
 use Rattle.value_words.specs.Calls.{operandsIn}
-use Rattle.value_words.proofs.Saying.{refused-calls, calls-is, said-calls}
-use Rattle.value_words.proofs.Called.{room, first, called-no, called-yes, called-two}
+use Rattle.value_words.proofs.Saying.{refused-calls, calls-is}
+use Rattle.word_operators.proofs.Said.{said-calls}
+use Rattle.word_operators.proofs.Called.{room, first, called-no, called-yes, called-two}
 use borrow.Author.Needs.{needs}
-use Rattle.value_words.proofs.operator.apply.Statement.{statement}
-use Rattle.value_words.proofs.operator.apply.Tie as tie
+use Rattle.word_operators.proofs.apply.Statement.{statement}
+use Rattle.word_operators.proofs.apply.Tie as tie
 
 operand-at-requires : tie.Need-operand-at-requires
 operand-at-requires c κs = search needs

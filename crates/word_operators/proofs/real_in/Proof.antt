@@ -1,9 +1,9 @@
--- `value_words::operator::real_in` meets its contract. Assumes nothing.
+-- `word_operators::real_in` meets its contract. Assumes nothing.
 use mathlib.Core.Path.{ap, _∙_}
 use Rattle.ink_float.specs.Real.{ofBits32}
 use borrow.Author.Needs.{needs}
-use Rattle.value_words.proofs.operator.real_in.Statement.{statement}
-use Rattle.value_words.proofs.operator.real_in.Tie as tie
+use Rattle.word_operators.proofs.real_in.Statement.{statement}
+use Rattle.word_operators.proofs.real_in.Tie as tie
 
 low-requires : tie.Need-low-requires
 low-requires c κs = search needs

@@ -1,11 +1,11 @@
--- `value_words::operator::numbers` meets its contract. Assumes nothing.
+-- `word_operators::numbers` meets its contract. Assumes nothing.
 use mathlib.Core.Path.{ap, _∙_}
 use Rattle.ink_value.specs.Value.{codeOfValue}
 use Rattle.value_words.specs.Words.{valueAt}
-use Rattle.value_words.proofs.Operands.{asked-one, asked-two, asked-none}
+use Rattle.word_operators.proofs.Operands.{asked-one, asked-two, asked-none}
 use borrow.Author.Needs.{needs}
-use Rattle.value_words.proofs.operator.numbers.Statement.{statement}
-use Rattle.value_words.proofs.operator.numbers.Tie as tie
+use Rattle.word_operators.proofs.numbers.Statement.{statement}
+use Rattle.word_operators.proofs.numbers.Tie as tie
 
 operand-at-requires : tie.Need-operand-at-requires
 operand-at-requires c κs = search needs

@@ -1,12 +1,12 @@
 // An operator from words to words. Where its result is no List the operands go to it in parts, and numbers without a slice.
-use super::answers;
-use super::words;
 use ink_number::int::Divided;
 use ink_value::Value;
 use native_function_call::real;
 use native_function_call::test;
 use native_function_call::whole;
 use pack_check::format::FORMAT1;
+use value_words::answers;
+use value_words::words;
 ghost use mathlib.Core.Path.{_≡_};
 ghost use mathlib.Core.Bool.{true, false, cond};
 ghost use mathlib.Core.List.{List, [], _∷_};

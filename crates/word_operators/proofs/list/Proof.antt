@@ -1,4 +1,4 @@
--- `value_words::operator::list` meets its contract. Assumes nothing.
+-- `word_operators::list` meets its contract. Assumes nothing.
 use mathlib.Core.Path.{refl}
 use mathlib.Core.List.{[], _∷_}
 use native.Mathlib.Omega.{arith}
@@ -10,11 +10,11 @@ use Rattle.native_function_call.specs.Lists.{definitions}
 use Rattle.native_function_call.specs.Apply.{compute}
 use Rattle.native_function_call.proofs.Results.{compute-fine}
 use Rattle.pack.specs.Format.{format1}
 use Rattle.value_words.proofs.Saying.{calls}
 use Rattle.value_words.proofs.Few.{small-outcome}
 use borrow.Author.Needs.{needs}
-use Rattle.value_words.proofs.operator.list.Statement.{statement}
-use Rattle.value_words.proofs.operator.list.Tie as tie
+use Rattle.word_operators.proofs.list.Statement.{statement}
+use Rattle.word_operators.proofs.list.Tie as tie
 
 list-requires : tie.Need-list-requires
 list-requires c κs = search needs

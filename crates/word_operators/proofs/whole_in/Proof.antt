@@ -1,10 +1,10 @@
--- `value_words::operator::whole_in` meets its contract. Assumes nothing.
+-- `word_operators::whole_in` meets its contract. Assumes nothing.
 use mathlib.Core.Path.{ap, _∙_}
 use Rattle.ink_number.specs.Int.{signed}
 use Rattle.ink_number.proofs.Signed.{returned}
 use borrow.Author.Needs.{needs}
-use Rattle.value_words.proofs.operator.whole_in.Statement.{statement}
-use Rattle.value_words.proofs.operator.whole_in.Tie as tie
+use Rattle.word_operators.proofs.whole_in.Statement.{statement}
+use Rattle.word_operators.proofs.whole_in.Tie as tie
 
 low-requires : tie.Need-low-requires
 low-requires c κs = search needs

@@ -1,8 +1,8 @@
--- `value_words::operator::kind_of` meets its contract. Assumes nothing.
-use Rattle.value_words.proofs.Operands.{given-codes}
+-- `word_operators::kind_of` meets its contract. Assumes nothing.
+use Rattle.word_operators.proofs.Operands.{given-codes}
 use borrow.Author.Needs.{needs}
-use Rattle.value_words.proofs.operator.kind_of.Statement.{statement}
-use Rattle.value_words.proofs.operator.kind_of.Tie as tie
+use Rattle.word_operators.proofs.kind_of.Statement.{statement}
+use Rattle.word_operators.proofs.kind_of.Tie as tie
 
 element-copy-out-code-in : tie.Need-element-copy-out-code-in
 element-copy-out-code-in c = search needs

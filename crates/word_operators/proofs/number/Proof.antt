@@ -1,13 +1,13 @@
--- `value_words::operator::number` meets its contract. Assumes nothing.
+-- `word_operators::number` meets its contract. Assumes nothing.
 use mathlib.Core.Path.{_≡_, _∙_}
 use native.Mathlib.Omega.{arith}
 use Rattle.ink_number.proofs.Signed.{returned}
 use Rattle.value_words.specs.Words.{valueAt}
-use Rattle.value_words.proofs.Operands.{number-is, number-at}
-use Rattle.value_words.proofs.Saying.{said-bool, said-int, said-float}
+use Rattle.word_operators.proofs.Operands.{number-is, number-at}
+use Rattle.word_operators.proofs.Said.{said-bool, said-int, said-float}
 use borrow.Author.Needs.{needs}
-use Rattle.value_words.proofs.operator.number.Statement.{statement}
-use Rattle.value_words.proofs.operator.number.Tie as tie
+use Rattle.word_operators.proofs.number.Statement.{statement}
+use Rattle.word_operators.proofs.number.Tie as tie
 
 element-copy-out-code-in : tie.Need-element-copy-out-code-in
 element-copy-out-code-in c = search needs

@@ -1,14 +1,14 @@
--- `value_words::operator::scalar` meets its contract. Assumes nothing.
+-- `word_operators::scalar` meets its contract. Assumes nothing.
 use mathlib.Core.Path.{_≡_, _∙_}
 use native.Mathlib.Omega.{arith}
 use Rattle.ink_number.proofs.Signed.{returned}
 use Rattle.ink_list.specs.Entries.{itemNumbers}
 use Rattle.ink_value.proofs.Reading.{few-in}
 use Rattle.ink_value.proofs.Parts.{parts-of, spans-of}
-use Rattle.value_words.proofs.Saying.{said-bool, said-int, said-float, said-void}
+use Rattle.word_operators.proofs.Said.{said-bool, said-int, said-float, said-void}
 use borrow.Author.Needs.{needs}
-use Rattle.value_words.proofs.operator.scalar.Statement.{statement}
-use Rattle.value_words.proofs.operator.scalar.Tie as tie
+use Rattle.word_operators.proofs.scalar.Statement.{statement}
+use Rattle.word_operators.proofs.scalar.Tie as tie
 
 kind-requires : tie.Need-kind-requires
 kind-requires c κs = search needs

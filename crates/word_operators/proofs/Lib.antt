@@ -1,0 +1,4 @@
+-- The laws of operators on words.
+pub mod Operands
+pub mod Called
+pub mod Said
