@@ -1,19 +1,10 @@
 -- An answer of a call below, written at the boundary. Assumes nothing.
 use mathlib.Core.Path.{_≡_, refl, sym, ap, _∙_, subst}
-use mathlib.Core.Bool.{Bool}
 use mathlib.Core.List.{List, [], _∷_}
 use Prim.Native.Nat.{ℕ}
 use lib.IntN.{ℤ}
-use lib.Ieee.{Float}
 use Rattle.ink_number.specs.Answer.{Answer, refuses}
-use Rattle.ink_list.specs.Entries.{Entry, items, values}
-use Rattle.ink_list.specs.Filled.{over}
-use Rattle.list_definitions.specs.Defs.{ListDefinitions}
-use Rattle.ink_value.specs.Val.{Val, kindAt}
-use Rattle.ink_value.specs.declared.Value.the-variants as Is
-use Rattle.native_function_call.specs.Apply.{test, whole, real, compute}
-use Rattle.native_function_call.proofs.Calling.{scalar-none}
-use Rattle.value_words.specs.Words.{wordsOf}
+use Rattle.ink_value.specs.Val.{Val}
 use Rattle.ink_value.specs.Value.{placed, Gave}
 use Rattle.ink_value.specs.declared.Value.{Value}
 use Rattle.ink_value.specs.declared.Outcome.{Outcome}

@@ -3,8 +3,7 @@
 use borrow.Author.Needs.{needs}
 use mathlib.Core.Path.{_≡_, sym, ap, _∙_}
 use mathlib.Core.Bool.{Bool, cond}
-use Prim.Native.Nat.{ℕ, _-_, _≤_, _+_}
-use native.Mathlib.Omega.{arith}
+use Prim.Native.Nat.{_-_, _≤_, _+_}
 use lib.IntN.{ℤ, pos}
 use lib.ListN.{length, getD, drop}
 use mir.Val.{toZ}
