@@ -73,7 +73,7 @@ pub extern "C" fn ink_run(
         (now («result_items» .entry)) (now («result_items» .exit)) (now («result_values» .entry)) (now («result_values» .exit)) ⌝ }
 {
     let values = words::slots_in(slots);
-    let ran = running::run(
+    let ran = run_any::run(
         pack,
         sheet,
         values,

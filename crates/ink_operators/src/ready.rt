@@ -35,13 +35,13 @@ pub fn run_ready(
             index: 0,
         };
     }
-    if !running::all_formed(slots, slot_items, slot_values, defined.len(), ends.len()) {
+    if !run_any::all_formed(slots, slot_items, slot_values, defined.len(), ends.len()) {
         return Ran::Stopped {
             number: 7,
             index: 0,
         };
     }
-    if !running::long_enough(
+    if !run_any::long_enough(
         &work_items[..],
         &work_values[..],
         &result_items[..],

@@ -4,8 +4,8 @@ use ink_value::Value;
 use pack::Checked;
 use printing::natural;
 use printing::text;
+use run_any::WORK_LIMIT;
 use running::Ran;
-use running::WORK_LIMIT;
 ghost use Rattle.pack.specs.Format.{format1};
 ghost use Rattle.pack.specs.Judge.{Sound};
 
@@ -33,7 +33,7 @@ fn sheet_line(pack: &[u8], sheet: usize) {
     let mut work_values = [0i32; WORK_LIMIT];
     let mut items = [0u16; ITEM_LIMIT];
     let mut values = [0i32; ITEM_LIMIT];
-    let r = running::run(
+    let r = run_any::run(
         pack,
         sheet,
         [Value::Void; 16],

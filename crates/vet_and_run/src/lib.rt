@@ -30,7 +30,7 @@ pub fn vet_and_run(
         (now («result_items» .entry)) (now («result_items» .exit)) (now («result_values» .entry)) (now («result_values» .exit)) ⌝ }
 {
     let vetted = vetting::vet(pack, sheet, kinds, forecast);
-    let ran = running::run(
+    let ran = run_any::run(
         pack,
         sheet,
         slots,

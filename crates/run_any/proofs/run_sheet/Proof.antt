@@ -1,10 +1,10 @@
 use mathlib.Core.Path.{sym, _∙_}
 use native.Mathlib.Omega.{arith}
 use borrow.Author.Tests.{not-true, not-false}
 use Rattle.running.proofs.Opening.{runs-stopped, runs-given, slots-no, room-no, memory-yes, inputs, long-yes, zeroed-memory}
 use borrow.Author.Needs.{needs}
-use Rattle.running.proofs.run_sheet.Statement.{statement}
-use Rattle.running.proofs.run_sheet.Tie as tie
+use Rattle.run_any.proofs.run_sheet.Statement.{statement}
+use Rattle.run_any.proofs.run_sheet.Tie as tie
 
 all-formed-requires : tie.Need-all-formed-requires
 all-formed-requires c κs = search needs

@@ -1,10 +1,10 @@
 use native.Mathlib.Omega.{arith}
 use Rattle.pack.proofs.Tabled.{ends-front, ends-fit, ends-count, defined-front, defined-fit, defined-count}
 use Rattle.pack.proofs.Values.{pack-tables}
 use Rattle.running.proofs.Opening.{runs-stopped, runs-is, sheet-no, sheet-yes, sheets-long}
 use borrow.Author.Needs.{needs}
-use Rattle.running.proofs.run_passed.Statement.{statement}
-use Rattle.running.proofs.run_passed.Tie as tie
+use Rattle.run_any.proofs.run_passed.Statement.{statement}
+use Rattle.run_any.proofs.run_passed.Tie as tie
 
 sheet-count-requires : tie.Need-sheet-count-requires
 sheet-count-requires c κs = search needs

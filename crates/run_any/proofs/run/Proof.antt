@@ -4,10 +4,10 @@ use Rattle.pack.specs.Format.{format1}
 use Rattle.pack.specs.Judge.{checked}
 use Rattle.pack.specs.declared.Checked.{Checked}
 use Rattle.pack.proofs.Judged.{passed, turned}
 use Rattle.running.proofs.Opening.{runs-stopped, runs-is, opened-no, opened-yes}
 use borrow.Author.Needs.{needs}
-use Rattle.running.proofs.run.Statement.{statement}
-use Rattle.running.proofs.run.Tie as tie
+use Rattle.run_any.proofs.run.Statement.{statement}
+use Rattle.run_any.proofs.run.Tie as tie
 
 check-requires : tie.Need-check-requires
 check-requires c κs = search needs

@@ -1,7 +1,7 @@
 use borrow.Author.Tests.{lt-leb, le-leb}
 use Rattle.ink_list.specs.Every.{_and_}
-use Rattle.running.proofs.long_enough.Statement.{statement}
-use Rattle.running.proofs.long_enough.Tie as tie
+use Rattle.run_any.proofs.long_enough.Statement.{statement}
+use Rattle.run_any.proofs.long_enough.Tie as tie
 
 returns : tie.Need-returns
 unfolding _and_

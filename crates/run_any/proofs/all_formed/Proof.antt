@@ -7,10 +7,10 @@ use borrow.Author.Tests.{not-true, not-false}
 use Rattle.pack.specs.Format.{slotLimit}
 use Rattle.ink_value.specs.Value.{eachFormed}
 use Rattle.ink_value.specs.declared.Value.the-variants as Is
 use Rattle.running.proofs.Forming.{slot-no, slot-yes, slots-end, uneven, even}
 use borrow.Author.Needs.{needs}
-use Rattle.running.proofs.all_formed.Statement.{statement}
-use Rattle.running.proofs.all_formed.Tie as tie
+use Rattle.run_any.proofs.all_formed.Statement.{statement}
+use Rattle.run_any.proofs.all_formed.Tie as tie
 
 abbrev Inv-loop : tie.InvT-loop
 Inv-loop items values total definitions slots k₀ k =
