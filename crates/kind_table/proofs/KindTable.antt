@@ -1,12 +1,15 @@
--- The table of 775 answers is the rule: one test, computed of each operator's two words. Assumes nothing.
+-- The table of 775 answers is the rule, by one test computed of it whole; so are the words that operators look their answers up in. Assumes
+-- nothing.
 use mathlib.Core.Path.{_≡_, refl, sym, _∙_, ap, subst}
 use mathlib.Core.Bool.{Bool, false}
+use mathlib.Core.List.{List}
 use Prim.Native.Nat.{ℕ, _+_, _*_, _/_, _%_, _<_}
 use native.Mathlib.Omega.{arith}
 use lib.Dec.{T, eqb, eqb→eq}
+use lib.ListN.{getD}
 use Rattle.ink_value.specs.Val.{Kind, boolK, intK, floatK, listK, voidK, kindAt, codeOf}
 use Rattle.ink_number.specs.Answer.{Answer, gives, refuses}
-use Rattle.kind_table.specs.Kinds.{kindEntry, decoded, answerIn, entryAt, AnswersFrom}
+use Rattle.kind_table.specs.Kinds.{kindEntry, decoded, Table, answerIn, entryAt, AnswersFrom}
 use Rattle.kind_table.proofs.Every.{every, at}
 
 abbrev same : Answer Kind → Answer Kind → Bool
@@ -28,7 +31,32 @@ same-eq (gives k) (refuses r) t = absurd t
 same-eq (refuses q) (gives j) t = absurd t
 same-eq (refuses q) (refuses r) t = ap refuses (eqb→eq q r t)
 
--- the test of one answer
+-- the rule at place k of the table
+abbrev rule : ℕ → Answer Kind
+rule k = kindEntry (k / 25) (kindAt (k / 5 % 5)) (kindAt (k % 5))
+
+rule-at : (o a b k : ℕ) → k ≡ o * 25 + a * 5 + b → a < 5 → b < 5 → rule k ≡ kindEntry o (kindAt a) (kindAt b)
+rule-at o a b k e ha hb =
+    let e1 : k / 25 ≡ o = omega arith in
+    let e2 : k / 5 % 5 ≡ a = omega arith in
+    let e3 : k % 5 ≡ b = omega arith in
+    ap (λ (x : ℕ). kindEntry x (kindAt (k / 5 % 5)) (kindAt (k % 5))) e1
+    ∙ (ap (λ (x : ℕ). kindEntry o (kindAt x) (kindAt (k % 5))) e2 ∙ ap (λ (x : ℕ). kindEntry o (kindAt a) (kindAt x)) e3)
+
+-- the test of the table's answer at place k
+abbrev pub agrees : List ℕ → ℕ → Bool
+agrees table k = same (decoded (getD table k 0)) (rule k)
+
+-- a table that passes at all its places has the answers
+pub is-table : (table : List ℕ) → T (every (agrees table) 0 775) → Table table
+is-table table t =
+    record {
+      answers = λ o a b ho ha hb.
+          let k : ℕ = o * 25 + a * 5 + b in
+          same-eq (decoded (getD table k 0)) (rule k) (at (agrees table) 775 t k (omega arith)) ∙ rule-at o a b k refl ha hb;
+    }
+
+-- the test of one answer in a word
 abbrev pub right : ℕ → ℕ → ℕ → ℕ → Bool
 right from o w k = same (decoded (answerIn w k)) (entryAt o (from + k))
 

@@ -4,6 +4,7 @@ use mathlib.Core.List.{List, [], _∷_}
 use mathlib.Core.Path.{_≡_}
 use Prim.Native.Nat.{ℕ, max, _<_, _≤_, _+_, _*_, _/_, _%_, _^_}
 use lib.Dec.{eqb, leb, ltb}
+use lib.ListN.{getD}
 use Rattle.kind_table.specs.Op.{opNegate, opEqual, opNotEquals, opNot, opInt, opFloat, opRange}
 use Rattle.kind_table.specs.declared.KindAnswer.{KindAnswer}
 use Rattle.kind_table.specs.declared.KindAnswer.the-variants as Ans
@@ -114,11 +115,15 @@ kindEntry o a b = cond (known o) (cond (unary o) (kindUnary o a) (kindBinary o a
 abbrev pub decoded : ℕ → Answer Kind
 decoded e = cond (ltb e 5) (gives (kindAt e)) (refuses e)
 
+-- the table has for each operator its 25 answers, by the left kind and then by the right
+pub record Table (table : List ℕ) : Type 0 where
+  pub answers : (o a b : ℕ) → o < 31 → a < 5 → b < 5 → decoded (getD table (o * 25 + a * 5 + b) 0) ≡ kindEntry o (kindAt a) (kindAt b)
+
 -- an answer takes four bits of a word, from the lowest on
 abbrev pub answerIn : ℕ → ℕ → ℕ
 answerIn w k = w / 2 ^ (4 * k) % 16
 
--- the table's entry at one of an operator's 25 places, five right kinds to each left kind
+-- the entry at one of an operator's 25 places, five right kinds to each left kind
 abbrev pub entryAt : ℕ → ℕ → Answer Kind
 entryAt o k = kindEntry o (kindAt (k / 5)) (kindAt (k % 5))
 

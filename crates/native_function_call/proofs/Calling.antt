@@ -18,7 +18,7 @@ use Rattle.ink_value.specs.declared.Outcome.{Outcome}
 use Rattle.ink_value.proofs.Reading.{ap3, code-in}
 use Rattle.ink_value.proofs.Given.{gave-plain}
 use Rattle.native_function_call.specs.Numbers.{arithZ}
-use Rattle.kind_table.specs.Kinds.{isList, known, unary, arity, operandCount, kindApply, kindCall, kindRange, kindEntry, KindsGiven, decoded}
+use Rattle.kind_table.specs.Kinds.{isList, known, unary, arity, operandCount, kindApply, kindCall, kindRange, kindEntry, kindUnary, kindBinary, KindsGiven, decoded}
 use Rattle.list_definitions.specs.Defs.{ListDefinitions}
 use Rattle.native_function_call.specs.Apply.{whole, applyOp, compute, call}
 use Rattle.native_function_call.proofs.Applying.{takes, entry-one, entry-two, entry-range, is-range, range-kind, apply-gives, apply-refuses, int-none}
@@ -110,6 +110,15 @@ module _ (o : ℕ) (a b c : Kind) where
   entry-given n r e h ne q =
       let w = below-three o n h e ne in
       record { answered = q ∙ sym (by-entry n e w); counted = λ d. few n r w ne }
+
+  -- an answer that is a kind comes from an operator of one operand or two
+  pub entry-count : (n r : ℕ) → operandCount o ≡ n → o < 31 → r < 5 → decoded r ≡ kindEntry o a b → (1 ≤ n) × (n ≡ 3 → ⊥)
+  unfolding operandCount kindEntry
+  entry-count n r e l d q = (go (known o) e (sym (decoded-kind r d) ∙ q), λ t. let w = is-range o (e ∙ t) in omega arith)
+    where
+      go : (t : Bool) → cond t (arity o) 0 ≡ n → gives (kindAt r) ≡ cond t (cond (unary o) (kindUnary o a) (kindBinary o a b)) (refuses 8) → 1 ≤ n
+      go true p w = ⊎-elim (λ h. omega arith) (λ h. ⊎-elim (λ h. omega arith) (λ h. omega arith) h) (arity-some o)
+      go false p w = let z : _≡_ {A = ℕ} 0 1 = cc in absurd (omega arith)
 
   range-list : (r : ℕ) → decoded r ≡ kindRange a b c → r < 5 → r ≡ 3
   range-list r q d = sym (code-at r d) ∙ ap codeOf (range-kind a b c (kindAt r) (sym q ∙ decoded-kind r d))

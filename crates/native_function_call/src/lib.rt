@@ -724,7 +724,7 @@ pub fn kinds(op: u8, count: usize, left: u8, middle: u8, right: u8) -> u8
     if n == 3 {
         return kind_table::range(left, middle, right);
     }
-    kind_table::table(op, left, middle)
+    kind_table::entry(op, left, middle)
 }
 
 // An operator whose operands' kinds are right, by the kind of its result.

@@ -9,7 +9,7 @@ ghost use Prim.Native.Nat.{ℕ, _<_, _≤_, _-_, _*_};
 ghost use lib.ListN.{length, take};
 ghost use Rattle.ink_list.specs.Filled.{over};
 ghost use Rattle.ink_value.specs.Val.{Kind, kindAt};
-ghost use Rattle.kind_table.specs.Kinds.{kindAnswer, Coded, kindApply, operandCount};
+ghost use Rattle.kind_table.specs.Kinds.{kindAnswer, Coded, kindApply, operandCount, Table};
 ghost use Rattle.pack.specs.Contents.{sheetCount};
 ghost use Rattle.pack.specs.Format.{format1};
 ghost use Rattle.pack.specs.Instruction.{instrOf, Allowed};
@@ -36,8 +36,8 @@ enum Step {
 const FORECAST_LIMIT: usize = 2048;
 
 // The answer of an operator that takes `count` operands, on the top of a stack of n.
-fn answer(op: u8, count: usize, stack: &[u8; 64], n: usize) -> KindAnswer
-    requires { ⌜ (op < 32) × (count ≡ operandCount op) × (1 ≤ count) × (count ≤ n) × (n ≤ 64) × Codes (now stack) ⌝ }
+fn answer(op: u8, count: usize, table: &[u8; 775], stack: &[u8; 64], n: usize) -> KindAnswer
+    requires { ⌜ (op < 32) × (count ≡ operandCount op) × (1 ≤ count) × (count ≤ n) × (n ≤ 64) × Codes (now stack) × Table (now table) ⌝ }
     ensures { λ r. ⌜ (topped (stackOf (kindOn (now (stack .entry))) (n - count)) (kindAnswer r) ≡ stepOp kindApply op (stackOf (kindOn (now (stack .entry))) n)) × Coded r ⌝ }
 {
     let place = n - count;
@@ -46,13 +46,13 @@ fn answer(op: u8, count: usize, stack: &[u8; 64], n: usize) -> KindAnswer
     if count == 3 {
         kind_table::kind_range(left, stack[place + 1], right)
     } else {
-        kind_table::kind_entry(op, left, right)
+        kind_table::kind_entry(table, op, left, right)
     }
 }
 
 // An operator on a stack of n.
-fn vet_op(op: u8, stack: &[u8; 64], n: usize) -> Step
-    requires { ⌜ (op < 32) × (n ≤ 64) × Codes (now stack) ⌝ }
+fn vet_op(op: u8, table: &[u8; 775], stack: &[u8; 64], n: usize) -> Step
+    requires { ⌜ (op < 32) × (n ≤ 64) × Codes (now stack) × Table (now table) ⌝ }
     ensures { λ r. ⌜ (stepped r (kindOn (now (stack .entry))) ≡ stepOp kindApply op (stackOf (kindOn (now (stack .entry))) n)) × Within r n ⌝ }
 {
     let count = kind_table::operands(op);
@@ -62,7 +62,7 @@ fn vet_op(op: u8, stack: &[u8; 64], n: usize) -> Step
     if n < count {
         return Step::No(10);
     }
-    let a = answer(op, count, stack, n);
+    let a = answer(op, count, table, stack, n);
     match a {
         KindAnswer::Kind(kind) => Step::Put {
             place: n - count,
@@ -85,13 +85,13 @@ fn vet_push(kind: u8, n: usize) -> Step
 }
 
 // An instruction on a stack of n.
-fn vet_step(i: Instruction, kinds: [u8; 16], stack: &[u8; 64], n: usize) -> Step
+fn vet_step(i: Instruction, kinds: [u8; 16], table: &[u8; 775], stack: &[u8; 64], n: usize) -> Step
     requires { ⌜ ((literals : ℕ) × Allowed literals (instrOf i)) ⌝ }
-    requires { ⌜ Codes kinds × (n ≤ 64) × Codes (now stack) ⌝ }
+    requires { ⌜ Codes kinds × (n ≤ 64) × Codes (now stack) × Table (now table) ⌝ }
     ensures { λ r. ⌜ (stepped r (kindOn (now (stack .entry))) ≡ step (kindPushed (map kindAt kinds)) kindApply (instrOf i) (stackOf (kindOn (now (stack .entry))) n)) × Within r n ⌝ }
 {
     match i {
-        Instruction::Op(op) => vet_op(op, stack, n),
+        Instruction::Op(op) => vet_op(op, table, stack, n),
         Instruction::Bool(_) => vet_push(0, n),
         Instruction::Int(_) => vet_push(1, n),
         Instruction::Float(_) => vet_push(2, n),
@@ -102,9 +102,15 @@ fn vet_step(i: Instruction, kinds: [u8; 16], stack: &[u8; 64], n: usize) -> Step
 }
 
 // A sheet of a pack that has passed, its forecast written to an array.
-fn vet_into(pack: &[u8], sheet: usize, kinds: [u8; 16], out: &mut [u8; 2048]) -> Vetted
+fn vet_into(
+    pack: &[u8],
+    sheet: usize,
+    kinds: [u8; 16],
+    table: &[u8; 775],
+    out: &mut [u8; 2048],
+) -> Vetted
     requires { ⌜ Sound format1 (now pack) × (sheet < sheetCount (now pack)) ⌝ }
-    requires { ⌜ (length (now out) ≡ 2048) × Codes kinds ⌝ }
+    requires { ⌜ (length (now out) ≡ 2048) × Codes kinds × Table (now table) ⌝ }
     ensures { λ r. ⌜ (verdictOf r ≡ verdict (vet (program (now (pack .entry)) sheet) (map kindAt kinds) .end)) × Forecasts r (now (out .exit)) (vet (program (now (pack .entry)) sheet) (map kindAt kinds) .stacks) × (length (now (out .exit)) ≡ 2048) ⌝ }
 {
     let span = pack_read::sheet_span(pack, sheet);
@@ -116,7 +122,7 @@ fn vet_into(pack: &[u8], sheet: usize, kinds: [u8; 16], out: &mut [u8; 2048]) ->
     while at < end {
         let instruction = pack::instruction::read_instruction(pack, at);
         let width = pack::instruction::instruction_width(instruction);
-        let step = vet_step(instruction, kinds, &stack, n);
+        let step = vet_step(instruction, kinds, table, &stack, n);
         match step {
             Step::Put { place, kind } => {
                 stack[place] = kind;
@@ -174,7 +180,8 @@ fn vet_sheet(pack: &[u8], sheet: usize, kinds: [u8; 16], forecast: &mut [u8]) ->
     ensures { λ r. ⌜ Vets (program (now (pack .entry)) sheet) kinds r (now (forecast .entry)) (now (forecast .exit)) ⌝ }
 {
     let mut bytes = [0u8; 2048];
-    let answer = vet_into(pack, sheet, kinds, &mut bytes);
+    let table = kind_table::table();
+    let answer = vet_into(pack, sheet, kinds, &table, &mut bytes);
     match answer {
         Vetted::Passed { count } => {
             write_first(&bytes, forecast, 2 * count);

@@ -36,16 +36,16 @@ returns-4 c =
     subst (λ (m : ℕ). KindsGiven (s .args .op) m (take m (kindAt (s .args .left) ∷ kindAt (s .args .middle) ∷ kindAt (s .args .right) ∷ [])) (c .range .result)) (c .before .before .if3 .left)
     (range-given (s .args .op) (kindAt (s .args .left)) (kindAt (s .args .middle)) (kindAt (s .args .right)) (c .before .before .before .before .operands .result) (c .range .result) (sym (c .before .before .before .before .operands .ensures)) (c .before .if4 .taken) (c .range .ensures))
 
-table-requires : tie.Need-table-requires
-table-requires c κs =
+entry-requires : tie.Need-entry-requires
+entry-requires c κs =
     let s = c .before .before .before .before .before in
     (below-range (s .args .op) (c .before .before .before .operands .result) (sym (c .before .before .before .operands .ensures)) (c .if4 .left) (omega arith), s .pre .0, s .pre .1)
 
 returns-5 : tie.Need-returns-5
 returns-5 c =
     let s = c .before .before .before .before .before .before in
-    subst (λ (m : ℕ). KindsGiven (s .args .op) m (take m (kindAt (s .args .left) ∷ kindAt (s .args .middle) ∷ kindAt (s .args .right) ∷ [])) (c .table .result)) (c .before .before .if3 .left)
-    (entry-given (s .args .op) (kindAt (s .args .left)) (kindAt (s .args .middle)) (kindAt (s .args .right)) (c .before .before .before .before .operands .result) (c .table .result) (sym (c .before .before .before .before .operands .ensures)) (omega (arith, c .before .before .before .if2 .left)) (c .before .if4 .left) (c .table .ensures))
+    subst (λ (m : ℕ). KindsGiven (s .args .op) m (take m (kindAt (s .args .left) ∷ kindAt (s .args .middle) ∷ kindAt (s .args .right) ∷ [])) (c .entry .result)) (c .before .before .if3 .left)
+    (entry-given (s .args .op) (kindAt (s .args .left)) (kindAt (s .args .middle)) (kindAt (s .args .right)) (c .before .before .before .before .operands .result) (c .entry .result) (sym (c .before .before .before .before .operands .ensures)) (omega (arith, c .before .before .before .if2 .left)) (c .before .if4 .left) (c .entry .ensures))
 
 pub kinds-spec : {M : Type 1} → statement M
 kinds-spec =
@@ -57,5 +57,5 @@ kinds-spec =
     returns-3
     range-requires
     returns-4
-    table-requires
+    entry-requires
     returns-5)

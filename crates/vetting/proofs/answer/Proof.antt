@@ -37,7 +37,7 @@ kind-entry-requires : tie.Need-kind-entry-requires
 kind-entry-requires c κs =
     let s = c .before .before .before in
     let codes = s .pre .5 in
-    (below-range (s .args .op) (s .args .count) (sym (s .pre .1)) (c .if1 .left) (s .pre .0), codes _, codes _)
+    (s .pre .6, below-range (s .args .op) (s .args .count) (sym (s .pre .1)) (c .if1 .left) (s .pre .0), codes _, codes _)
 
 returns : tie.Need-returns
 returns c =

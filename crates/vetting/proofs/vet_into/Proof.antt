@@ -21,11 +21,11 @@ use Rattle.vetting.proofs.vet_into.Statement.{statement}
 use Rattle.vetting.proofs.vet_into.Tie as tie
 
 abbrev Inv-loop : tie.InvT-loop
-Inv-loop pack sheet kinds out₀ end at₀ stack₀ n₀ i₀ out at stack n i =
+Inv-loop pack sheet kinds table out₀ end at₀ stack₀ n₀ i₀ out at stack n i =
     Going (program pack sheet) (map kindAt kinds) out stack n i × Standing pack sheet i at × (end ≡ sheetEnd pack sheet) × (end ≤ length pack)
 
 abbrev μ-loop : tie.MeasureT-loop
-μ-loop pack sheet kinds out₀ end at₀ stack₀ n₀ i₀ out at stack n i = end - at
+μ-loop pack sheet kinds table out₀ end at₀ stack₀ n₀ i₀ out at stack n i = end - at
 
 sheet-span-requires : tie.Need-sheet-span-requires Inv-loop μ-loop
 sheet-span-requires c κs =
@@ -51,7 +51,7 @@ vet-step-requires : tie.Need-vet-step-requires Inv-loop μ-loop
 vet-step-requires c κs =
     let s = c .before .before .before .before .before .before .before in
     let l = c .before .before .before .before .loop in
-    ((literalCount (s .args .pack .now), allowed (literalCount (s .args .pack .now)) (s .args .pack .now) (l .at) _ (c .before .before .read-instruction .ensures .stands)), (s .pre .1 .1, l .inv .0 .depth, l .inv .0 .codes))
+    ((literalCount (s .args .pack .now), allowed (literalCount (s .args .pack .now)) (s .args .pack .now) (l .at) _ (c .before .before .read-instruction .ensures .stands)), (s .pre .1 .1, l .inv .0 .depth, l .inv .0 .codes, s .pre .1 .2))
 
 enum-known-step : tie.Need-enum-known-step Inv-loop μ-loop
 enum-known-step c = search needs

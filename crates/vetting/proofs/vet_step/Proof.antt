@@ -19,7 +19,7 @@ enum-known-i c = search needs
 vet-op-requires : tie.Need-vet-op-requires
 vet-op-requires c κs =
     let s = c .before .before .before in
-    (rw (c .before .i .given .1) at (s .pre .0 .1), s .pre .1 .1, s .pre .1 .2)
+    (rw (c .before .i .given .1) at (s .pre .0 .1), s .pre .1 .1, s .pre .1 .2, s .pre .1 .3)
 
 enum-told : tie.Need-enum-told
 enum-told c = search needs
