@@ -282,11 +282,9 @@ pub extern "C" fn ink_call_checked(
         words::put_index(answer, 0);
         return 7;
     }
-    if word_operators::numbers(count, operands) {
-        let kind = word_operators::kind_of(op, count, operands);
-        if kind < 3 {
-            return word_operators::number(op, kind, count, operands, answer);
-        }
+    let kind = word_operators::number_kind(op, count, operands);
+    if kind < 3 {
+        return word_operators::number(op, kind, count, operands, answer);
     }
     word_operators::apply(
         op,
@@ -322,11 +320,9 @@ pub extern "C" fn ink_apply(
     ensures { λ r. ⌜ Calls (called (now (items .entry)) (now (values .entry)) (now («result_items» .entry)) (now («result_values» .entry)) op count (operandsIn (now (operands .entry))) (definitionsIn ends defined (format1 .limit)))
         r (now (answer .exit)) (now («result_items» .entry)) (now («result_items» .exit)) (now («result_values» .entry)) (now («result_values» .exit)) ⌝ }
 {
-    if word_operators::numbers(count, operands) {
-        let kind = word_operators::kind_of(op, count, operands);
-        if kind < 3 {
-            return word_operators::number(op, kind, count, operands, answer);
-        }
+    let kind = word_operators::number_kind(op, count, operands);
+    if kind < 3 {
+        return word_operators::number(op, kind, count, operands, answer);
     }
     word_operators::apply(
         op,

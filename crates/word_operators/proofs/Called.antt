@@ -2,7 +2,7 @@
 use mathlib.Core.Path.{_≡_, sym, ap, _∙_}
 use mathlib.Core.Bool.{true}
 use mathlib.Core.List.{List, [], _∷_, map}
-use Prim.Native.Nat.{ℕ, _<_, _≤_}
+use Prim.Native.Nat.{ℕ, _<_, _≤_, _^_}
 use native.Mathlib.Omega.{arith}
 use lib.IntN.{ℤ}
 use lib.ListN.{length, take}
@@ -10,7 +10,7 @@ use borrow.Author.Tests.{le-leb}
 use Rattle.ink_number.specs.Answer.{refuses}
 use Rattle.ink_list.proofs.Every.{and-both}
 use Rattle.ink_value.specs.Val.{Val, kindOf, kindAt}
-use Rattle.ink_value.specs.Value.{valOf, FirstFormed}
+use Rattle.ink_value.specs.Value.{valOf, Formed, FirstFormed}
 use Rattle.ink_value.specs.declared.Value.{Value}
 use Rattle.kind_table.specs.Kinds.{kindCall, decoded}
 use Rattle.native_function_call.specs.Lists.{definitions, Room}
@@ -19,6 +19,16 @@ use Rattle.native_function_call.proofs.Calling.{call-gives, call-refuses, decod
 use Rattle.pack.specs.Format.{format1}
 use Rattle.calls.specs.Call.{operandsOk, called, PackLists}
 use Rattle.calls.proofs.Forms.{first-of, goes-on, map-take}
+use Rattle.list_definitions.specs.Defs.{ListDefinitions}
+use Rattle.value_words.specs.Words.{unheld, valueAt}
+use Rattle.value_words.specs.Calls.{operandsIn, Says, Calls}
+use Rattle.value_words.proofs.Saying.{calls-is}
+use Rattle.word_operators.specs.Numbers.{Held, OfNumbers}
+use Rattle.word_operators.proofs.Said.{said-calls}
+
+-- no slices that a program can lend hold what words of none read as
+not-spanned : {limit : ℕ} {is : List ℕ} {vs : List ℤ} {v : Value} → length is < 2 ^ 64 → Formed limit is vs v → v ≡ unheld → ⊥
+not-spanned {limit} {is} {vs} h f e = let g : Formed limit is vs unheld = rw e at f in omega (arith, g .items-in)
 
 module _ (ends : List ℕ) (defined : List ℤ) (is : List ℕ) (vs : List ℤ) (oi : List ℕ) (ov : List ℤ) (a b c : Value) (o n : ℕ)
     (t : PackLists ends defined) (ok : operandsOk (definitions ends defined (format1 .limit)) is vs (take n (a ∷ b ∷ c ∷ [])) ≡ true)
@@ -49,3 +59,21 @@ module _ (ends : List ℕ) (defined : List ℤ) (is : List ℕ) (vs : List ℤ) 
     pub called-two : k < 5 → 1 ≤ n → n ≤ 2 → called is vs oi ov o n (a ∷ b ∷ c ∷ []) (definitions ends defined (format1 .limit))
         ≡ compute (definitions ends defined (format1 .limit)) o (take n (valOf is vs a ∷ valOf is vs b ∷ [])) (kindAt k)
     called-two h l m = called-yes h ∙ ap (λ (r : List Val). compute (definitions ends defined (format1 .limit)) o r (kindAt k)) (sym (two-of n _ _ _ l m))
+
+-- with the words of the operands: numbers, and what the call writes of them
+module _ (ends : List ℕ) (defined : List ℤ) (is : List ℕ) (vs : List ℤ) (oi : List ℕ) (ov : List ℤ) (ws : List ℕ) (o n : ℕ)
+    (t : PackLists ends defined) (ok : operandsOk (definitions ends defined (format1 .limit)) is vs (take n (operandsIn ws)) ≡ true) where
+  -- question 7 says no to words that are no value's
+  pub held : length is < 2 ^ 64 → Held ws n
+  held h =
+      let f = first-of (length defined) (length ends) is vs (format1 .limit) n (valueAt ws 0) (valueAt ws 1) (valueAt ws 2) (t .within) ok in
+      record { one = λ l. not-spanned h (f .one l); two = λ l. not-spanned h (f .two l) }
+
+  pub called-numbers : format1 .limit ≤ length oi → format1 .limit ≤ length ov → (kind r : ℕ) (out : List ℕ) → OfNumbers ws o n kind
+      → ((u : ListDefinitions) (js : List ℕ) (zs : List ℤ) → Says (compute u o (take n (valOf js zs (valueAt ws 0) ∷ valOf js zs (valueAt ws 1) ∷ [])) (kindAt kind)) r out)
+      → Calls (called is vs oi ov o n (operandsIn ws) (definitions ends defined (format1 .limit))) r out oi oi ov ov
+  called-numbers hi hv kind r out m says =
+      let u = definitions ends defined (format1 .limit) in
+      calls-is (called-two ends defined is vs oi ov (valueAt ws 0) (valueAt ws 1) (valueAt ws 2) o n t ok hi hv kind
+      (m .answered is vs ∙ sym (decoded-kind kind (omega (arith, m .small)))) (omega (arith, m .small)) (m .some) (m .few))
+      (said-calls u o _ kind (λ e. omega (arith, m .small)) _ _ _ _ (says u is vs))

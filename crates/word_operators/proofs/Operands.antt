@@ -8,7 +8,7 @@ use lib.Dec.{eqb, ltb}
 use lib.IntN.{ℤ}
 use lib.Ieee.{Float}
 use lib.ListN.{getD, take}
-use borrow.Author.Tests.{lt-ltb, le-ltb, eqb-true, ltb-true}
+use borrow.Author.Tests.{lt-ltb, eqb-true, ltb-true}
 use Rattle.ink_number.specs.Int.{signed}
 use Rattle.ink_float.specs.Real.{ofBits32}
 use Rattle.ink_value.specs.Convert.{bitZ}
@@ -18,16 +18,12 @@ use Rattle.ink_value.specs.declared.Value.{Value}
 use Rattle.ink_value.specs.declared.Value.the-variants as Is
 use Rattle.ink_value.proofs.Reading.{ap2, code-in}
 use Rattle.value_words.specs.Words.{unheld, boolAt, intAt, floatAt, voidAt, plainAt, valueOf, valueAt, codeAt}
-use Rattle.kind_table.specs.Kinds.{KindsGiven}
+use Rattle.kind_table.specs.Kinds.{kindCall, kindEntry, operandCount, decoded}
+use Rattle.native_function_call.proofs.Calling.{decoded-kind, entry-count, entry-given}
+use Rattle.word_operators.specs.Numbers.{Held, OfNumbers}
 
 pub number-is : {v : Value} {k k′ : ℕ} {z z′ : ℤ} {x x′ : Float} → Number v k z x → k′ ≡ k → z′ ≡ z → x′ ≡ x → Number v k′ z′ x′
 number-is o ek ez ex = rw (ek, ez, ex) o
-
--- ---- kind codes
-
-pub given-codes : (o n a b c i j k e : ℕ) → a ≡ i → b ≡ j → c ≡ k → KindsGiven o n (take n (kindAt a ∷ kindAt b ∷ kindAt c ∷ [])) e
-    → KindsGiven o n (take n (kindAt i ∷ kindAt j ∷ kindAt k ∷ [])) e
-given-codes o n a b c i j k e p q r g = rw (← p, ← q, ← r) g
 
 -- ---- the parts of a value that is held
 
@@ -146,11 +142,26 @@ both-numbers n a b e = go (ltb a 3) (ltb n 2) (ltb b 3) refl refl refl e
     go true false false ep eq er h = let z : _≡_ {A = ℕ} 0 1 = cc in absurd (omega arith)
     go false q r ep eq er h = let z : _≡_ {A = ℕ} 0 1 = cc in absurd (omega arith)
 
-pub asked-one : (r n a b : ℕ) → r ≡ a → r < 3 → n < 2 → true ≡ cond (ltb a 3) (cond (ltb n 2) true (ltb b 3)) false
-asked-one r n a b e h l = rw (lt-ltb a 3 (omega arith), lt-ltb n 2 l)
+-- words that are a value's have the code of its kind
+held-code : (ws : List ℕ) (k : ℕ) → (valueAt ws k ≡ unheld → ⊥) → codeAt ws k ≡ codeOfValue (valueAt ws k)
+held-code ws k h = word-parts (getD ws (3 * k + 1) 0) (getD ws (3 * k) 0) (getD ws (3 * k + 2) 0) h .kind-is
 
-pub asked-two : (r n a b q : ℕ) → r ≡ a → q ≡ b → r < 3 → 2 ≤ n → ltb q 3 ≡ cond (ltb a 3) (cond (ltb n 2) true (ltb b 3)) false
-asked-two r n a b q e f h l = rw (lt-ltb a 3 (omega arith), le-ltb n 2 l) (ap (λ (x : ℕ). ltb x 3) f)
-
-pub asked-none : (r n a b : ℕ) → r ≡ a → 3 ≤ r → false ≡ cond (ltb a 3) (cond (ltb n 2) true (ltb b 3)) false
-asked-none r n a b e h = rw (le-ltb a 3 (omega arith))
+-- an operator's answer on the codes of one number or two is its answer on the numbers
+pub of-numbers : (ws : List ℕ) (o n r : ℕ) → Held ws n → operandCount o ≡ n → o < 31
+    → true ≡ cond (ltb (codeAt ws 0) 3) (cond (ltb n 2) true (ltb (codeAt ws 1) 3)) false
+    → decoded r ≡ kindEntry o (kindAt (codeAt ws 0)) (kindAt (codeAt ws 1)) → r < 3 → OfNumbers ws o n r
+of-numbers ws o n r h e l t q d =
+    let b = both-numbers n (codeAt ws 0) (codeAt ws 1) t in
+    let w = entry-count o (kindAt (codeAt ws 0)) (kindAt (codeAt ws 1)) (kindAt (codeAt ws 2)) n r e l (omega arith) q in
+    let g = entry-given o (kindAt (codeAt ws 0)) (kindAt (codeAt ws 1)) (kindAt (codeAt ws 2)) n r e (w .0) (w .1) q in
+    let few : n ≤ 2 = omega (arith, w .1, g .counted (omega arith)) in
+    let left : codeOfValue (valueAt ws 0) < 3 = omega (arith, held-code ws 0 (h .one (w .0)), b .0) in
+    let right : n ≡ 2 → codeOfValue (valueAt ws 1) < 3 = λ two. omega (arith, held-code ws 1 (h .two (omega arith)), b .1 two) in
+    record {
+      some = w .0;
+      few = few;
+      left = left;
+      right = right;
+      small = d;
+      answered = λ is vs. ap (kindCall o n) (number-kinds is vs ws n (w .0) few left right) ∙ sym (g .answered) ∙ decoded-kind r (omega arith);
+    }

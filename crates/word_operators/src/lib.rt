@@ -19,15 +19,15 @@ ghost use Rattle.ink_float.specs.Real.{ofBits32};
 ghost use Rattle.list_definitions.specs.Defs.{ListDefinitions};
 ghost use Rattle.ink_value.specs.Val.{kindAt, listK};
 ghost use Rattle.ink_list.specs.Entries.{itemNumbers};
-ghost use Rattle.ink_value.specs.Value.{codeOfValue, valOf, Formed, FirstFormed};
+ghost use Rattle.ink_value.specs.Value.{valOf, Formed, FirstFormed};
 ghost use Rattle.ink_value.specs.Slices.{valIn};
-ghost use Rattle.kind_table.specs.Kinds.{KindsGiven};
 ghost use Rattle.native_function_call.specs.Apply.{ofInt, compute};
 ghost use Rattle.native_function_call.specs.Lists.{Room, definitions, definitionsIn};
 ghost use Rattle.pack.specs.Format.{format1};
 ghost use Rattle.calls.specs.Call.{operandsOk, called, PackLists};
-ghost use Rattle.value_words.specs.Words.{valueAt, codeAt};
+ghost use Rattle.value_words.specs.Words.{valueAt};
 ghost use Rattle.value_words.specs.Calls.{operandsIn, Says, Calls};
+ghost use Rattle.word_operators.specs.Numbers.{Held, OfNumbers};
 
 // The kind code in a value's first word; 4 where it has none.
 fn code_in(w: u64) -> u8
@@ -49,30 +49,36 @@ fn real_in(w: u64) -> f32
     ink_float::convert::float_from_bits(words::low(w))
 }
 
-// Questions 8 and 10 to 14, which ask only for the operator, the count and the kinds: the code of the answer.
-pub fn kind_of(op: u8, count: usize, operands: &[u64; 9]) -> u8
-    ensures { λ r. ⌜ KindsGiven op count (take count (kindAt (codeAt (now (operands .entry)) 0) ∷ kindAt (codeAt (now (operands .entry)) 1) ∷ kindAt (codeAt (now (operands .entry)) 2) ∷ [])) r ⌝ }
+// Is the operand, or are the two, numbers, by their kind codes.
+fn numbers(count: usize, left: u8, right: u8) -> bool
+    ensures { λ r. ⌜ r ≡ cond (ltb left 3) (cond (ltb count 2) true (ltb right 3)) false ⌝ }
 {
-    native_function_call::kinds(
-        op,
-        count,
-        code_in(operands[0]),
-        code_in(operands[3]),
-        code_in(operands[6]),
-    )
-}
-
-// Is the operand, or are the two, numbers.
-pub fn numbers(count: usize, operands: &[u64; 9]) -> bool
-    ensures { λ r. ⌜ r ≡ cond (ltb (codeOfValue (valueAt (now (operands .entry)) 0)) 3) (cond (ltb count 2) true (ltb (codeOfValue (valueAt (now (operands .entry)) 1)) 3)) false ⌝ }
-{
-    if ink_value::kind(words::operand_at(operands, 0)) < 3 {
+    if left < 3 {
         if count < 2 {
             return true;
         }
-        return ink_value::kind(words::operand_at(operands, 1)) < 3;
+        return right < 3;
     }
     false
+}
+
+// The kind of a result of numbers, below 3; else, where an operand or the result is none, 3 or more.
+pub fn number_kind(op: u8, count: usize, operands: &[u64; 9]) -> u8
+    requires { ⌜ Held (now operands) count ⌝ }
+    ensures { λ r. ⌜ (r < 3 → OfNumbers (now (operands .entry)) op count r) ⌝ }
+{
+    let left = code_in(operands[0]);
+    let right = code_in(operands[3]);
+    if 30 < op {
+        return 3;
+    }
+    if kind_table::operands(op) != count {
+        return 3;
+    }
+    if numbers(count, left, right) {
+        return kind_table::number_entry(op, left, right);
+    }
+    3
 }
 
 // A result that is an Int.
@@ -93,8 +99,7 @@ fn put_whole(d: Divided, answer: &mut [u64; 3]) -> u32
 
 // A result of numbers.
 pub fn number(op: u8, kind: u8, count: usize, operands: &[u64; 9], answer: &mut [u64; 3]) -> u32
-    requires { ⌜ (kind < 3) × (1 ≤ count) × (count ≤ 2) ⌝ }
-    requires { ⌜ (codeOfValue (valueAt (now operands) 0) < 3) × (count ≡ 2 → codeOfValue (valueAt (now operands) 1) < 3) ⌝ }
+    requires { ⌜ OfNumbers (now operands) op count kind ⌝ }
     ensures { λ r. ⌜ ((u : ListDefinitions) (is : List ℕ) (vs : List ℤ)
         → Says (compute u op (take count (valOf is vs (valueAt (now (operands .entry)) 0) ∷ valOf is vs (valueAt (now (operands .entry)) 1) ∷ [])) (kindAt kind)) r (now (answer .exit))) ⌝ }
 {

@@ -55,8 +55,8 @@ returns : tie.Need-returns
 returns c =
     let s = c .before .before .before .before .before .before .before .before .before .before .before .before .before .before .before .before in
     let ws = s .args .operands .now in
-    let na = number-is (number-at ws 0 (s .pre .1 .0)) (c .before .before .before .before .before .before .before .before .before .before .before .before .before .before .code-in .ensures .0) (returned (c .before .before .before .before .before .before .before .before .before .before .before .before .whole-in .ok) ∙ c .before .before .before .before .before .before .before .before .before .before .before .before .whole-in .ensures) (c .before .before .before .before .before .before .before .before .before .before .real-in .ensures) in
-    λ u is vs. said-bool u (s .args .op) _ (s .args .kind) (c .before .before .before .if1 .taken) _ _ (c .before .before .number-test .ensures (valueAt ws 0) (valueAt ws 1) is vs na (λ t. number-is (number-at ws 1 (s .pre .1 .1 t)) (c .before .before .before .before .before .before .before .before .code-in2 .ensures .0) (returned (c .before .before .before .before .before .before .whole-in2 .ok) ∙ c .before .before .before .before .before .before .whole-in2 .ensures) (c .before .before .before .before .real-in2 .ensures))) (c .put-value .ensures)
+    let na = number-is (number-at ws 0 (s .pre .left)) (c .before .before .before .before .before .before .before .before .before .before .before .before .before .before .code-in .ensures .0) (returned (c .before .before .before .before .before .before .before .before .before .before .before .before .whole-in .ok) ∙ c .before .before .before .before .before .before .before .before .before .before .before .before .whole-in .ensures) (c .before .before .before .before .before .before .before .before .before .before .real-in .ensures) in
+    λ u is vs. said-bool u (s .args .op) _ (s .args .kind) (c .before .before .before .if1 .taken) _ _ (c .before .before .number-test .ensures (valueAt ws 0) (valueAt ws 1) is vs na (λ t. number-is (number-at ws 1 (s .pre .right t)) (c .before .before .before .before .before .before .before .before .code-in2 .ensures .0) (returned (c .before .before .before .before .before .before .whole-in2 .ok) ∙ c .before .before .before .before .before .before .whole-in2 .ensures) (c .before .before .before .before .real-in2 .ensures))) (c .put-value .ensures)
 
 number-whole-requires : tie.Need-number-whole-requires
 number-whole-requires c κs = search needs
@@ -68,8 +68,8 @@ returns-2 : tie.Need-returns-2
 returns-2 c =
     let s = c .before .before .before .before .before .before .before .before .before .before .before .before .before .before .before .before .before in
     let ws = s .args .operands .now in
-    let na = number-is (number-at ws 0 (s .pre .1 .0)) (c .before .before .before .before .before .before .before .before .before .before .before .before .before .before .before .code-in .ensures .0) (returned (c .before .before .before .before .before .before .before .before .before .before .before .before .before .whole-in .ok) ∙ c .before .before .before .before .before .before .before .before .before .before .before .before .before .whole-in .ensures) (c .before .before .before .before .before .before .before .before .before .before .before .real-in .ensures) in
-    λ u is vs. said-int u (s .args .op) _ (s .args .kind) (c .before .before .before .if2 .taken) _ _ _ (c .before .before .number-whole .ensures (valueAt ws 0) (valueAt ws 1) is vs na (λ t. number-is (number-at ws 1 (s .pre .1 .1 t)) (c .before .before .before .before .before .before .before .before .before .code-in2 .ensures .0) (returned (c .before .before .before .before .before .before .before .whole-in2 .ok) ∙ c .before .before .before .before .before .before .before .whole-in2 .ensures) (c .before .before .before .before .before .real-in2 .ensures))) (c .put-whole .ensures)
+    let na = number-is (number-at ws 0 (s .pre .left)) (c .before .before .before .before .before .before .before .before .before .before .before .before .before .before .before .code-in .ensures .0) (returned (c .before .before .before .before .before .before .before .before .before .before .before .before .before .whole-in .ok) ∙ c .before .before .before .before .before .before .before .before .before .before .before .before .before .whole-in .ensures) (c .before .before .before .before .before .before .before .before .before .before .before .real-in .ensures) in
+    λ u is vs. said-int u (s .args .op) _ (s .args .kind) (c .before .before .before .if2 .taken) _ _ _ (c .before .before .number-whole .ensures (valueAt ws 0) (valueAt ws 1) is vs na (λ t. number-is (number-at ws 1 (s .pre .right t)) (c .before .before .before .before .before .before .before .before .before .code-in2 .ensures .0) (returned (c .before .before .before .before .before .before .before .whole-in2 .ok) ∙ c .before .before .before .before .before .before .before .whole-in2 .ensures) (c .before .before .before .before .before .real-in2 .ensures))) (c .put-whole .ensures)
 
 number-real-requires : tie.Need-number-real-requires
 number-real-requires c κs = search needs
@@ -81,9 +81,9 @@ returns-3 : tie.Need-returns-3
 returns-3 c =
     let s = c .before .before .before .before .before .before .before .before .before .before .before .before .before .before .before .before .before in
     let ws = s .args .operands .now in
-    let two : s .args .kind ≡ 2 = omega (arith, c .before .before .before .before .if1 .left, c .before .before .before .if2 .left, s .pre .0 .0) in
-    let na = number-is (number-at ws 0 (s .pre .1 .0)) (c .before .before .before .before .before .before .before .before .before .before .before .before .before .before .before .code-in .ensures .0) (returned (c .before .before .before .before .before .before .before .before .before .before .before .before .before .whole-in .ok) ∙ c .before .before .before .before .before .before .before .before .before .before .before .before .before .whole-in .ensures) (c .before .before .before .before .before .before .before .before .before .before .before .real-in .ensures) in
-    λ u is vs. said-float u (s .args .op) _ (s .args .kind) two _ _ (c .before .before .number-real .ensures (valueAt ws 0) (valueAt ws 1) is vs na (λ t. number-is (number-at ws 1 (s .pre .1 .1 t)) (c .before .before .before .before .before .before .before .before .before .code-in2 .ensures .0) (returned (c .before .before .before .before .before .before .before .whole-in2 .ok) ∙ c .before .before .before .before .before .before .before .whole-in2 .ensures) (c .before .before .before .before .before .real-in2 .ensures))) (c .put-value2 .ensures)
+    let two : s .args .kind ≡ 2 = omega (arith, c .before .before .before .before .if1 .left, c .before .before .before .if2 .left, s .pre .small) in
+    let na = number-is (number-at ws 0 (s .pre .left)) (c .before .before .before .before .before .before .before .before .before .before .before .before .before .before .before .code-in .ensures .0) (returned (c .before .before .before .before .before .before .before .before .before .before .before .before .before .whole-in .ok) ∙ c .before .before .before .before .before .before .before .before .before .before .before .before .before .whole-in .ensures) (c .before .before .before .before .before .before .before .before .before .before .before .real-in .ensures) in
+    λ u is vs. said-float u (s .args .op) _ (s .args .kind) two _ _ (c .before .before .number-real .ensures (valueAt ws 0) (valueAt ws 1) is vs na (λ t. number-is (number-at ws 1 (s .pre .right t)) (c .before .before .before .before .before .before .before .before .before .code-in2 .ensures .0) (returned (c .before .before .before .before .before .before .before .whole-in2 .ok) ∙ c .before .before .before .before .before .before .before .whole-in2 .ensures) (c .before .before .before .before .before .real-in2 .ensures))) (c .put-value2 .ensures)
 
 pub number-spec : {M : Type 1} → statement M
 number-spec =

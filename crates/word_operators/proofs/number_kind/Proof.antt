@@ -1,0 +1,62 @@
+-- `word_operators::number_kind` meets its contract. Assumes nothing.
+use mathlib.Core.Path.{sym, _∙_}
+use native.Mathlib.Omega.{arith}
+use Rattle.word_operators.proofs.Operands.{both-numbers, of-numbers}
+use borrow.Author.Needs.{needs}
+use Rattle.word_operators.proofs.number_kind.Statement.{statement}
+use Rattle.word_operators.proofs.number_kind.Tie as tie
+
+element-copy-out-code-in : tie.Need-element-copy-out-code-in
+element-copy-out-code-in c = search needs
+
+code-in-requires : tie.Need-code-in-requires
+code-in-requires c κs = search needs
+
+element-copy-out-code-in-2 : tie.Need-element-copy-out-code-in-2
+element-copy-out-code-in-2 c = search needs
+
+code-in-requires-2 : tie.Need-code-in-requires-2
+code-in-requires-2 c κs = search needs
+
+returns : tie.Need-returns
+returns c = λ h. absurd (omega arith)
+
+operands-requires : tie.Need-operands-requires
+operands-requires c κs = search needs
+
+returns-2 : tie.Need-returns-2
+returns-2 c = λ h. absurd (omega arith)
+
+numbers-requires : tie.Need-numbers-requires
+numbers-requires c κs = search needs
+
+number-entry-requires : tie.Need-number-entry-requires
+number-entry-requires c κs =
+    let b = both-numbers (c .before .before .before .before .before .before .before .before .before .args .count) (c .before .before .before .before .before .before .before .code-in .result) (c .before .before .before .before .before .code-in2 .result) (sym (c .if3 .taken) ∙ c .before .numbers .ensures) in
+    (omega arith, b .0, c .before .before .before .before .before .code-in2 .ensures .1)
+
+returns-3 : tie.Need-returns-3
+returns-3 c =
+    let s = c .before .before .before .before .before .before .before .before .before .before in
+    of-numbers (s .args .operands .now) (s .args .op) (s .args .count) (c .number-entry .result) (s .pre) (sym (c .before .before .before .before .operands .ensures) ∙ c .before .before .before .if2 .left) (omega (arith, c .before .before .before .before .before .if1 .left))
+    (rw (c .before .before .before .before .before .before .before .before .code-in .ensures .0, c .before .before .before .before .before .before .code-in2 .ensures .0) at (sym (c .before .if3 .taken) ∙ c .before .before .numbers .ensures))
+    (rw (c .before .before .before .before .before .before .before .before .code-in .ensures .0, c .before .before .before .before .before .before .code-in2 .ensures .0) at (c .number-entry .ensures))
+
+returns-4 : tie.Need-returns-4
+returns-4 c = λ h. absurd (omega arith)
+
+pub number-kind-spec : {M : Type 1} → statement M
+number-kind-spec =
+    tie.close
+    (tie.spec
+    element-copy-out-code-in
+    code-in-requires
+    element-copy-out-code-in-2
+    code-in-requires-2
+    returns
+    operands-requires
+    returns-2
+    numbers-requires
+    number-entry-requires
+    returns-3
+    returns-4)

@@ -1,0 +1,2 @@
+-- Operators on words.
+pub mod Numbers
