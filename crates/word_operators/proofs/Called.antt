@@ -8,10 +8,12 @@ use lib.IntN.{ℤ}
 use lib.ListN.{length, take}
 use borrow.Author.Tests.{le-leb}
 use Rattle.ink_number.specs.Answer.{refuses}
+use Rattle.ink_list.specs.Entries.{itemNumbers}
 use Rattle.ink_list.proofs.Every.{and-both}
 use Rattle.ink_value.specs.Val.{Val, kindOf, kindAt}
 use Rattle.ink_value.specs.Value.{valOf, Formed, FirstFormed}
 use Rattle.ink_value.specs.declared.Value.{Value}
+use Rattle.ink_value.proofs.Reading.{formed-limit}
 use Rattle.kind_table.specs.Kinds.{kindCall, decoded}
 use Rattle.native_function_call.specs.Lists.{definitions, Room}
 use Rattle.native_function_call.specs.Apply.{call, compute}
@@ -23,7 +25,7 @@ use Rattle.list_definitions.specs.Defs.{ListDefinitions}
 use Rattle.value_words.specs.Words.{unheld, valueAt}
 use Rattle.value_words.specs.Calls.{operandsIn, Says, Calls}
 use Rattle.value_words.proofs.Saying.{calls-is}
-use Rattle.word_operators.specs.Numbers.{Held, OfNumbers}
+use Rattle.word_operators.specs.Operands.{Held, FirstIn, OfNumbers}
 use Rattle.word_operators.proofs.Said.{said-calls}
 
 -- no slices that a program can lend hold what words of none read as
@@ -67,7 +69,16 @@ module _ (ends : List ℕ) (defined : List ℤ) (is : List ℕ) (vs : List ℤ) 
   pub held : length is < 2 ^ 64 → Held ws n
   held h =
       let f = first-of (length defined) (length ends) is vs (format1 .limit) n (valueAt ws 0) (valueAt ws 1) (valueAt ws 2) (t .within) ok in
-      record { one = λ l. not-spanned h (f .one l); two = λ l. not-spanned h (f .two l) }
+      record { one = λ l. not-spanned h (f .one l); two = λ l. not-spanned h (f .two l); three = λ l. not-spanned h (f .three l) }
+
+  pub first-in : FirstIn itemNumbers is vs n ws
+  first-in =
+      let f = first-of (length defined) (length ends) is vs (format1 .limit) n (valueAt ws 0) (valueAt ws 1) (valueAt ws 2) (t .within) ok in
+      record {
+        one = λ l. formed-limit (format1 .limit) is vs itemNumbers (valueAt ws 0) (omega arith) (f .one l);
+        two = λ l. formed-limit (format1 .limit) is vs itemNumbers (valueAt ws 1) (omega arith) (f .two l);
+        three = λ l. formed-limit (format1 .limit) is vs itemNumbers (valueAt ws 2) (omega arith) (f .three l);
+      }
 
   pub called-numbers : format1 .limit ≤ length oi → format1 .limit ≤ length ov → (kind r : ℕ) (out : List ℕ) → OfNumbers ws o n kind
       → ((u : ListDefinitions) (js : List ℕ) (zs : List ℤ) → Says (compute u o (take n (valOf js zs (valueAt ws 0) ∷ valOf js zs (valueAt ws 1) ∷ [])) (kindAt kind)) r out)

@@ -13,14 +13,17 @@ use Rattle.ink_number.specs.Int.{signed}
 use Rattle.ink_float.specs.Real.{ofBits32}
 use Rattle.ink_value.specs.Convert.{bitZ}
 use Rattle.ink_value.specs.Val.{Kind, kindOf, kindAt}
-use Rattle.ink_value.specs.Value.{valOf, codeOfValue, Parts, Number}
+use Rattle.ink_value.specs.Value.{valOf, codeOfValue, Parts, Number, Operand, Spans, Formed}
 use Rattle.ink_value.specs.declared.Value.{Value}
 use Rattle.ink_value.specs.declared.Value.the-variants as Is
-use Rattle.ink_value.proofs.Reading.{ap2, code-in}
+use Rattle.ink_list.specs.Entries.{itemNumbers}
+use Rattle.ink_value.proofs.Reading.{ap2, ap3, code-in}
+use Rattle.ink_value.proofs.Parts.{spans-of}
+use Rattle.calls.proofs.Forms.{map-take}
 use Rattle.value_words.specs.Words.{unheld, boolAt, intAt, floatAt, voidAt, plainAt, valueOf, valueAt, codeAt}
 use Rattle.kind_table.specs.Kinds.{kindCall, kindEntry, operandCount, decoded}
 use Rattle.native_function_call.proofs.Calling.{decoded-kind, entry-count, entry-given}
-use Rattle.word_operators.specs.Numbers.{Held, OfNumbers}
+use Rattle.word_operators.specs.Operands.{Held, OfNumbers, FirstIn, valsAt}
 
 pub number-is : {v : Value} {k k′ : ℕ} {z z′ : ℤ} {x x′ : Float} → Number v k z x → k′ ≡ k → z′ ≡ z → x′ ≡ x → Number v k′ z′ x′
 number-is o ek ez ex = rw (ek, ez, ex) o
@@ -119,19 +122,6 @@ pub number-at : (ws : List ℕ) (k : ℕ) → codeOfValue (valueAt ws k) < 3
     → Number (valueAt ws k) (codeAt ws k) (signed (getD ws (3 * k + 1) 0 % 2 ^ 32)) (ofBits32 (getD ws (3 * k + 1) 0 % 2 ^ 32))
 number-at ws k h = no-entries (valueAt ws k) h (word-parts (getD ws (3 * k + 1) 0) (getD ws (3 * k) 0) (getD ws (3 * k + 2) 0) (held (valueAt ws k) h))
 
--- the kinds of one number or two are those in their words
-module _ (is : List ℕ) (vs : List ℤ) (ws : List ℕ) where
-  kind-at : (k : ℕ) → codeOfValue (valueAt ws k) < 3 → kindOf (valOf is vs (valueAt ws k)) ≡ kindAt (codeAt ws k)
-  kind-at k h = sym (code-in is vs (valueAt ws k)) ∙ ap kindAt (sym (number-at ws k h .parts .kind-is))
-
-  pub number-kinds : (n : ℕ) → 1 ≤ n → n ≤ 2 → codeOfValue (valueAt ws 0) < 3 → (n ≡ 2 → codeOfValue (valueAt ws 1) < 3)
-      → map kindOf (take n (valOf is vs (valueAt ws 0) ∷ valOf is vs (valueAt ws 1) ∷ valOf is vs (valueAt ws 2) ∷ []))
-      ≡ take n (kindAt (codeAt ws 0) ∷ kindAt (codeAt ws 1) ∷ kindAt (codeAt ws 2) ∷ [])
-  number-kinds zero l m h g = absurd (omega arith)
-  number-kinds (suc zero) l m h g = ap (λ (a : Kind). a ∷ []) (kind-at 0 h)
-  number-kinds (suc (suc zero)) l m h g = ap2 (λ (a b : Kind). a ∷ b ∷ []) (kind-at 0 h) (kind-at 1 (g refl))
-  number-kinds (suc (suc (suc n))) l m h g = absurd (omega arith)
-
 -- what the code asks
 pub both-numbers : (n a b : ℕ) → true ≡ cond (ltb a 3) (cond (ltb n 2) true (ltb b 3)) false → (a < 3) × (n ≡ 2 → b < 3)
 both-numbers n a b e = go (ltb a 3) (ltb n 2) (ltb b 3) refl refl refl e
@@ -145,6 +135,41 @@ both-numbers n a b e = go (ltb a 3) (ltb n 2) (ltb b 3) refl refl refl e
 -- words that are a value's have the code of its kind
 held-code : (ws : List ℕ) (k : ℕ) → (valueAt ws k ≡ unheld → ⊥) → codeAt ws k ≡ codeOfValue (valueAt ws k)
 held-code ws k h = word-parts (getD ws (3 * k + 1) 0) (getD ws (3 * k) 0) (getD ws (3 * k + 2) 0) h .kind-is
+
+-- so the kinds of the first n operands are those in their words
+module _ (is : List ℕ) (vs : List ℤ) (ws : List ℕ) where
+  kind-at : (k : ℕ) → (valueAt ws k ≡ unheld → ⊥) → kindOf (valOf is vs (valueAt ws k)) ≡ kindAt (codeAt ws k)
+  kind-at k h = sym (code-in is vs (valueAt ws k)) ∙ ap kindAt (sym (held-code ws k h))
+
+  pub kinds-at : (n : ℕ) → Held ws n → map kindOf (take n (valsAt is vs ws)) ≡ take n (kindAt (codeAt ws 0) ∷ kindAt (codeAt ws 1) ∷ kindAt (codeAt ws 2) ∷ [])
+  kinds-at n h = map-take kindOf n (valsAt is vs ws) ∙ go n h
+    where
+      go : (n : ℕ) → Held ws n → take n (map kindOf (valsAt is vs ws)) ≡ take n (kindAt (codeAt ws 0) ∷ kindAt (codeAt ws 1) ∷ kindAt (codeAt ws 2) ∷ [])
+      go zero h = refl
+      go (suc zero) h = ap (λ (a : Kind). a ∷ []) (kind-at 0 (h .one (omega arith)))
+      go (suc (suc zero)) h = ap2 (λ (a b : Kind). a ∷ b ∷ []) (kind-at 0 (h .one (omega arith))) (kind-at 1 (h .two (omega arith)))
+      go (suc (suc (suc n))) h =
+          ap3 (λ (a b c : Kind). take (suc (suc (suc n))) (a ∷ b ∷ c ∷ [])) (kind-at 0 (h .one (omega arith))) (kind-at 1 (h .two (omega arith))) (kind-at 2 (h .three (omega arith)))
+
+-- and what the code reads of an operand's words are its parts
+operand-at : (is : List ℕ) (vs : List ℤ) (ws : List ℕ) (k : ℕ) → (valueAt ws k ≡ unheld → ⊥) → Formed itemNumbers is vs (valueAt ws k)
+    → {c : ℕ} {z : ℤ} {x : Float} {s n : ℕ} → c ≡ codeAt ws k → z ≡ signed (getD ws (3 * k + 1) 0 % 2 ^ 32) → x ≡ ofBits32 (getD ws (3 * k + 1) 0 % 2 ^ 32)
+    → s ≡ getD ws (3 * k + 2) 0 % 2 ^ 32 → n ≡ getD ws (3 * k + 2) 0 / 2 ^ 32 → Operand is vs (valueAt ws k) c z x s n
+operand-at is vs ws k h f ec ez ex es en =
+    record { parts = rw (ec, ez, ex, es, en) (word-parts (getD ws (3 * k + 1) 0) (getD ws (3 * k) 0) (getD ws (3 * k + 2) 0) h); formed = f }
+
+-- of the first operand; of the second, where there are two
+module _ (is : List ℕ) (vs : List ℤ) (ws : List ℕ) (n : ℕ) (h : Held ws n) (f : FirstIn itemNumbers is vs n ws) where
+  pub first-at : 1 ≤ n → {c : ℕ} {z : ℤ} {x : Float} {s m : ℕ} → c ≡ codeAt ws 0 → z ≡ signed (getD ws 1 0 % 2 ^ 32) → x ≡ ofBits32 (getD ws 1 0 % 2 ^ 32)
+      → s ≡ getD ws 2 0 % 2 ^ 32 → m ≡ getD ws 2 0 / 2 ^ 32 → Operand is vs (valueAt ws 0) c z x s m
+  first-at l ec ez ex es em = operand-at is vs ws 0 (h .one l) (f .one l) ec ez ex es em
+
+  pub second-at : {c : ℕ} {z : ℤ} {x : Float} {s m : ℕ} → c ≡ codeAt ws 1 → z ≡ signed (getD ws 4 0 % 2 ^ 32) → x ≡ ofBits32 (getD ws 4 0 % 2 ^ 32)
+      → s ≡ getD ws 5 0 % 2 ^ 32 → m ≡ getD ws 5 0 / 2 ^ 32 → n ≡ 2 → Operand is vs (valueAt ws 1) c z x s m
+  second-at ec ez ex es em t = operand-at is vs ws 1 (h .two (omega arith)) (f .two (omega arith)) ec ez ex es em
+
+pub operand-spans : {is : List ℕ} {vs : List ℤ} {v : Value} {c : ℕ} {z : ℤ} {x : Float} {s n : ℕ} → Operand is vs v c z x s n → Spans itemNumbers is vs s n
+operand-spans {is} {vs} {v} o = spans-of itemNumbers is vs v _ _ (o .parts .start-is) (o .parts .len-is) (o .formed)
 
 -- an operator's answer on the codes of one number or two is its answer on the numbers
 pub of-numbers : (ws : List ℕ) (o n r : ℕ) → Held ws n → operandCount o ≡ n → o < 31
@@ -163,5 +188,5 @@ of-numbers ws o n r h e l t q d =
       left = left;
       right = right;
       small = d;
-      answered = λ is vs. ap (kindCall o n) (number-kinds is vs ws n (w .0) few left right) ∙ sym (g .answered) ∙ decoded-kind r (omega arith);
+      answered = λ is vs. ap (kindCall o n) (kinds-at is vs ws n h) ∙ sym (g .answered) ∙ decoded-kind r (omega arith);
     }

@@ -1,2 +1,2 @@
 -- Operators on words.
-pub mod Numbers
+pub mod Operands

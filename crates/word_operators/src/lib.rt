@@ -1,4 +1,5 @@
-// An operator from words to words. Where its result is no List the operands go to it in parts, and numbers without a slice.
+// An operator from words to words. Where its result is no List the operands go to it in parts, as they stand in the words, and numbers
+// without a slice.
 use ink_number::int::Divided;
 use ink_value::Value;
 use native_function_call::real;
@@ -27,7 +28,7 @@ ghost use Rattle.pack.specs.Format.{format1};
 ghost use Rattle.calls.specs.Call.{operandsOk, called, PackLists};
 ghost use Rattle.value_words.specs.Words.{valueAt};
 ghost use Rattle.value_words.specs.Calls.{operandsIn, Says, Calls};
-ghost use Rattle.word_operators.specs.Numbers.{Held, OfNumbers};
+ghost use Rattle.word_operators.specs.Operands.{Held, OfNumbers, FirstIn, valsAt};
 
 // The kind code in a value's first word; 4 where it has none.
 fn code_in(w: u64) -> u8
@@ -128,26 +129,25 @@ fn scalar(
     op: u8,
     kind: u8,
     n: usize,
-    a: Value,
-    b: Value,
+    operands: &[u64; 9],
     items: &[u16],
     values: &[i32],
     answer: &mut [u64; 3],
 ) -> u32
     requires { ⌜ (kind < 5) × (kind ≡ 3 → ⊥) × (1 ≤ n) × (n ≤ 2) ⌝ }
-    requires { ⌜ Formed itemNumbers (now items) (now values) a × (n ≡ 2 → Formed itemNumbers (now items) (now values) b) ⌝ }
-    ensures { λ r. ⌜ ((u : ListDefinitions) → Says (compute u op (take n (valIn items values a ∷ valIn items values b ∷ [])) (kindAt kind)) r (now (answer .exit))) ⌝ }
+    requires { ⌜ Held (now operands) n × FirstIn itemNumbers (now items) (now values) n (now operands) ⌝ }
+    ensures { λ r. ⌜ ((u : ListDefinitions) → Says (compute u op (take n (valIn items values (valueAt (now (operands .entry)) 0) ∷ valIn items values (valueAt (now (operands .entry)) 1) ∷ [])) (kindAt kind)) r (now (answer .exit))) ⌝ }
 {
-    let ka = ink_value::kind(a);
-    let za = ink_value::whole_in(a);
-    let xa = ink_value::real_in(a);
-    let sa = ink_value::start_of(a);
-    let na = ink_value::len_of(a);
-    let kb = ink_value::kind(b);
-    let zb = ink_value::whole_in(b);
-    let xb = ink_value::real_in(b);
-    let sb = ink_value::start_of(b);
-    let nb = ink_value::len_of(b);
+    let ka = code_in(operands[0]);
+    let za = whole_in(operands[1]);
+    let xa = real_in(operands[1]);
+    let sa = words::start_in(operands[2]);
+    let na = words::len_in(operands[2]);
+    let kb = code_in(operands[3]);
+    let zb = whole_in(operands[4]);
+    let xb = real_in(operands[4]);
+    let sb = words::start_in(operands[5]);
+    let nb = words::len_in(operands[5]);
     match kind {
         0 => {
             let t = test(op, n, ka, za, xa, sa, na, kb, zb, xb, sb, nb, items, values);
@@ -174,9 +174,7 @@ fn scalar(
 fn list(
     op: u8,
     count: usize,
-    a: Value,
-    b: Value,
-    c: Value,
+    operands: &[u64; 9],
     items: &[u16],
     values: &[i32],
     ends: &[u16],
@@ -186,10 +184,13 @@ fn list(
     answer: &mut [u64; 3],
 ) -> u32
     requires { ⌜ Room (definitions (now ends) (now defined) (format1 .limit)) (now «result_items») (now «result_values») × (1 ≤ count) × (count ≤ 3) ⌝ }
-    requires { ⌜ FirstFormed (format1 .limit) (now items) (now values) count a b c ⌝ }
-    ensures { λ r. ⌜ Calls (compute (definitionsIn ends defined (format1 .limit)) op (take count (valIn items values a ∷ valIn items values b ∷ valIn items values c ∷ [])) listK)
+    requires { ⌜ FirstIn (format1 .limit) (now items) (now values) count (now operands) ⌝ }
+    ensures { λ r. ⌜ Calls (compute (definitionsIn ends defined (format1 .limit)) op (take count (valsAt (now (items .entry)) (now (values .entry)) (now (operands .entry)))) listK)
         r (now (answer .exit)) (now («result_items» .entry)) (now («result_items» .exit)) (now («result_values» .entry)) (now («result_values» .exit)) ⌝ }
 {
+    let a = words::operand_at(operands, 0);
+    let b = words::operand_at(operands, 1);
+    let c = words::operand_at(operands, 2);
     let outcome = native_function_call::list(
         op,
         count,
@@ -226,15 +227,12 @@ pub fn apply(
     ensures { λ r. ⌜ Calls (called (now (items .entry)) (now (values .entry)) (now («result_items» .entry)) (now («result_values» .entry)) op count (operandsIn (now (operands .entry))) (definitionsIn ends defined (format1 .limit)))
         r (now (answer .exit)) (now («result_items» .entry)) (now («result_items» .exit)) (now («result_values» .entry)) (now («result_values» .exit)) ⌝ }
 {
-    let a = words::operand_at(operands, 0);
-    let b = words::operand_at(operands, 1);
-    let c = words::operand_at(operands, 2);
     let kind = native_function_call::kinds(
         op,
         count,
-        ink_value::kind(a),
-        ink_value::kind(b),
-        ink_value::kind(c),
+        code_in(operands[0]),
+        code_in(operands[3]),
+        code_in(operands[6]),
     );
     if 4 < kind {
         words::put_index(answer, 0);
@@ -244,9 +242,7 @@ pub fn apply(
         return list(
             op,
             count,
-            a,
-            b,
-            c,
+            operands,
             items,
             values,
             ends,
@@ -256,5 +252,5 @@ pub fn apply(
             answer,
         );
     }
-    scalar(op, kind, count, a, b, items, values, answer)
+    scalar(op, kind, count, operands, items, values, answer)
 }

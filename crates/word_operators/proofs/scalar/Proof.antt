@@ -1,71 +1,111 @@
--- `word_operators::scalar` meets its contract. Assumes nothing.
+-- `word_operators::scalar` meets its contract: what is read of the words are the parts of their values. Assumes nothing.
 use mathlib.Core.Path.{_≡_, _∙_}
 use native.Mathlib.Omega.{arith}
 use Rattle.ink_number.proofs.Signed.{returned}
-use Rattle.ink_list.specs.Entries.{itemNumbers}
 use Rattle.ink_value.proofs.Reading.{few-in}
-use Rattle.ink_value.proofs.Parts.{parts-of, spans-of}
+use Rattle.ink_list.specs.Entries.{itemNumbers}
+use Rattle.value_words.specs.Words.{valueAt}
+use Rattle.word_operators.proofs.Operands.{first-at, second-at, operand-spans}
 use Rattle.word_operators.proofs.Said.{said-bool, said-int, said-float, said-void}
 use borrow.Author.Needs.{needs}
 use Rattle.word_operators.proofs.scalar.Statement.{statement}
 use Rattle.word_operators.proofs.scalar.Tie as tie
 
-kind-requires : tie.Need-kind-requires
-kind-requires c κs = search needs
+element-copy-out-code-in : tie.Need-element-copy-out-code-in
+element-copy-out-code-in c = search needs
+
+code-in-requires : tie.Need-code-in-requires
+code-in-requires c κs = search needs
+
+element-copy-out-whole-in : tie.Need-element-copy-out-whole-in
+element-copy-out-whole-in c = search needs
 
 whole-in-requires : tie.Need-whole-in-requires
 whole-in-requires c κs = search needs
 
+element-copy-out-real-in : tie.Need-element-copy-out-real-in
+element-copy-out-real-in c = search needs
+
 real-in-requires : tie.Need-real-in-requires
 real-in-requires c κs = search needs
 
-start-of-requires : tie.Need-start-of-requires
-start-of-requires c κs = search needs
+element-copy-out-start-in : tie.Need-element-copy-out-start-in
+element-copy-out-start-in c = search needs
 
-len-of-requires : tie.Need-len-of-requires
-len-of-requires c κs = search needs
+start-in-requires : tie.Need-start-in-requires
+start-in-requires c κs = search needs
 
-kind-requires-2 : tie.Need-kind-requires-2
-kind-requires-2 c κs = search needs
+element-copy-out-len-in : tie.Need-element-copy-out-len-in
+element-copy-out-len-in c = search needs
+
+len-in-requires : tie.Need-len-in-requires
+len-in-requires c κs = search needs
+
+element-copy-out-code-in-2 : tie.Need-element-copy-out-code-in-2
+element-copy-out-code-in-2 c = search needs
+
+code-in-requires-2 : tie.Need-code-in-requires-2
+code-in-requires-2 c κs = search needs
+
+element-copy-out-whole-in-2 : tie.Need-element-copy-out-whole-in-2
+element-copy-out-whole-in-2 c = search needs
 
 whole-in-requires-2 : tie.Need-whole-in-requires-2
 whole-in-requires-2 c κs = search needs
 
+element-copy-out-real-in-2 : tie.Need-element-copy-out-real-in-2
+element-copy-out-real-in-2 c = search needs
+
 real-in-requires-2 : tie.Need-real-in-requires-2
 real-in-requires-2 c κs = search needs
 
-start-of-requires-2 : tie.Need-start-of-requires-2
-start-of-requires-2 c κs = search needs
+element-copy-out-start-in-2 : tie.Need-element-copy-out-start-in-2
+element-copy-out-start-in-2 c = search needs
 
-len-of-requires-2 : tie.Need-len-of-requires-2
-len-of-requires-2 c κs = search needs
+start-in-requires-2 : tie.Need-start-in-requires-2
+start-in-requires-2 c κs = search needs
+
+element-copy-out-len-in-2 : tie.Need-element-copy-out-len-in-2
+element-copy-out-len-in-2 c = search needs
+
+len-in-requires-2 : tie.Need-len-in-requires-2
+len-in-requires-2 c κs = search needs
 
 test-requires : tie.Need-test-requires
 test-requires c κs =
-    let s = c .before .before .before .before .before .before .before .before .before .before .before .before in
+    let s = c .before .before .before .before .before .before .before .before .before .before .before .before .before .before .before .before .before .before .before .before .before .before in
     let is = s .args .items .now in
     let vs = s .args .values .now in
-    (s .pre .0 .2, s .pre .0 .3, spans-of itemNumbers is vs (s .args .a) _ _ (c .before .before .before .before .before .before .before .start-of .ensures) (c .before .before .before .before .before .before .len-of .ensures) (s .pre .1 .0), λ t. spans-of itemNumbers is vs (s .args .b) _ _ (c .before .before .start-of2 .ensures) (c .before .len-of2 .ensures) (s .pre .1 .1 t))
+    let ws = s .args .operands .now in
+    let a = first-at is vs ws (s .args .n) (s .pre .1 .0) (s .pre .1 .1) (s .pre .0 .2) (c .before .before .before .before .before .before .before .before .before .before .before .before .before .before .before .before .before .before .before .code-in .ensures .0) (returned (c .before .before .before .before .before .before .before .before .before .before .before .before .before .before .before .before .before .whole-in .ok) ∙ c .before .before .before .before .before .before .before .before .before .before .before .before .before .before .before .before .before .whole-in .ensures) (c .before .before .before .before .before .before .before .before .before .before .before .before .before .before .before .real-in .ensures) (c .before .before .before .before .before .before .before .before .before .before .before .before .before .start-in .ensures) (c .before .before .before .before .before .before .before .before .before .before .before .len-in .ensures) in
+    let b = second-at is vs ws (s .args .n) (s .pre .1 .0) (s .pre .1 .1) (c .before .before .before .before .before .before .before .before .before .code-in2 .ensures .0) (returned (c .before .before .before .before .before .before .before .whole-in2 .ok) ∙ c .before .before .before .before .before .before .before .whole-in2 .ensures) (c .before .before .before .before .before .real-in2 .ensures) (c .before .before .before .start-in2 .ensures) (c .before .len-in2 .ensures) in
+    (s .pre .0 .2, s .pre .0 .3, operand-spans a, λ t. operand-spans (b t))
 
 put-value-requires : tie.Need-put-value-requires
 put-value-requires c κs = search needs
 
 whole-requires : tie.Need-whole-requires
 whole-requires c κs =
-    let s = c .before .before .before .before .before .before .before .before .before .before .before .before in
+    let s = c .before .before .before .before .before .before .before .before .before .before .before .before .before .before .before .before .before .before .before .before .before .before in
     let is = s .args .items .now in
     let vs = s .args .values .now in
-    (s .pre .0 .2, s .pre .0 .3, spans-of itemNumbers is vs (s .args .a) _ _ (c .before .before .before .before .before .before .before .start-of .ensures) (c .before .before .before .before .before .before .len-of .ensures) (s .pre .1 .0) .values-in, omega (arith, c .before .before .before .before .before .before .len-of .ensures, few-in itemNumbers is vs (s .args .a) (s .pre .1 .0)), λ t. spans-of itemNumbers is vs (s .args .b) _ _ (c .before .before .start-of2 .ensures) (c .before .len-of2 .ensures) (s .pre .1 .1 t) .values-in)
+    let ws = s .args .operands .now in
+    let a = first-at is vs ws (s .args .n) (s .pre .1 .0) (s .pre .1 .1) (s .pre .0 .2) (c .before .before .before .before .before .before .before .before .before .before .before .before .before .before .before .before .before .before .before .code-in .ensures .0) (returned (c .before .before .before .before .before .before .before .before .before .before .before .before .before .before .before .before .before .whole-in .ok) ∙ c .before .before .before .before .before .before .before .before .before .before .before .before .before .before .before .before .before .whole-in .ensures) (c .before .before .before .before .before .before .before .before .before .before .before .before .before .before .before .real-in .ensures) (c .before .before .before .before .before .before .before .before .before .before .before .before .before .start-in .ensures) (c .before .before .before .before .before .before .before .before .before .before .before .len-in .ensures) in
+    let b = second-at is vs ws (s .args .n) (s .pre .1 .0) (s .pre .1 .1) (c .before .before .before .before .before .before .before .before .before .code-in2 .ensures .0) (returned (c .before .before .before .before .before .before .before .whole-in2 .ok) ∙ c .before .before .before .before .before .before .before .whole-in2 .ensures) (c .before .before .before .before .before .real-in2 .ensures) (c .before .before .before .start-in2 .ensures) (c .before .len-in2 .ensures) in
+    (s .pre .0 .2, s .pre .0 .3, operand-spans a .values-in, omega (arith, a .parts .len-is, few-in itemNumbers is vs (valueAt ws 0) (a .formed)), λ t. operand-spans (b t) .values-in)
 
 put-whole-requires : tie.Need-put-whole-requires
 put-whole-requires c κs = search needs
 
 real-requires : tie.Need-real-requires
 real-requires c κs =
-    let s = c .before .before .before .before .before .before .before .before .before .before .before .before in
+    let s = c .before .before .before .before .before .before .before .before .before .before .before .before .before .before .before .before .before .before .before .before .before .before in
     let is = s .args .items .now in
     let vs = s .args .values .now in
-    (s .pre .0 .2, s .pre .0 .3, spans-of itemNumbers is vs (s .args .a) _ _ (c .before .before .before .before .before .before .before .start-of .ensures) (c .before .before .before .before .before .before .len-of .ensures) (s .pre .1 .0) .values-in, λ t. spans-of itemNumbers is vs (s .args .b) _ _ (c .before .before .start-of2 .ensures) (c .before .len-of2 .ensures) (s .pre .1 .1 t) .values-in)
+    let ws = s .args .operands .now in
+    let a = first-at is vs ws (s .args .n) (s .pre .1 .0) (s .pre .1 .1) (s .pre .0 .2) (c .before .before .before .before .before .before .before .before .before .before .before .before .before .before .before .before .before .before .before .code-in .ensures .0) (returned (c .before .before .before .before .before .before .before .before .before .before .before .before .before .before .before .before .before .whole-in .ok) ∙ c .before .before .before .before .before .before .before .before .before .before .before .before .before .before .before .before .before .whole-in .ensures) (c .before .before .before .before .before .before .before .before .before .before .before .before .before .before .before .real-in .ensures) (c .before .before .before .before .before .before .before .before .before .before .before .before .before .start-in .ensures) (c .before .before .before .before .before .before .before .before .before .before .before .len-in .ensures) in
+    let b = second-at is vs ws (s .args .n) (s .pre .1 .0) (s .pre .1 .1) (c .before .before .before .before .before .before .before .before .before .code-in2 .ensures .0) (returned (c .before .before .before .before .before .before .before .whole-in2 .ok) ∙ c .before .before .before .before .before .before .before .whole-in2 .ensures) (c .before .before .before .before .before .real-in2 .ensures) (c .before .before .before .start-in2 .ensures) (c .before .len-in2 .ensures) in
+    (s .pre .0 .2, s .pre .0 .3, operand-spans a .values-in, λ t. operand-spans (b t) .values-in)
 
 put-value-requires-2 : tie.Need-put-value-requires-2
 put-value-requires-2 c κs = search needs
@@ -75,34 +115,37 @@ put-value-requires-3 c κs = search needs
 
 returns : tie.Need-returns
 returns c =
-    let s = c .before .before .before .before .before .before .before .before .before .before .before .before .before .before .before in
+    let s = c .before .before .before .before .before .before .before .before .before .before .before .before .before .before .before .before .before .before .before .before .before .before .before .before .before in
     let is = s .args .items .now in
     let vs = s .args .values .now in
-    let pa = parts-of (s .args .a) _ _ _ _ _ (c .before .before .before .before .before .before .before .before .before .before .before .before .before .kind .ensures .0) (returned (c .before .before .before .before .before .before .before .before .before .before .before .before .whole-in .ok) ∙ c .before .before .before .before .before .before .before .before .before .before .before .before .whole-in .ensures) (c .before .before .before .before .before .before .before .before .before .before .before .real-in .ensures) (c .before .before .before .before .before .before .before .before .before .before .start-of .ensures) (c .before .before .before .before .before .before .before .before .before .len-of .ensures) in
-    let pb = parts-of (s .args .b) _ _ _ _ _ (c .before .before .before .before .before .before .before .before .kind2 .ensures .0) (returned (c .before .before .before .before .before .before .before .whole-in2 .ok) ∙ c .before .before .before .before .before .before .before .whole-in2 .ensures) (c .before .before .before .before .before .before .real-in2 .ensures) (c .before .before .before .before .before .start-of2 .ensures) (c .before .before .before .before .len-of2 .ensures) in
-    λ u. said-bool u (s .args .op) _ (s .args .kind) (c .before .before .before .match .keys1) _ _ (c .before .before .test .ensures (s .args .a) (s .args .b) (record { parts = pa; formed = s .pre .1 .0 }) (λ t. record { parts = pb; formed = s .pre .1 .1 t })) (c .put-value .ensures)
+    let ws = s .args .operands .now in
+    let a = first-at is vs ws (s .args .n) (s .pre .1 .0) (s .pre .1 .1) (s .pre .0 .2) (c .before .before .before .before .before .before .before .before .before .before .before .before .before .before .before .before .before .before .before .before .before .before .code-in .ensures .0) (returned (c .before .before .before .before .before .before .before .before .before .before .before .before .before .before .before .before .before .before .before .before .whole-in .ok) ∙ c .before .before .before .before .before .before .before .before .before .before .before .before .before .before .before .before .before .before .before .before .whole-in .ensures) (c .before .before .before .before .before .before .before .before .before .before .before .before .before .before .before .before .before .before .real-in .ensures) (c .before .before .before .before .before .before .before .before .before .before .before .before .before .before .before .before .start-in .ensures) (c .before .before .before .before .before .before .before .before .before .before .before .before .before .before .len-in .ensures) in
+    let b = second-at is vs ws (s .args .n) (s .pre .1 .0) (s .pre .1 .1) (c .before .before .before .before .before .before .before .before .before .before .before .before .code-in2 .ensures .0) (returned (c .before .before .before .before .before .before .before .before .before .before .whole-in2 .ok) ∙ c .before .before .before .before .before .before .before .before .before .before .whole-in2 .ensures) (c .before .before .before .before .before .before .before .before .real-in2 .ensures) (c .before .before .before .before .before .before .start-in2 .ensures) (c .before .before .before .before .len-in2 .ensures) in
+    λ u. said-bool u (s .args .op) _ (s .args .kind) (c .before .before .before .match .keys1) _ _ (c .before .before .test .ensures (valueAt ws 0) (valueAt ws 1) a b) (c .put-value .ensures)
 
 returns-2 : tie.Need-returns-2
 returns-2 c =
-    let s = c .before .before .before .before .before .before .before .before .before .before .before .before .before .before .before in
+    let s = c .before .before .before .before .before .before .before .before .before .before .before .before .before .before .before .before .before .before .before .before .before .before .before .before .before in
     let is = s .args .items .now in
     let vs = s .args .values .now in
-    let pa = parts-of (s .args .a) _ _ _ _ _ (c .before .before .before .before .before .before .before .before .before .before .before .before .before .kind .ensures .0) (returned (c .before .before .before .before .before .before .before .before .before .before .before .before .whole-in .ok) ∙ c .before .before .before .before .before .before .before .before .before .before .before .before .whole-in .ensures) (c .before .before .before .before .before .before .before .before .before .before .before .real-in .ensures) (c .before .before .before .before .before .before .before .before .before .before .start-of .ensures) (c .before .before .before .before .before .before .before .before .before .len-of .ensures) in
-    let pb = parts-of (s .args .b) _ _ _ _ _ (c .before .before .before .before .before .before .before .before .kind2 .ensures .0) (returned (c .before .before .before .before .before .before .before .whole-in2 .ok) ∙ c .before .before .before .before .before .before .before .whole-in2 .ensures) (c .before .before .before .before .before .before .real-in2 .ensures) (c .before .before .before .before .before .start-of2 .ensures) (c .before .before .before .before .len-of2 .ensures) in
-    λ u. said-int u (s .args .op) _ (s .args .kind) (c .before .before .before .match .keys2) _ _ _ (c .before .before .whole .ensures (s .args .a) (s .args .b) is (record { parts = pa; formed = s .pre .1 .0 }) (λ t. record { parts = pb; formed = s .pre .1 .1 t })) (c .put-whole .ensures)
+    let ws = s .args .operands .now in
+    let a = first-at is vs ws (s .args .n) (s .pre .1 .0) (s .pre .1 .1) (s .pre .0 .2) (c .before .before .before .before .before .before .before .before .before .before .before .before .before .before .before .before .before .before .before .before .before .before .code-in .ensures .0) (returned (c .before .before .before .before .before .before .before .before .before .before .before .before .before .before .before .before .before .before .before .before .whole-in .ok) ∙ c .before .before .before .before .before .before .before .before .before .before .before .before .before .before .before .before .before .before .before .before .whole-in .ensures) (c .before .before .before .before .before .before .before .before .before .before .before .before .before .before .before .before .before .before .real-in .ensures) (c .before .before .before .before .before .before .before .before .before .before .before .before .before .before .before .before .start-in .ensures) (c .before .before .before .before .before .before .before .before .before .before .before .before .before .before .len-in .ensures) in
+    let b = second-at is vs ws (s .args .n) (s .pre .1 .0) (s .pre .1 .1) (c .before .before .before .before .before .before .before .before .before .before .before .before .code-in2 .ensures .0) (returned (c .before .before .before .before .before .before .before .before .before .before .whole-in2 .ok) ∙ c .before .before .before .before .before .before .before .before .before .before .whole-in2 .ensures) (c .before .before .before .before .before .before .before .before .real-in2 .ensures) (c .before .before .before .before .before .before .start-in2 .ensures) (c .before .before .before .before .len-in2 .ensures) in
+    λ u. said-int u (s .args .op) _ (s .args .kind) (c .before .before .before .match .keys2) _ _ _ (c .before .before .whole .ensures (valueAt ws 0) (valueAt ws 1) is a b) (c .put-whole .ensures)
 
 returns-3 : tie.Need-returns-3
 returns-3 c =
-    let s = c .before .before .before .before .before .before .before .before .before .before .before .before .before .before .before in
+    let s = c .before .before .before .before .before .before .before .before .before .before .before .before .before .before .before .before .before .before .before .before .before .before .before .before .before in
     let is = s .args .items .now in
     let vs = s .args .values .now in
-    let pa = parts-of (s .args .a) _ _ _ _ _ (c .before .before .before .before .before .before .before .before .before .before .before .before .before .kind .ensures .0) (returned (c .before .before .before .before .before .before .before .before .before .before .before .before .whole-in .ok) ∙ c .before .before .before .before .before .before .before .before .before .before .before .before .whole-in .ensures) (c .before .before .before .before .before .before .before .before .before .before .before .real-in .ensures) (c .before .before .before .before .before .before .before .before .before .before .start-of .ensures) (c .before .before .before .before .before .before .before .before .before .len-of .ensures) in
-    let pb = parts-of (s .args .b) _ _ _ _ _ (c .before .before .before .before .before .before .before .before .kind2 .ensures .0) (returned (c .before .before .before .before .before .before .before .whole-in2 .ok) ∙ c .before .before .before .before .before .before .before .whole-in2 .ensures) (c .before .before .before .before .before .before .real-in2 .ensures) (c .before .before .before .before .before .start-of2 .ensures) (c .before .before .before .before .len-of2 .ensures) in
-    λ u. said-float u (s .args .op) _ (s .args .kind) (c .before .before .before .match .keys3) _ _ (c .before .before .real .ensures (s .args .a) (s .args .b) is (record { parts = pa; formed = s .pre .1 .0 }) (λ t. record { parts = pb; formed = s .pre .1 .1 t })) (c .put-value2 .ensures)
+    let ws = s .args .operands .now in
+    let a = first-at is vs ws (s .args .n) (s .pre .1 .0) (s .pre .1 .1) (s .pre .0 .2) (c .before .before .before .before .before .before .before .before .before .before .before .before .before .before .before .before .before .before .before .before .before .before .code-in .ensures .0) (returned (c .before .before .before .before .before .before .before .before .before .before .before .before .before .before .before .before .before .before .before .before .whole-in .ok) ∙ c .before .before .before .before .before .before .before .before .before .before .before .before .before .before .before .before .before .before .before .before .whole-in .ensures) (c .before .before .before .before .before .before .before .before .before .before .before .before .before .before .before .before .before .before .real-in .ensures) (c .before .before .before .before .before .before .before .before .before .before .before .before .before .before .before .before .start-in .ensures) (c .before .before .before .before .before .before .before .before .before .before .before .before .before .before .len-in .ensures) in
+    let b = second-at is vs ws (s .args .n) (s .pre .1 .0) (s .pre .1 .1) (c .before .before .before .before .before .before .before .before .before .before .before .before .code-in2 .ensures .0) (returned (c .before .before .before .before .before .before .before .before .before .before .whole-in2 .ok) ∙ c .before .before .before .before .before .before .before .before .before .before .whole-in2 .ensures) (c .before .before .before .before .before .before .before .before .real-in2 .ensures) (c .before .before .before .before .before .before .start-in2 .ensures) (c .before .before .before .before .len-in2 .ensures) in
+    λ u. said-float u (s .args .op) _ (s .args .kind) (c .before .before .before .match .keys3) _ _ (c .before .before .real .ensures (valueAt ws 0) (valueAt ws 1) is a b) (c .put-value2 .ensures)
 
 returns-4 : tie.Need-returns-4
 returns-4 c =
-    let s = c .before .before .before .before .before .before .before .before .before .before .before .before .before .before in
+    let s = c .before .before .before .before .before .before .before .before .before .before .before .before .before .before .before .before .before .before .before .before .before .before .before .before in
     let four : s .args .kind ≡ 4 = omega (arith, c .before .before .match .rest .0 .0 .1, c .before .before .match .rest .0 .1, c .before .before .match .rest .1, s .pre .0 .0, s .pre .0 .1) in
     λ u. said-void u (s .args .op) _ (s .args .kind) four _ (c .put-value3 .ensures)
 
@@ -110,16 +153,26 @@ pub scalar-spec : {M : Type 1} → statement M
 scalar-spec =
     tie.close
     (tie.spec
-    kind-requires
+    element-copy-out-code-in
+    code-in-requires
+    element-copy-out-whole-in
     whole-in-requires
+    element-copy-out-real-in
     real-in-requires
-    start-of-requires
-    len-of-requires
-    kind-requires-2
+    element-copy-out-start-in
+    start-in-requires
+    element-copy-out-len-in
+    len-in-requires
+    element-copy-out-code-in-2
+    code-in-requires-2
+    element-copy-out-whole-in-2
     whole-in-requires-2
+    element-copy-out-real-in-2
     real-in-requires-2
-    start-of-requires-2
-    len-of-requires-2
+    element-copy-out-start-in-2
+    start-in-requires-2
+    element-copy-out-len-in-2
+    len-in-requires-2
     test-requires
     put-value-requires
     whole-requires

@@ -1,0 +1,34 @@
+-- What is known of operands in words. Assumes nothing.
+use mathlib.Core.Path.{_≡_}
+use mathlib.Core.List.{List, [], _∷_, map}
+use Prim.Native.Nat.{ℕ, _<_, _≤_}
+use lib.IntN.{ℤ}
+use lib.ListN.{take}
+use Rattle.ink_number.specs.Answer.{gives}
+use Rattle.ink_value.specs.Val.{Val, kindOf, kindAt}
+use Rattle.ink_value.specs.Value.{valOf, codeOfValue, FirstFormed}
+use Rattle.kind_table.specs.Kinds.{kindCall}
+use Rattle.value_words.specs.Words.{unheld, valueAt}
+
+-- the words of the first n operands are a value's
+pub record Held (ws : List ℕ) (n : ℕ) : Type 0 where
+  pub one : 1 ≤ n → valueAt ws 0 ≡ unheld → ⊥
+  pub two : 2 ≤ n → valueAt ws 1 ≡ unheld → ⊥
+  pub three : 3 ≤ n → valueAt ws 2 ≡ unheld → ⊥
+
+-- the first n operands stand in the slices
+abbrev pub FirstIn : ℕ → List ℕ → List ℤ → ℕ → List ℕ → Type 0
+FirstIn limit is vs n ws = FirstFormed limit is vs n (valueAt ws 0) (valueAt ws 1) (valueAt ws 2)
+
+-- the values of three operands
+abbrev pub valsAt : List ℕ → List ℤ → List ℕ → List Val
+valsAt is vs ws = valOf is vs (valueAt ws 0) ∷ valOf is vs (valueAt ws 1) ∷ valOf is vs (valueAt ws 2) ∷ []
+
+-- the n operands are numbers, and the operator's result on them is a number of this kind
+pub record OfNumbers (ws : List ℕ) (o n kind : ℕ) : Type 0 where
+  pub some : 1 ≤ n
+  pub few : n ≤ 2
+  pub left : codeOfValue (valueAt ws 0) < 3
+  pub right : n ≡ 2 → codeOfValue (valueAt ws 1) < 3
+  pub small : kind < 3
+  pub answered : (is : List ℕ) (vs : List ℤ) → kindCall o n (map kindOf (take n (valsAt is vs ws))) ≡ gives (kindAt kind)
