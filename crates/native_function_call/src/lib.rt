@@ -3,12 +3,13 @@ use ink_number::int::Divided;
 use ink_value::Outcome;
 use ink_value::Value;
 ghost use mathlib.Core.Path.{_≡_};
-ghost use mathlib.Core.Bool.{true, _&&_, _||_};
+ghost use mathlib.Core.Bool.{true, not, _&&_, _||_};
 ghost use mathlib.Core.List.{List, [], _∷_};
 ghost use Prim.Native.Nat.{ℕ, _<_, _≤_, _+_, max};
 ghost use lib.IntN.{ℤ};
 ghost use lib.ListN.{length, take};
 ghost use Rattle.ink_value.specs.Val.{kindAt, kindOf, listK};
+ghost use Rattle.ink_value.specs.Convert.{asInt, asFloat, truthy};
 ghost use Rattle.kind_table.specs.Kinds.{common, KindsGiven};
 ghost use Rattle.native_function_call.specs.Numbers.{arithZ, arithF, testZ, testF};
 ghost use Rattle.list_definitions.specs.Defs.{ListDefinitions, Tables, originsOf};
@@ -195,7 +196,14 @@ fn common(left: u8, right: u8) -> u8
     right
 }
 
-fn number_test2(op: u8, ka: u8, za: i32, xa: f32, kb: u8, zb: i32, xb: f32) -> bool
+// A result that is a Bool, of one number and of two.
+pub fn number_test1(ka: u8, za: i32, xa: f32) -> bool
+    ensures { λ r. ⌜ ((a : Value) (is : List ℕ) (vs : List ℤ) → Number a ka za xa → r ≡ not (truthy (valOf is vs a))) ⌝ }
+{
+    !ink_value::number_truth(ka, za, xa)
+}
+
+pub fn number_test2(op: u8, ka: u8, za: i32, xa: f32, kb: u8, zb: i32, xb: f32) -> bool
     ensures { λ r. ⌜ ((a b : Value) (is : List ℕ) (vs : List ℤ) → Number a ka za xa → Number b kb zb xb
         → r ≡ testAs (common (kindOf (valOf is vs a)) (kindOf (valOf is vs b))) op (valOf is vs a) (valOf is vs b)) ⌝ }
 {
@@ -213,19 +221,8 @@ fn number_test2(op: u8, ka: u8, za: i32, xa: f32, kb: u8, zb: i32, xb: f32) -> b
     )
 }
 
-// A result that is a Bool.
-pub fn number_test(op: u8, count: usize, ka: u8, za: i32, xa: f32, kb: u8, zb: i32, xb: f32) -> bool
-    requires { ⌜ (1 ≤ count) × (count ≤ 2) ⌝ }
-    ensures { λ r. ⌜ ((a b : Value) (is : List ℕ) (vs : List ℤ) → Number a ka za xa → (count ≡ 2 → Number b kb zb xb)
-        → r ≡ test op (take count (valOf is vs a ∷ valOf is vs b ∷ []))) ⌝ }
-{
-    if count == 1 {
-        return !ink_value::number_truth(ka, za, xa);
-    }
-    number_test2(op, ka, za, xa, kb, zb, xb)
-}
-
-fn number_whole1(op: u8, ka: u8, za: i32, xa: f32) -> i32
+// A result that is an Int.
+pub fn number_whole1(op: u8, ka: u8, za: i32, xa: f32) -> i32
     ensures { λ r. ⌜ ((a : Value) (is : List ℕ) (vs : List ℤ) → Number a ka za xa → r ≡ wholeUnary op (valOf is vs a)) ⌝ }
 {
     match op {
@@ -236,24 +233,10 @@ fn number_whole1(op: u8, ka: u8, za: i32, xa: f32) -> i32
     }
 }
 
-// A result that is an Int.
-pub fn number_whole(
-    op: u8,
-    count: usize,
-    ka: u8,
-    za: i32,
-    xa: f32,
-    kb: u8,
-    zb: i32,
-    xb: f32,
-) -> Divided
-    requires { ⌜ (1 ≤ count) × (count ≤ 2) ⌝ }
-    ensures { λ r. ⌜ ((a b : Value) (is : List ℕ) (vs : List ℤ) → Number a ka za xa → (count ≡ 2 → Number b kb zb xb)
-        → ofInt (divided r) ≡ whole op (take count (valOf is vs a ∷ valOf is vs b ∷ []))) ⌝ }
+pub fn number_whole2(op: u8, ka: u8, za: i32, xa: f32, kb: u8, zb: i32, xb: f32) -> Divided
+    ensures { λ r. ⌜ ((a b : Value) (is : List ℕ) (vs : List ℤ) → Number a ka za xa → Number b kb zb xb
+        → divided r ≡ arithZ op (asInt (valOf is vs a)) (asInt (valOf is vs b))) ⌝ }
 {
-    if count == 1 {
-        return Divided::Value(number_whole1(op, ka, za, xa));
-    }
     arith_int(
         op,
         ink_value::number_int(ka, za, xa),
@@ -261,7 +244,8 @@ pub fn number_whole(
     )
 }
 
-fn number_real1(op: u8, ka: u8, za: i32, xa: f32) -> f32
+// A result that is a Float.
+pub fn number_real1(op: u8, ka: u8, za: i32, xa: f32) -> f32
     ensures { λ r. ⌜ ((a : Value) (is : List ℕ) (vs : List ℤ) → Number a ka za xa → r ≡ realUnary op (valOf is vs a)) ⌝ }
 {
     let x = ink_value::number_float(ka, za, xa);
@@ -271,15 +255,10 @@ fn number_real1(op: u8, ka: u8, za: i32, xa: f32) -> f32
     x
 }
 
-// A result that is a Float.
-pub fn number_real(op: u8, count: usize, ka: u8, za: i32, xa: f32, kb: u8, zb: i32, xb: f32) -> f32
-    requires { ⌜ (1 ≤ count) × (count ≤ 2) ⌝ }
-    ensures { λ r. ⌜ ((a b : Value) (is : List ℕ) (vs : List ℤ) → Number a ka za xa → (count ≡ 2 → Number b kb zb xb)
-        → r ≡ real op (take count (valOf is vs a ∷ valOf is vs b ∷ []))) ⌝ }
+pub fn number_real2(op: u8, ka: u8, za: i32, xa: f32, kb: u8, zb: i32, xb: f32) -> f32
+    ensures { λ r. ⌜ ((a b : Value) (is : List ℕ) (vs : List ℤ) → Number a ka za xa → Number b kb zb xb
+        → r ≡ arithF op (asFloat (valOf is vs a)) (asFloat (valOf is vs b))) ⌝ }
 {
-    if count == 1 {
-        return number_real1(op, ka, za, xa);
-    }
     arith_float(
         op,
         ink_value::number_float(ka, za, xa),

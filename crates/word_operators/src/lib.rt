@@ -98,11 +98,34 @@ fn put_whole(d: Divided, answer: &mut [u64; 3]) -> u32
     }
 }
 
-// A result of numbers.
-pub fn number(op: u8, kind: u8, count: usize, operands: &[u64; 9], answer: &mut [u64; 3]) -> u32
-    requires { ⌜ OfNumbers (now operands) op count kind ⌝ }
+// A result of one number.
+fn number1(op: u8, kind: u8, operands: &[u64; 9], answer: &mut [u64; 3]) -> u32
+    requires { ⌜ OfNumbers (now operands) op 1 kind ⌝ }
+    ensures { λ r. ⌜ ((u : ListDefinitions) (is : List ℕ) (vs : List ℤ) → Says (compute u op (valOf is vs (valueAt (now (operands .entry)) 0) ∷ []) (kindAt kind)) r (now (answer .exit))) ⌝ }
+{
+    let ka = code_in(operands[0]);
+    let za = whole_in(operands[1]);
+    let xa = real_in(operands[1]);
+    if kind == 0 {
+        let t = native_function_call::number_test1(ka, za, xa);
+        words::put_value(answer, Value::Bool(t));
+        return 0;
+    }
+    if kind == 1 {
+        let z = native_function_call::number_whole1(op, ka, za, xa);
+        words::put_value(answer, Value::Int(z));
+        return 0;
+    }
+    let x = native_function_call::number_real1(op, ka, za, xa);
+    words::put_value(answer, Value::Float(x));
+    0
+}
+
+// A result of two.
+fn number2(op: u8, kind: u8, operands: &[u64; 9], answer: &mut [u64; 3]) -> u32
+    requires { ⌜ OfNumbers (now operands) op 2 kind ⌝ }
     ensures { λ r. ⌜ ((u : ListDefinitions) (is : List ℕ) (vs : List ℤ)
-        → Says (compute u op (take count (valOf is vs (valueAt (now (operands .entry)) 0) ∷ valOf is vs (valueAt (now (operands .entry)) 1) ∷ [])) (kindAt kind)) r (now (answer .exit))) ⌝ }
+        → Says (compute u op (valOf is vs (valueAt (now (operands .entry)) 0) ∷ valOf is vs (valueAt (now (operands .entry)) 1) ∷ []) (kindAt kind)) r (now (answer .exit))) ⌝ }
 {
     let ka = code_in(operands[0]);
     let za = whole_in(operands[1]);
@@ -111,17 +134,29 @@ pub fn number(op: u8, kind: u8, count: usize, operands: &[u64; 9], answer: &mut 
     let zb = whole_in(operands[4]);
     let xb = real_in(operands[4]);
     if kind == 0 {
-        let b = native_function_call::number_test(op, count, ka, za, xa, kb, zb, xb);
-        words::put_value(answer, Value::Bool(b));
+        let t = native_function_call::number_test2(op, ka, za, xa, kb, zb, xb);
+        words::put_value(answer, Value::Bool(t));
         return 0;
     }
     if kind == 1 {
-        let d = native_function_call::number_whole(op, count, ka, za, xa, kb, zb, xb);
+        let d = native_function_call::number_whole2(op, ka, za, xa, kb, zb, xb);
         return put_whole(d, answer);
     }
-    let x = native_function_call::number_real(op, count, ka, za, xa, kb, zb, xb);
+    let x = native_function_call::number_real2(op, ka, za, xa, kb, zb, xb);
     words::put_value(answer, Value::Float(x));
     0
+}
+
+// A result of numbers.
+pub fn number(op: u8, kind: u8, count: usize, operands: &[u64; 9], answer: &mut [u64; 3]) -> u32
+    requires { ⌜ OfNumbers (now operands) op count kind ⌝ }
+    ensures { λ r. ⌜ ((u : ListDefinitions) (is : List ℕ) (vs : List ℤ)
+        → Says (compute u op (take count (valOf is vs (valueAt (now (operands .entry)) 0) ∷ valOf is vs (valueAt (now (operands .entry)) 1) ∷ [])) (kindAt kind)) r (now (answer .exit))) ⌝ }
+{
+    if count == 1 {
+        return number1(op, kind, operands, answer);
+    }
+    number2(op, kind, operands, answer)
 }
 
 // A result that is no List.

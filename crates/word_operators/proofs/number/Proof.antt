@@ -1,112 +1,41 @@
 -- `word_operators::number` meets its contract. Assumes nothing.
-use mathlib.Core.Path.{_≡_, _∙_}
+use mathlib.Core.Path.{_≡_, sym, subst}
+use mathlib.Core.List.{[], _∷_}
+use Prim.Native.Nat.{ℕ}
 use native.Mathlib.Omega.{arith}
-use Rattle.ink_number.proofs.Signed.{returned}
+use lib.ListN.{take}
+use Rattle.ink_value.specs.Val.{kindAt}
+use Rattle.ink_value.specs.Value.{valOf}
+use Rattle.native_function_call.specs.Apply.{compute}
 use Rattle.value_words.specs.Words.{valueAt}
-use Rattle.word_operators.proofs.Operands.{number-is, number-at}
-use Rattle.word_operators.proofs.Said.{said-bool, said-int, said-float}
-use borrow.Author.Needs.{needs}
+use Rattle.value_words.specs.Calls.{Says}
+use Rattle.word_operators.specs.Operands.{OfNumbers}
 use Rattle.word_operators.proofs.number.Statement.{statement}
 use Rattle.word_operators.proofs.number.Tie as tie
 
-element-copy-out-code-in : tie.Need-element-copy-out-code-in
-element-copy-out-code-in c = search needs
-
-code-in-requires : tie.Need-code-in-requires
-code-in-requires c κs = search needs
-
-element-copy-out-whole-in : tie.Need-element-copy-out-whole-in
-element-copy-out-whole-in c = search needs
-
-whole-in-requires : tie.Need-whole-in-requires
-whole-in-requires c κs = search needs
-
-element-copy-out-real-in : tie.Need-element-copy-out-real-in
-element-copy-out-real-in c = search needs
-
-real-in-requires : tie.Need-real-in-requires
-real-in-requires c κs = search needs
-
-element-copy-out-code-in-2 : tie.Need-element-copy-out-code-in-2
-element-copy-out-code-in-2 c = search needs
-
-code-in-requires-2 : tie.Need-code-in-requires-2
-code-in-requires-2 c κs = search needs
-
-element-copy-out-whole-in-2 : tie.Need-element-copy-out-whole-in-2
-element-copy-out-whole-in-2 c = search needs
-
-whole-in-requires-2 : tie.Need-whole-in-requires-2
-whole-in-requires-2 c κs = search needs
-
-element-copy-out-real-in-2 : tie.Need-element-copy-out-real-in-2
-element-copy-out-real-in-2 c = search needs
-
-real-in-requires-2 : tie.Need-real-in-requires-2
-real-in-requires-2 c κs = search needs
-
-number-test-requires : tie.Need-number-test-requires
-number-test-requires c κs = search needs
-
-put-value-requires : tie.Need-put-value-requires
-put-value-requires c κs = search needs
+number1-requires : tie.Need-number1-requires
+number1-requires c κs =
+    let s = c .before .before in
+    subst (λ (n : ℕ). OfNumbers (s .args .operands .now) (s .args .op) n (s .args .kind)) (c .before .if1 .taken) (s .pre)
 
 returns : tie.Need-returns
 returns c =
-    let s = c .before .before .before .before .before .before .before .before .before .before .before .before .before .before .before .before in
+    let s = c .before .before .before in
     let ws = s .args .operands .now in
-    let na = number-is (number-at ws 0 (s .pre .left)) (c .before .before .before .before .before .before .before .before .before .before .before .before .before .before .code-in .ensures .0) (returned (c .before .before .before .before .before .before .before .before .before .before .before .before .whole-in .ok) ∙ c .before .before .before .before .before .before .before .before .before .before .before .before .whole-in .ensures) (c .before .before .before .before .before .before .before .before .before .before .real-in .ensures) in
-    λ u is vs. said-bool u (s .args .op) _ (s .args .kind) (c .before .before .before .if1 .taken) _ _ (c .before .before .number-test .ensures (valueAt ws 0) (valueAt ws 1) is vs na (λ t. number-is (number-at ws 1 (s .pre .right t)) (c .before .before .before .before .before .before .before .before .code-in2 .ensures .0) (returned (c .before .before .before .before .before .before .whole-in2 .ok) ∙ c .before .before .before .before .before .before .whole-in2 .ensures) (c .before .before .before .before .real-in2 .ensures))) (c .put-value .ensures)
+    λ u is vs. subst (λ (n : ℕ). Says (compute u (s .args .op) (take n (valOf is vs (valueAt ws 0) ∷ valOf is vs (valueAt ws 1) ∷ [])) (kindAt (s .args .kind))) (c .number1 .result) (c .number1 .last .1 .1 .1 .0)) (sym (c .before .before .if1 .taken)) (c .number1 .ensures u is vs)
 
-number-whole-requires : tie.Need-number-whole-requires
-number-whole-requires c κs = search needs
-
-put-whole-requires : tie.Need-put-whole-requires
-put-whole-requires c κs = search needs
+number2-requires : tie.Need-number2-requires
+number2-requires c κs =
+    let s = c .before .before in
+    let two : s .args .count ≡ 2 = omega (arith, c .before .if1 .left, s .pre .some, s .pre .few) in
+    subst (λ (n : ℕ). OfNumbers (s .args .operands .now) (s .args .op) n (s .args .kind)) two (s .pre)
 
 returns-2 : tie.Need-returns-2
 returns-2 c =
-    let s = c .before .before .before .before .before .before .before .before .before .before .before .before .before .before .before .before .before in
+    let s = c .before .before .before in
     let ws = s .args .operands .now in
-    let na = number-is (number-at ws 0 (s .pre .left)) (c .before .before .before .before .before .before .before .before .before .before .before .before .before .before .before .code-in .ensures .0) (returned (c .before .before .before .before .before .before .before .before .before .before .before .before .before .whole-in .ok) ∙ c .before .before .before .before .before .before .before .before .before .before .before .before .before .whole-in .ensures) (c .before .before .before .before .before .before .before .before .before .before .before .real-in .ensures) in
-    λ u is vs. said-int u (s .args .op) _ (s .args .kind) (c .before .before .before .if2 .taken) _ _ _ (c .before .before .number-whole .ensures (valueAt ws 0) (valueAt ws 1) is vs na (λ t. number-is (number-at ws 1 (s .pre .right t)) (c .before .before .before .before .before .before .before .before .before .code-in2 .ensures .0) (returned (c .before .before .before .before .before .before .before .whole-in2 .ok) ∙ c .before .before .before .before .before .before .before .whole-in2 .ensures) (c .before .before .before .before .before .real-in2 .ensures))) (c .put-whole .ensures)
-
-number-real-requires : tie.Need-number-real-requires
-number-real-requires c κs = search needs
-
-put-value-requires-2 : tie.Need-put-value-requires-2
-put-value-requires-2 c κs = search needs
-
-returns-3 : tie.Need-returns-3
-returns-3 c =
-    let s = c .before .before .before .before .before .before .before .before .before .before .before .before .before .before .before .before .before in
-    let ws = s .args .operands .now in
-    let two : s .args .kind ≡ 2 = omega (arith, c .before .before .before .before .if1 .left, c .before .before .before .if2 .left, s .pre .small) in
-    let na = number-is (number-at ws 0 (s .pre .left)) (c .before .before .before .before .before .before .before .before .before .before .before .before .before .before .before .code-in .ensures .0) (returned (c .before .before .before .before .before .before .before .before .before .before .before .before .before .whole-in .ok) ∙ c .before .before .before .before .before .before .before .before .before .before .before .before .before .whole-in .ensures) (c .before .before .before .before .before .before .before .before .before .before .before .real-in .ensures) in
-    λ u is vs. said-float u (s .args .op) _ (s .args .kind) two _ _ (c .before .before .number-real .ensures (valueAt ws 0) (valueAt ws 1) is vs na (λ t. number-is (number-at ws 1 (s .pre .right t)) (c .before .before .before .before .before .before .before .before .before .code-in2 .ensures .0) (returned (c .before .before .before .before .before .before .before .whole-in2 .ok) ∙ c .before .before .before .before .before .before .before .whole-in2 .ensures) (c .before .before .before .before .before .real-in2 .ensures))) (c .put-value2 .ensures)
+    let two : s .args .count ≡ 2 = omega (arith, c .before .before .if1 .left, s .pre .some, s .pre .few) in
+    λ u is vs. subst (λ (n : ℕ). Says (compute u (s .args .op) (take n (valOf is vs (valueAt ws 0) ∷ valOf is vs (valueAt ws 1) ∷ [])) (kindAt (s .args .kind))) (c .number2 .result) (c .number2 .last .1 .1 .1 .0)) (sym two) (c .number2 .ensures u is vs)
 
 pub number-spec : {M : Type 1} → statement M
-number-spec =
-    tie.close
-    (tie.spec
-    element-copy-out-code-in
-    code-in-requires
-    element-copy-out-whole-in
-    whole-in-requires
-    element-copy-out-real-in
-    real-in-requires
-    element-copy-out-code-in-2
-    code-in-requires-2
-    element-copy-out-whole-in-2
-    whole-in-requires-2
-    element-copy-out-real-in-2
-    real-in-requires-2
-    number-test-requires
-    put-value-requires
-    returns
-    number-whole-requires
-    put-whole-requires
-    returns-2
-    number-real-requires
-    put-value-requires-2
-    returns-3)
+number-spec = tie.close (tie.spec number1-requires returns number2-requires returns-2)

@@ -1,14 +1,14 @@
-use Rattle.ink_value.specs.Value.{placed}
-use Rattle.value_words.specs.Calls.{outcomeNumber, outcomeWords}
 -- `word_operators::put_whole` meets its contract. Assumes nothing.
 use mathlib.Core.Path.{sym, ap, _∙_}
 use lib.IntN.{ℤ}
 use Rattle.ink_number.specs.Int.{divided}
 use Rattle.ink_number.specs.declared.int.Divided.{Divided}
 use Rattle.ink_number.proofs.Signed.{returned}
+use Rattle.ink_value.specs.Value.{placed}
 use Rattle.ink_value.specs.declared.Value.the-variants as Is
 use Rattle.native_function_call.specs.Apply.{ofInt}
 use Rattle.value_words.specs.Words.{wordsOf}
+use Rattle.value_words.specs.Calls.{outcomeNumber, outcomeWords}
 use borrow.Author.Needs.{needs}
 use Rattle.word_operators.proofs.put_whole.Statement.{statement}
 use Rattle.word_operators.proofs.put_whole.Tie as tie
