@@ -15,21 +15,15 @@ const NAN_PATTERN: u32 = 0x7fc0_0000;
 
 const SIGN_BIT: u32 = 0x8000_0000;
 
-// m / 2^k to the nearest whole number, a tie to the even one.
+// m / 2^k to the nearest whole number, a tie to the even one: half of 2^k less one, and the quotient's last digit, are
+// added before the shift.
 fn shift_to_even(m: u32, k: u32) -> u32
     requires { ⌜ (0 < k) × (k < 32) ⌝ }
     ensures { λ r. ⌜ r ≡ toEven m (2 ^ k) ⌝ }
 {
-    let q = m >> k;
-    let rest = m - (q << k);
-    let half = 1u32 << (k - 1);
-    if rest < half {
-        return q;
-    }
-    if half < rest {
-        return q + 1;
-    }
-    q + (q & 1)
+    let half = 1u64 << (k - 1);
+    let odd = (m >> k) & 1;
+    (((m as u64) + (half - 1) + (odd as u64)) >> k) as u32
 }
 
 // The Float nearest to m, ties to the even significand: m is rounded to 24 digits, and scaled back by

@@ -1,54 +1,62 @@
--- `ink_float::convert::shift_to_even` meets its contract. The three ways are the three cases of `toEven` (proofs/ToEven.antt).
--- Assumes nothing.
+-- `ink_float::convert::shift_to_even` meets its contract: the sum's quotient is the rounded one (proofs/ToEven.antt). Assumes nothing.
+use Prim.Native.Nat.{_/_, _^_}
+use native.Mathlib.Omega.{arith}
+use Rattle.ink_float.proofs.ToEven.{half-some, half-small, digit-small, shifted-small, rounded}
 use borrow.Author.Needs.{needs}
-use Prim.Native.Nat.{_^_}
-use native.Mathlib.Nat.{le-trans, le-of-eq, div-mul-le-self}
-use Rattle.ink_float.proofs.ToEven.{back-le, stays, moves, ties, one-more, bit-more}
 use Rattle.ink_float.proofs.convert.shift_to_even.Statement.{statement}
 use Rattle.ink_float.proofs.convert.shift_to_even.Tie as tie
-
-shr-q : tie.Need-shr-q
-shr-q c = search needs
-
-shl-rest : tie.Need-shl-rest
-shl-rest c = search needs
-
-sub-rest : tie.Need-sub-rest
-sub-rest c =
-    let m = c .args .m in
-    let k = c .args .k in
-    le-trans (le-of-eq (back-le m k (c .fits .m .fits))) (div-mul-le-self m (2 ^ k))
 
 sub-half : tie.Need-sub-half
 sub-half c = search needs
 
+cast-half : tie.Need-cast-half
+cast-half c = search needs
+
 shl-half : tie.Need-shl-half
 shl-half c = search needs
 
-returns : tie.Need-returns
-returns c =
-    let s = c .before in
-    stays (s .args .m) (s .args .k) (s .pre .0) (s .pre .1) (s .fits .m .fits) (c .if1 .taken)
+shr-odd : tie.Need-shr-odd
+shr-odd c = search needs
+
+sub-result : tie.Need-sub-result
+sub-result c =
+    omega (arith, half-some (c .args .k) (c .pre .1), half-small (c .args .k) (c .pre .0) (c .pre .1))
 
 add-result : tie.Need-add-result
 add-result c =
-    let s = c .before .before in
-    one-more (s .args .m) (s .args .k) (s .pre .0) (s .fits .m .fits)
+    omega (arith, c .fits .m .fits, half-some (c .args .k) (c .pre .1), half-small (c .args .k) (c .pre .0) (c .pre .1))
 
-returns-2 : tie.Need-returns-2
-returns-2 c =
-    let s = c .before .before in
-    moves (s .args .m) (s .args .k) (s .pre .0) (s .pre .1) (s .fits .m .fits) (c .if2 .taken)
+cast-result : tie.Need-cast-result
+cast-result c =
+    omega (arith, digit-small (c .args .m / 2 ^ c .args .k))
 
 add-result-2 : tie.Need-add-result-2
 add-result-2 c =
-    let s = c .before .before in
-    bit-more (s .args .m) (s .args .k) (s .pre .0) (s .fits .m .fits)
+    omega (arith, c .fits .m .fits, half-some (c .args .k) (c .pre .1), half-small (c .args .k) (c .pre .0) (c .pre .1), digit-small (c .args .m / 2 ^ c .args .k))
 
-returns-3 : tie.Need-returns-3
-returns-3 c =
-    let s = c .before .before in
-    ties (s .args .m) (s .args .k) (s .pre .0) (s .pre .1) (s .fits .m .fits) (c .before .if1 .left) (c .if2 .left)
+shr-result : tie.Need-shr-result
+shr-result c = search needs
+
+cast-result-2 : tie.Need-cast-result-2
+cast-result-2 c =
+    record { fits = shifted-small _ (c .args .k) (c .pre .0) (omega (arith, c .fits .m .fits, half-some (c .args .k) (c .pre .1), half-small (c .args .k) (c .pre .0) (c .pre .1), digit-small (c .args .m / 2 ^ c .args .k))) }
+
+returns : tie.Need-returns
+returns c =
+    rounded (c .args .m) (c .args .k) (c .pre .0) (c .pre .1)
 
 pub shift-to-even-spec : {M : Type 1} → statement M
-shift-to-even-spec = tie.close (tie.spec shr-q shl-rest sub-rest sub-half shl-half returns add-result returns-2 add-result-2 returns-3)
+shift-to-even-spec =
+    tie.close
+    (tie.spec
+    sub-half
+    cast-half
+    shl-half
+    shr-odd
+    sub-result
+    add-result
+    cast-result
+    add-result-2
+    shr-result
+    cast-result-2
+    returns)
