@@ -1,3 +1,4 @@
+-- `calls::call` meets its contract: questions 1 to 5, and then the call on the pack's tables. Assumes nothing.
 use mathlib.Core.Path.{refl, sym, ap, _∙_}
 use mathlib.Core.List.{[], _∷_}
 use Rattle.ink_number.specs.Answer.{refuses}

@@ -1,3 +1,4 @@
+-- `calls::call_checked` meets its contract: question 7, and then the operator. Assumes nothing.
 use mathlib.Core.Path.{_≡_, sym, ap}
 use mathlib.Core.List.{List, [], _∷_}
 use Prim.Native.Nat.{ℕ}

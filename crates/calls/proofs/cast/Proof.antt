@@ -1,3 +1,4 @@
+-- `calls::cast` meets its contract: questions 1 to 5, and then the conversion on the pack's tables. Assumes nothing.
 use mathlib.Core.Path.{refl, sym, ap, _∙_}
 use Rattle.ink_number.specs.Answer.{refuses}
 use Rattle.ink_value.proofs.Given.{gave-is, gave-plain}

@@ -1,3 +1,4 @@
+-- `calls::cast_checked` meets its contract: questions 7 and 18. Assumes nothing.
 use mathlib.Core.Path.{_≡_, refl, sym, _∙_}
 use mathlib.Core.Bool.{true}
 use mathlib.Core.List.{[], _∷_}

@@ -1,3 +1,4 @@
+-- `calls::coerce_to_bool` meets its contract. Assumes nothing.
 use mathlib.Core.Path.{sym, ap, _∙_}
 use borrow.Author.Tests.{not-true, not-false}
 use Rattle.ink_value.specs.Convert.{coerceBool}

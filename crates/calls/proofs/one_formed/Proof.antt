@@ -1,3 +1,4 @@
+-- `calls::one_formed` meets its contract. Assumes nothing.
 use mathlib.Core.Path.{sym, _∙_}
 use mathlib.Core.List.{[], _∷_}
 use Rattle.native_function_call.specs.Lists.{definitions}

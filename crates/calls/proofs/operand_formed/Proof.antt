@@ -1,3 +1,4 @@
+-- `calls::operand_formed` meets its contract. Assumes nothing.
 use mathlib.Core.Path.{_∙_}
 use mathlib.Core.List.{[], _∷_}
 use Prim.Native.Nat.{ℕ}

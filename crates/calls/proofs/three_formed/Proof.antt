@@ -1,3 +1,4 @@
+-- `calls::three_formed` meets its contract: question 7 of three operands, one after another. Assumes nothing.
 use mathlib.Core.Path.{sym, _∙_}
 use mathlib.Core.List.{[], _∷_}
 use borrow.Author.Tests.{not-true, not-false}

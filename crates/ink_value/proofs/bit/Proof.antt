@@ -1,3 +1,4 @@
+-- `ink_value::bit` meets its contract. Assumes nothing.
 use mathlib.Core.Path.{sym, ap}
 use Rattle.ink_value.specs.Convert.{bitZ}
 use Rattle.ink_value.proofs.bit.Statement.{statement}

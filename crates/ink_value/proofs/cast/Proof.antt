@@ -1,3 +1,4 @@
+-- `ink_value::cast` meets its contract: by the target's code. Assumes nothing.
 use borrow.Author.Needs.{needs}
 use mathlib.Core.Path.{refl, sym, ap, _∙_}
 use mathlib.Core.Bool.{Bool, cond}

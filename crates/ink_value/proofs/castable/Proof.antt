@@ -1,3 +1,4 @@
+-- `ink_value::castable` meets its contract. Assumes nothing.
 use mathlib.Core.Path.{refl}
 use borrow.Author.Tests.{ne-eqb}
 use Rattle.ink_value.specs.Convert.{castable}

@@ -1,3 +1,4 @@
+-- `ink_value::coerce_to_float` meets its contract. Assumes nothing.
 use borrow.Author.Needs.{needs}
 use mathlib.Core.Path.{sym, ap, _∙_}
 use lib.Ieee.{Float}

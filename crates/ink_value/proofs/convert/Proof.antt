@@ -1,3 +1,4 @@
+-- `ink_value::convert` meets its contract: by the kind and the target's code. Assumes nothing.
 use borrow.Author.Needs.{needs}
 use mathlib.Core.Path.{refl, ap, _∙_}
 use mathlib.Core.Bool.{Bool}

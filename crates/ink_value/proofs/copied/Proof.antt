@@ -1,3 +1,4 @@
+-- `ink_value::copied` meets its contract: the entries are copied to the start of the result slices. Assumes nothing.
 use borrow.Author.Needs.{needs}
 use mathlib.Core.Path.{sym, ap}
 use mathlib.Core.List.{List}

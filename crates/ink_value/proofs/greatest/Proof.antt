@@ -1,3 +1,4 @@
+-- `ink_value::greatest` meets its contract: the greatest of the part of the slice where its entries stand. Assumes nothing.
 use borrow.Author.Needs.{needs}
 use mathlib.Core.Path.{_≡_, ap, _∙_}
 use Prim.Native.Nat.{ℕ, _+_, _-_}

@@ -1,3 +1,4 @@
+-- `ink_value::is_formed` meets its contract: the tests of question 7 in their order. Assumes nothing.
 use mathlib.Core.Path.{sym, _∙_}
 use native.Mathlib.Omega.{arith}
 use Rattle.ink_list.specs.Entries.{formedLent}

@@ -1,3 +1,4 @@
+-- `ink_value::least` meets its contract: the least of the part of the slice where its entries stand. Assumes nothing.
 use mathlib.Core.Path.{_≡_, ap, _∙_}
 use Prim.Native.Nat.{ℕ, _+_, _-_}
 use native.Mathlib.Omega.{arith}

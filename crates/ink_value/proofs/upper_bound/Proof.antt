@@ -1,3 +1,4 @@
+-- `ink_value::upper_bound` meets its contract. Assumes nothing.
 use borrow.Author.Needs.{needs}
 use mathlib.Core.Path.{sym, ap, _∙_, subst}
 use Prim.Native.Nat.{_+_, _≤_}

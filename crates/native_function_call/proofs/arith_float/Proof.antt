@@ -1,3 +1,4 @@
+-- `native_function_call::arith_float` meets its contract: each arm is its operator's case of the definition. Assumes nothing.
 use borrow.Author.Needs.{needs}
 use borrow.Author.Tests.{ne-eqb}
 use Rattle.native_function_call.specs.Numbers.{arithF}

@@ -1,3 +1,4 @@
+-- `native_function_call::list2` meets its contract. Assumes nothing.
 use borrow.Author.Needs.{needs}
 use mathlib.Core.Path.{sym, _∙_}
 use Rattle.native_function_call.proofs.list2.Statement.{statement}

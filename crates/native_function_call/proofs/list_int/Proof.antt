@@ -1,3 +1,4 @@
+-- `native_function_call::list_int` meets its contract. Assumes nothing.
 use Rattle.ink_list.specs.Entries.{itemNumbers}
 use borrow.Author.Needs.{needs}
 use mathlib.Core.Path.{sym, _∙_, subst}

@@ -1,3 +1,4 @@
+-- `native_function_call::located` meets its contract: the origins of the entries that were written. Assumes nothing.
 use borrow.Author.Needs.{needs}
 use mathlib.Core.Path.{sym}
 use lib.Seq.{length-take-le}

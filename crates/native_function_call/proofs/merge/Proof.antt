@@ -1,3 +1,4 @@
+-- `native_function_call::merge` meets its contract: each arm is its operator's case of the definition. Assumes nothing.
 use borrow.Author.Needs.{needs}
 use mathlib.Core.Path.{ap, _∙_}
 use mathlib.Core.List.{List}

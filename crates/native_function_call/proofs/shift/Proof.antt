@@ -1,3 +1,4 @@
+-- `native_function_call::shift` meets its contract: each arm is its operator's case of the definition. Assumes nothing.
 use mathlib.Core.Path.{sym, ap, _∙_}
 use Prim.Native.Nat.{ℕ}
 use borrow.Author.Tests.{ne-eqb}

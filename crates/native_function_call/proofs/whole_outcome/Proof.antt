@@ -1,3 +1,4 @@
+-- `native_function_call::whole_outcome` meets its contract. Assumes nothing.
 use borrow.Author.Needs.{needs}
 use mathlib.Core.Path.{sym, ap, _∙_}
 use lib.IntN.{ℤ}

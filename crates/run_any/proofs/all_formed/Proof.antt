@@ -1,3 +1,4 @@
+-- `run_any::all_formed` meets its contract. The invariant: the slots passed are formed. Assumes nothing.
 use mathlib.Core.Path.{_≡_, refl, sym, _∙_}
 use Prim.Native.Nat.{_-_, _≤_}
 use native.Mathlib.Omega.{arith}

@@ -1,3 +1,4 @@
+-- `run_any::long_enough` meets its contract. Assumes nothing.
 use borrow.Author.Tests.{lt-leb, le-leb}
 use Rattle.ink_list.specs.Every.{_and_}
 use Rattle.run_any.proofs.long_enough.Statement.{statement}

@@ -1,3 +1,4 @@
+-- `run_any::run` meets its contract: questions 1 to 5, and then the run of a pack that has passed. Assumes nothing.
 use mathlib.Core.Path.{sym, ap, _∙_}
 use Rattle.pack.specs.Bodies.{decoded}
 use Rattle.pack.specs.Format.{format1}

@@ -1,3 +1,4 @@
+-- `run_any::run_passed` meets its contract: question 6, and then the sheet's run. Assumes nothing.
 use native.Mathlib.Omega.{arith}
 use Rattle.pack.proofs.Tabled.{ends-front, ends-fit, ends-count, defined-front, defined-fit, defined-count}
 use Rattle.pack.proofs.Values.{pack-tables}

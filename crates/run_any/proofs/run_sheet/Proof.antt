@@ -1,3 +1,4 @@
+-- `run_any::run_sheet` meets its contract: question 7; the work slices are cleared, and the inner run leaves them so. Assumes nothing.
 use mathlib.Core.Path.{sym, _∙_}
 use native.Mathlib.Omega.{arith}
 use borrow.Author.Tests.{not-true, not-false}

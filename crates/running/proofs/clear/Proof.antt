@@ -1,3 +1,4 @@
+-- `running::clear` meets its contract. The invariant: the places passed are zero as far as they were used, and the others as they were. Assumes nothing.
 use mathlib.Core.Path.{_≡_, sym, ap, _∙_}
 use Prim.Native.Nat.{ℕ, _-_, _≤_}
 use native.Mathlib.Omega.{arith}

@@ -1,3 +1,4 @@
+-- `running::keep_longest` meets its contract: one place of the table of lengths is set to the greater. Assumes nothing.
 use Rattle.running.proofs.Working.{longest-same, longest-set}
 use borrow.Author.Needs.{needs}
 use Rattle.running.proofs.keep_longest.Statement.{statement}

@@ -1,3 +1,4 @@
+-- `running::run_checked` meets its contract: the work, the result stored, and what was used cleared. Assumes nothing.
 use mathlib.Core.Path.{refl, _∙_}
 use native.Mathlib.Omega.{arith}
 use Rattle.ink_value.proofs.Reading.{few-in}

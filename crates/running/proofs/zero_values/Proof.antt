@@ -1,3 +1,4 @@
+-- `running::zero_values` meets its contract. The invariant: the places passed are zero, and the others as they were. Assumes nothing.
 use mathlib.Core.Path.{_≡_, ap, _∙_}
 use Prim.Native.Nat.{ℕ, _-_, _≤_}
 use native.Mathlib.Omega.{arith}

@@ -1,3 +1,4 @@
+-- `stepping::push_literal` meets its contract: question 9, and then the literal's entries read to their place. Assumes nothing.
 use Rattle.pack.specs.Bodies.{decoded}
 use Rattle.pack.specs.Read.{literalOf}
 use mathlib.Core.List.{[]}

@@ -1,3 +1,4 @@
+-- `stepping::push_slot` meets its contract: question 9, and then the slot's entries copied to their place. Assumes nothing.
 use mathlib.Core.List.{[]}
 use native.Mathlib.Omega.{arith}
 use Rattle.pack.specs.Format.{format1}

@@ -1,3 +1,4 @@
+-- `stepping::store` meets its contract: a list's entries copied, and any other value as it is. Assumes nothing.
 use mathlib.Core.Path.{refl, sym, _∙_}
 use Rattle.stepping.proofs.Putting.{put-plain, put-copied}
 use borrow.Author.Needs.{needs}

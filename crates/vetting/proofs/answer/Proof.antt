@@ -1,3 +1,4 @@
+-- `vetting::answer` meets its contract: the operands on top of the stack, by the table, and of range by its rule. Assumes nothing.
 use mathlib.Core.Path.{sym, _∙_, ap}
 use Prim.Native.Nat.{_-_}
 use borrow.Author.Needs.{needs}

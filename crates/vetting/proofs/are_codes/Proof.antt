@@ -1,3 +1,4 @@
+-- `vetting::are_codes` meets its contract. The invariant: the codes passed are kind codes. Assumes nothing.
 use mathlib.Core.Path.{_≡_, refl, sym, ap, _∙_}
 use Prim.Native.Nat.{_-_, _≤_}
 use native.Mathlib.Omega.{arith}

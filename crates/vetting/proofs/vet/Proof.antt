@@ -1,3 +1,4 @@
+-- `vetting::vet` meets its contract: questions 1 to 7 in order, and then the sheet. Assumes nothing.
 use mathlib.Core.Path.{_≡_, sym, ap, _∙_}
 use mathlib.Core.Bool.{true, false}
 use native.Mathlib.Omega.{arith}

@@ -1,3 +1,4 @@
+-- `vetting::vet_op` meets its contract: questions 8 and 10, and then the answer on kinds. Assumes nothing.
 use mathlib.Core.Path.{sym, _∙_}
 use borrow.Author.Needs.{needs}
 use native.Mathlib.Omega.{arith}

@@ -1,3 +1,4 @@
+-- `vetting::vet_push` meets its contract: question 9. Assumes nothing.
 use mathlib.Core.Path.{sym}
 use native.Mathlib.Omega.{arith}
 use Rattle.ink_value.specs.Val.{kindAt}

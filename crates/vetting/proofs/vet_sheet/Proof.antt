@@ -1,3 +1,4 @@
+-- `vetting::vet_sheet` meets its contract: the forecast is written where the sheet passed. Assumes nothing.
 use mathlib.Core.Path.{refl, sym, ap, _∙_}
 use mathlib.Core.List.{List, map}
 use Prim.Native.Nat.{ℕ}

@@ -1,3 +1,4 @@
+-- `vetting::vet_step` meets its contract: each kind of instruction is its case of the definition. Assumes nothing.
 use mathlib.Core.Path.{sym, ap, _∙_}
 use mathlib.Core.List.{map}
 use native.Mathlib.Omega.{arith}

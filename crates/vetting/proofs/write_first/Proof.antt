@@ -1,3 +1,4 @@
+-- `vetting::write_first` meets its contract. The invariant: the places passed hold the array's bytes, and the others are as they were. Assumes nothing.
 use mathlib.Core.Path.{_≡_, refl, ap, _∙_}
 use mathlib.Core.List.{List}
 use Prim.Native.Nat.{ℕ, _-_, _≤_}

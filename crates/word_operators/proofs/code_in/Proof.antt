@@ -1,5 +1,5 @@
-use native.Mathlib.Omega.{arith}
 -- `word_operators::code_in` meets its contract. Assumes nothing.
+use native.Mathlib.Omega.{arith}
 use borrow.Author.Tests.{lt-ltb, le-ltb}
 use borrow.Author.Needs.{needs}
 use Rattle.word_operators.proofs.code_in.Statement.{statement}
