@@ -1,4 +1,4 @@
--- `run_any::all_formed` meets its contract. The invariant: the slots passed are formed. Assumes nothing.
+-- `run_any::all_formed` meets its contract. The invariant: the answer for the slots that are left is the answer for all. Assumes nothing.
 use mathlib.Core.Path.{_≡_, refl, sym, _∙_}
 use Prim.Native.Nat.{_-_, _≤_}
 use native.Mathlib.Omega.{arith}

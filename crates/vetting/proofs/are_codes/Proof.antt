@@ -1,4 +1,4 @@
--- `vetting::are_codes` meets its contract. The invariant: the codes passed are kind codes. Assumes nothing.
+-- `vetting::are_codes` meets its contract. The invariant: the answer for the codes that are left is the answer for all. Assumes nothing.
 use mathlib.Core.Path.{_≡_, refl, sym, ap, _∙_}
 use Prim.Native.Nat.{_-_, _≤_}
 use native.Mathlib.Omega.{arith}
