@@ -19,7 +19,7 @@ ghost use Rattle.ink_list.specs.Entries.{Rising};
 ghost use Rattle.ink_value.specs.Val.{Val, list, listK, kindAt};
 ghost use Rattle.ink_value.specs.Slices.{valIn};
 ghost use Rattle.ink_value.specs.Value.{valOf, codeOfValue, lenOf, written, Formed, FirstFormed};
-ghost use Rattle.kind_table.specs.Kinds.{operandCount};
+ghost use Rattle.kind_table.specs.Kinds.{operandCount, KindsGiven};
 ghost use Rattle.native_function_call.specs.Apply.{ofInt, applyOp, call, compute};
 ghost use Rattle.list_definitions.specs.Defs.{ListDefinitions};
 ghost use Rattle.native_function_call.specs.Lists.{definitions, definitionsIn};
@@ -242,7 +242,18 @@ fn list_result(
     }
 }
 
-// An operator on the first `count` of three operands: questions 8 and 10 to 16, and its result at a place of the stack.
+// Questions 11 to 14 of an operator and as many kind codes as it takes: the code of the answer.
+fn kinds(op: u8, count: usize, left: u8, middle: u8, right: u8) -> u8
+    requires { ⌜ (op < 32) × (count ≡ operandCount op) × (1 ≤ count) × (left < 5) × (middle < 5) × (right < 5) ⌝ }
+    ensures { λ r. ⌜ KindsGiven op count (take count (kindAt left ∷ kindAt middle ∷ kindAt right ∷ [])) r ⌝ }
+{
+    if count == 3 {
+        return kind_table::range(left, middle, right);
+    }
+    kind_table::entry(op, left, middle)
+}
+
+// An operator on as many of three operands as it takes: questions 11 to 16, and its result at a place of the stack.
 fn operate(
     op: u8,
     count: usize,
@@ -255,12 +266,12 @@ fn operate(
     work_items: &mut [u16],
     work_values: &mut [i32],
 ) -> Step
-    requires { ⌜ Known (now ends) (now defined) × Roomy (now «work_items») (now «work_values») × (place < stackLimit) ⌝ }
+    requires { ⌜ Known (now ends) (now defined) × Roomy (now «work_items») (now «work_values») × (place < stackLimit) × (op < 32) × (count ≡ operandCount op) × (1 ≤ count) ⌝ }
     requires { ⌜ FirstFormed (format1 .limit) (now «work_items») (now «work_values») count a b c ⌝ }
     ensures { λ r. ⌜ Answered (call (definitionsIn ends defined (format1 .limit)) op count (take count (valIn «work_items» «work_values» a ∷ valIn «work_items» «work_values» b ∷ valIn «work_items» «work_values» c ∷ []))) place r
         (now («work_items» .entry)) (now («work_items» .exit)) (now («work_values» .entry)) (now («work_values» .exit)) ⌝ }
 {
-    let kind = native_function_call::kinds(
+    let kind = kinds(
         op,
         count,
         ink_value::kind(a),

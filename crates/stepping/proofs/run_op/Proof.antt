@@ -29,7 +29,7 @@ operate-requires c κs =
     let s = c .before .before .before .before .before .before .before in
     let e = c .before .before .before .before .operands .ensures in
     let f = subst (λ (k : ℕ). FirstFormed (format1 .limit) (s .args .work-items .now) (s .args .work-values .now) k (s .args .a) (s .args .b) (s .args .c)) (sym e) (s .pre .1 .1 (omega (arith, e, c .before .before .if2 .left))) in
-    ((s .pre .0 .2, s .pre .1 .0, omega (arith, c .before .before .before .if1 .left, c .before .before .if2 .left, s .pre .0 .1)), f)
+    ((s .pre .0 .2, s .pre .1 .0, omega (arith, c .before .before .before .if1 .left, c .before .before .if2 .left, s .pre .0 .1), s .pre .0 .0, e, omega (arith, c .before .before .before .if1 .left)), f)
 
 same-length : tie.Need-same-length
 same-length c = search needs
