@@ -120,7 +120,7 @@ is-range o e = let t = takes o 3 (omega arith) e in go (unary o) (eqb o 31) refl
     go false true w q = eqb-true o 31 w
     go false false w q = absurd (omega arith)
 
-range-three : operandCount 31 ≡ 3
+pub range-three : operandCount 31 ≡ 3
 unfolding operandCount known arity unary
 range-three = refl
 

@@ -8,11 +8,12 @@ use lib.Dec.{eqb, ltb}
 use lib.IntN.{ℤ}
 use lib.Ieee.{Float}
 use lib.ListN.{getD, take}
-use borrow.Author.Tests.{lt-ltb, eqb-true, ltb-true}
+use borrow.Author.Tests.{lt-ltb, eqb-true, ltb-true, ltb-false}
 use Rattle.ink_number.specs.Int.{signed}
 use Rattle.ink_float.specs.Real.{ofBits32}
+use Rattle.ink_number.specs.Answer.{gives}
 use Rattle.ink_value.specs.Convert.{bitZ}
-use Rattle.ink_value.specs.Val.{Kind, kindOf, kindAt}
+use Rattle.ink_value.specs.Val.{Kind, kindOf, kindAt, codeOf}
 use Rattle.ink_value.specs.Value.{valOf, codeOfValue, Parts, Number, Operand, Spans, Formed}
 use Rattle.ink_value.specs.declared.Value.{Value}
 use Rattle.ink_value.specs.declared.Value.the-variants as Is
@@ -21,8 +22,9 @@ use Rattle.ink_value.proofs.Reading.{ap2, ap3, code-in}
 use Rattle.ink_value.proofs.Parts.{spans-of}
 use Rattle.calls.proofs.Forms.{map-take}
 use Rattle.value_words.specs.Words.{unheld, boolAt, intAt, floatAt, voidAt, plainAt, valueOf, valueAt, codeAt}
-use Rattle.kind_table.specs.Kinds.{kindCall, kindEntry, operandCount, decoded}
-use Rattle.native_function_call.proofs.Calling.{decoded-kind, entry-count, entry-given}
+use Rattle.kind_table.specs.Kinds.{kindCall, kindEntry, operandCount, decoded, KindsGiven}
+use Rattle.native_function_call.proofs.Calling.{decoded-kind, decoded-no, code-at, above-all, none-taken, miscounted, entry-count, entry-given}
+use Rattle.native_function_call.proofs.Applying.{range-three}
 use Rattle.word_operators.specs.Operands.{Held, OfNumbers, FirstIn, valsAt}
 
 pub number-is : {v : Value} {k k′ : ℕ} {z z′ : ℤ} {x x′ : Float} → Number v k z x → k′ ≡ k → z′ ≡ z → x′ ≡ x → Number v k′ z′ x′
@@ -190,3 +192,62 @@ of-numbers ws o n r h e l t q d =
       small = d;
       answered = λ is vs. ap (kindCall o n) (kinds-at is vs ws n h) ∙ sym (g .answered) ∙ decoded-kind r (omega arith);
     }
+
+-- ---- where there is no such result
+
+-- an operator that refuses, or that gives what is no number
+refuses-none : {ws : List ℕ} {o n : ℕ} (q : ℕ) → 4 < q → ((is : List ℕ) (vs : List ℤ) → KindsGiven o n (map kindOf (take n (valsAt is vs ws))) q)
+    → (kind : ℕ) → OfNumbers ws o n kind → ⊥
+refuses-none q l g kind m =
+    let e = sym (decoded-no q l) ∙ g [] [] .answered ∙ m .answered [] [] in
+    let z : _≡_ {A = ℕ} 0 1 = cc in
+    omega arith
+
+gives-none : (r kind : ℕ) → 3 ≤ r → r < 5 → kind < 3 → decoded r ≡ gives (kindAt kind) → ⊥
+gives-none r kind h l m e =
+    let k : kindAt r ≡ kindAt kind = let f = sym (decoded-kind r l) ∙ e in cc in
+    let c : r ≡ kind = sym (code-at r l) ∙ ap codeOf k ∙ code-at kind (omega arith) in
+    omega arith
+
+pub no-number-operator : (ws : List ℕ) (o n : ℕ) → 30 < o → (kind : ℕ) → OfNumbers ws o n kind → ⊥
+no-number-operator ws o n h kind m = go (ltb o 32) refl
+  where
+    go : (t : Bool) → ltb o 32 ≡ t → ⊥
+    go true e =
+        let l = ltb-true o 32 e in
+        let three : operandCount o ≡ 3 = ap operandCount (let q : o ≡ 31 = omega arith in q) ∙ range-three in
+        refuses-none 10 (omega arith) (λ is vs. miscounted o 3 n _ three (λ q. omega arith) (λ q. omega (arith, m .few))) kind m
+    go false e = refuses-none 8 (omega arith) (λ is vs. above-all o n _ (ltb-false o 32 e)) kind m
+
+pub other-count : (ws : List ℕ) (o n c : ℕ) → operandCount o ≡ c → (c ≡ n → ⊥) → (kind : ℕ) → OfNumbers ws o n kind → ⊥
+other-count ws o n zero e ne kind m = refuses-none 8 (omega arith) (λ is vs. none-taken o n _ e) kind m
+other-count ws o n (suc c) e ne kind m = refuses-none 10 (omega arith) (λ is vs. miscounted o (suc c) n _ e (λ q. omega arith) ne) kind m
+
+pub no-numbers : (ws : List ℕ) (o n : ℕ) → Held ws n → false ≡ cond (ltb (codeAt ws 0) 3) (cond (ltb n 2) true (ltb (codeAt ws 1) 3)) false
+    → (kind : ℕ) → OfNumbers ws o n kind → ⊥
+no-numbers ws o n h f kind m =
+    let l = lt-ltb (codeAt ws 0) 3 (omega (arith, held-code ws 0 (h .one (m .some)), m .left)) in
+    go (ltb n 2) refl (f ∙ ap (λ (b : Bool). cond b (cond (ltb n 2) true (ltb (codeAt ws 1) 3)) false) l)
+  where
+    go : (t : Bool) → ltb n 2 ≡ t → false ≡ cond t true (ltb (codeAt ws 1) 3) → ⊥
+    go true e q = let z : _≡_ {A = ℕ} 0 1 = cc in omega arith
+    go false e q =
+        let w = ltb-false n 2 e in
+        let two : n ≡ 2 = omega (arith, m .few) in
+        let p = q ∙ lt-ltb (codeAt ws 1) 3 (omega (arith, held-code ws 1 (h .two (omega arith)), m .right two)) in
+        let z : _≡_ {A = ℕ} 0 1 = cc in
+        omega arith
+
+pub no-number-kind : (ws : List ℕ) (o n r : ℕ) → Held ws n → operandCount o ≡ n → decoded r ≡ kindEntry o (kindAt (codeAt ws 0)) (kindAt (codeAt ws 1)) → 3 ≤ r
+    → (kind : ℕ) → OfNumbers ws o n kind → ⊥
+no-number-kind ws o n r h e q l kind m =
+    let g = entry-given o (kindAt (codeAt ws 0)) (kindAt (codeAt ws 1)) (kindAt (codeAt ws 2)) n r e (m .some) (λ t. omega (arith, m .few)) q in
+    let a : decoded r ≡ gives (kindAt kind) = g .answered ∙ sym (ap (kindCall o n) (kinds-at [] [] ws n h)) ∙ m .answered [] [] in
+    go (ltb r 5) refl a
+  where
+    go : (t : Bool) → ltb r 5 ≡ t → decoded r ≡ gives (kindAt kind) → ⊥
+    go true f a = gives-none r kind l (ltb-true r 5 f) (m .small) a
+    go false f a =
+        let b = sym (decoded-no r (ltb-false r 5 f)) ∙ a in
+        let z : _≡_ {A = ℕ} 0 1 = cc in
+        omega arith

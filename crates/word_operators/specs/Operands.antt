@@ -32,3 +32,8 @@ pub record OfNumbers (ws : List ℕ) (o n kind : ℕ) : Type 0 where
   pub right : n ≡ 2 → codeOfValue (valueAt ws 1) < 3
   pub small : kind < 3
   pub answered : (is : List ℕ) (vs : List ℤ) → kindCall o n (map kindOf (take n (valsAt is vs ws))) ≡ gives (kindAt kind)
+
+-- r is the kind of such a result, or 3 or more just where there is none
+pub record NumberKind (ws : List ℕ) (o n r : ℕ) : Type 0 where
+  pub yes : r < 3 → OfNumbers ws o n r
+  pub no : 3 ≤ r → (kind : ℕ) → OfNumbers ws o n kind → ⊥

@@ -28,7 +28,7 @@ ghost use Rattle.pack.specs.Format.{format1};
 ghost use Rattle.calls.specs.Call.{operandsOk, called, PackLists};
 ghost use Rattle.value_words.specs.Words.{valueAt};
 ghost use Rattle.value_words.specs.Calls.{operandsIn, Says, Calls};
-ghost use Rattle.word_operators.specs.Operands.{Held, OfNumbers, FirstIn, valsAt};
+ghost use Rattle.word_operators.specs.Operands.{Held, OfNumbers, NumberKind, FirstIn, valsAt};
 
 // The kind code in a value's first word; 4 where it has none.
 fn code_in(w: u64) -> u8
@@ -63,10 +63,10 @@ fn numbers(count: usize, left: u8, right: u8) -> bool
     false
 }
 
-// The kind of a result of numbers, below 3; else, where an operand or the result is none, 3 or more.
+// The kind of a result of numbers, below 3; 3 or more where an operand, or the result, is no number.
 pub fn number_kind(op: u8, count: usize, operands: &[u64; 9]) -> u8
     requires { ⌜ Held (now operands) count ⌝ }
-    ensures { λ r. ⌜ (r < 3 → OfNumbers (now (operands .entry)) op count r) ⌝ }
+    ensures { λ r. ⌜ NumberKind (now (operands .entry)) op count r ⌝ }
 {
     let left = code_in(operands[0]);
     let right = code_in(operands[3]);

@@ -10,12 +10,12 @@ number-kind-requires c κs =
     held (s .args .ends .now) (s .args .defined .now) (s .args .items .now) (s .args .values .now) (s .args .result-items .now) (s .args .result-values .now) (s .args .operands .now) (s .args .op) (s .args .count) (s .pre .0) (s .pre .1 .0) (search needs)
 
 number-requires : tie.Need-number-requires
-number-requires c κs = c .before .before .number-kind .ensures (c .before .if1 .taken)
+number-requires c κs = c .before .before .number-kind .ensures .yes (c .before .if1 .taken)
 
 returns : tie.Need-returns
 returns c =
     let s = c .before .before .before .before .before .before .before in
-    called-numbers (s .args .ends .now) (s .args .defined .now) (s .args .items .now) (s .args .values .now) (s .args .result-items .now) (s .args .result-values .now) (s .args .operands .now) (s .args .op) (s .args .count) (s .pre .0) (s .pre .1 .0) (s .pre .1 .1 .0) (s .pre .1 .1 .1) (c .before .before .before .number-kind .result) _ _ (c .before .before .before .number-kind .ensures (c .before .before .if1 .taken)) (c .number .ensures)
+    called-numbers (s .args .ends .now) (s .args .defined .now) (s .args .items .now) (s .args .values .now) (s .args .result-items .now) (s .args .result-values .now) (s .args .operands .now) (s .args .op) (s .args .count) (s .pre .0) (s .pre .1 .0) (s .pre .1 .1 .0) (s .pre .1 .1 .1) (c .before .before .before .number-kind .result) _ _ (c .before .before .before .number-kind .ensures .yes (c .before .before .if1 .taken)) (c .number .ensures)
 
 apply-requires : tie.Need-apply-requires
 apply-requires c κs = search needs

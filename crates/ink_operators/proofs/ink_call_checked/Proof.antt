@@ -76,14 +76,14 @@ number-kind-requires c κs =
     held (s .args .ends .now) (s .args .defined .now) (s .args .items .now) (s .args .values .now) (s .args .result-items .now) (s .args .result-values .now) (s .args .operands .now) (s .args .op) (s .args .count) (s .pre) (l .formed) (search needs)
 
 number-requires : tie.Need-number-requires
-number-requires c κs = c .before .before .number-kind .ensures (c .before .if2 .taken)
+number-requires c κs = c .before .before .number-kind .ensures .yes (c .before .if2 .taken)
 
 returns-2 : tie.Need-returns-2
 returns-2 c =
     let s = c .before .before .before .before .before .before .before .before .before .before .before .before in
     let u = definitions (s .args .ends .now) (s .args .defined .now) (format1 .limit) in
     let l = lent u (s .args .items .now) (s .args .values .now) (s .args .result-items .now) (s .args .result-values .now) (s .args .count) (s .args .operands .now) (c .before .before .before .before .before .before .before .before .operand-at .ensures) (c .before .before .before .before .before .before .before .operand-at2 .ensures) (c .before .before .before .before .before .before .operand-at3 .ensures) (c .before .before .before .before .before .lent-well .ensures) (not-false _ (c .before .before .before .before .if1 .left)) in
-    called-numbers (s .args .ends .now) (s .args .defined .now) (s .args .items .now) (s .args .values .now) (s .args .result-items .now) (s .args .result-values .now) (s .args .operands .now) (s .args .op) (s .args .count) (s .pre) (l .formed) (l .items-room) (l .values-room) (c .before .before .before .number-kind .result) _ _ (c .before .before .before .number-kind .ensures (c .before .before .if2 .taken)) (c .number .ensures)
+    called-numbers (s .args .ends .now) (s .args .defined .now) (s .args .items .now) (s .args .values .now) (s .args .result-items .now) (s .args .result-values .now) (s .args .operands .now) (s .args .op) (s .args .count) (s .pre) (l .formed) (l .items-room) (l .values-room) (c .before .before .before .number-kind .result) _ _ (c .before .before .before .number-kind .ensures .yes (c .before .before .if2 .taken)) (c .number .ensures)
 
 apply-requires : tie.Need-apply-requires
 apply-requires c κs =

@@ -1,7 +1,7 @@
 -- `word_operators::number_kind` meets its contract. Assumes nothing.
 use mathlib.Core.Path.{sym, _∙_}
 use native.Mathlib.Omega.{arith}
-use Rattle.word_operators.proofs.Operands.{both-numbers, of-numbers}
+use Rattle.word_operators.proofs.Operands.{both-numbers, of-numbers, no-number-operator, other-count, no-numbers, no-number-kind}
 use borrow.Author.Needs.{needs}
 use Rattle.word_operators.proofs.number_kind.Statement.{statement}
 use Rattle.word_operators.proofs.number_kind.Tie as tie
@@ -19,13 +19,17 @@ code-in-requires-2 : tie.Need-code-in-requires-2
 code-in-requires-2 c κs = search needs
 
 returns : tie.Need-returns
-returns c = λ h. absurd (omega arith)
+returns c =
+    let s = c .before .before .before .before .before in
+    record { yes = λ h. absurd (omega arith); no = λ h. no-number-operator (s .args .operands .now) (s .args .op) (s .args .count) (c .if1 .taken) }
 
 operands-requires : tie.Need-operands-requires
 operands-requires c κs = search needs
 
 returns-2 : tie.Need-returns-2
-returns-2 c = λ h. absurd (omega arith)
+returns-2 c =
+    let s = c .before .before .before .before .before .before .before in
+    record { yes = λ h. absurd (omega arith); no = λ h. other-count (s .args .operands .now) (s .args .op) (s .args .count) _ (sym (c .before .operands .ensures)) (c .if2 .taken) }
 
 numbers-requires : tie.Need-numbers-requires
 numbers-requires c κs = search needs
@@ -38,12 +42,23 @@ number-entry-requires c κs =
 returns-3 : tie.Need-returns-3
 returns-3 c =
     let s = c .before .before .before .before .before .before .before .before .before .before in
-    of-numbers (s .args .operands .now) (s .args .op) (s .args .count) (c .number-entry .result) (s .pre) (sym (c .before .before .before .before .operands .ensures) ∙ c .before .before .before .if2 .left) (omega (arith, c .before .before .before .before .before .if1 .left))
-    (rw (c .before .before .before .before .before .before .before .before .code-in .ensures .0, c .before .before .before .before .before .before .code-in2 .ensures .0) at (sym (c .before .if3 .taken) ∙ c .before .before .numbers .ensures))
-    (rw (c .before .before .before .before .before .before .before .before .code-in .ensures .0, c .before .before .before .before .before .before .code-in2 .ensures .0) at (c .number-entry .ensures))
+    let ws = s .args .operands .now in
+    let count = sym (c .before .before .before .before .operands .ensures) ∙ c .before .before .before .if2 .left in
+    let entry = rw (c .before .before .before .before .before .before .before .before .code-in .ensures .0, c .before .before .before .before .before .before .code-in2 .ensures .0) at (c .number-entry .ensures) in
+    record {
+      yes = of-numbers ws (s .args .op) (s .args .count) (c .number-entry .result) (s .pre) count (omega (arith, c .before .before .before .before .before .if1 .left))
+          (rw (c .before .before .before .before .before .before .before .before .code-in .ensures .0, c .before .before .before .before .before .before .code-in2 .ensures .0) at (sym (c .before .if3 .taken) ∙ c .before .before .numbers .ensures)) entry;
+      no = no-number-kind ws (s .args .op) (s .args .count) (c .number-entry .result) (s .pre) count entry;
+    }
 
 returns-4 : tie.Need-returns-4
-returns-4 c = λ h. absurd (omega arith)
+returns-4 c =
+    let s = c .before .before .before .before .before .before .before .before .before in
+    record {
+      yes = λ h. absurd (omega arith);
+      no = λ h. no-numbers (s .args .operands .now) (s .args .op) (s .args .count) (s .pre)
+          (rw (c .before .before .before .before .before .before .before .code-in .ensures .0, c .before .before .before .before .before .code-in2 .ensures .0) at (sym (c .if3 .left) ∙ c .before .numbers .ensures));
+    }
 
 pub number-kind-spec : {M : Type 1} → statement M
 number-kind-spec =
