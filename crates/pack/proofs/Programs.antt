@@ -14,7 +14,8 @@ use Rattle.ink_list.proofs.Every.{every-at}
 use Rattle.ink_list.proofs.Filled.{length-table}
 use Rattle.pack.specs.Bodies.{sheet, decoded}
 use Rattle.pack.specs.Contents.{literalCount, sheetCount, sheetBody, offset}
-use Rattle.pack.specs.Format.{format1, instructionLimit}
+use Rattle.pack.specs.Format.{instructionLimit}
+use Rattle.pack.specs.declared.format.Format.{Format}
 use Rattle.pack.specs.Instruction.{Instr, push, pushVoid, width, instruction, instructions, onward, before, isSome, orNone}
 use Rattle.pack.specs.Judge.{question5}
 use Rattle.pack.specs.Read.{program, sheetEnd, Standing, Whole, Kth, Reads}
@@ -74,8 +75,8 @@ dropped l r i k e =
     (below, (cc), rw (add-one k) (cc))
 
 module _ (p : List ℕ) where
-  pub sheets-long : length (decoded format1 p .sheets) ≡ sheetCount p
-  sheets-long = length-table (sheetCount p) (λ s. orNone (sheet p (sheetBody p s)))
+  pub sheets-long : (F : Format) → length (decoded F p .sheets) ≡ sheetCount p
+  sheets-long F = length-table (sheetCount p) (λ s. orNone (sheet p (sheetBody p s)))
 
   pub program-is : (s : ℕ) → s < sheetCount p → program p s ≡ orNone (sheet p (sheetBody p s))
   program-is s h = getD-table (sheetCount p) (λ k. orNone (sheet p (sheetBody p k))) s [] h
