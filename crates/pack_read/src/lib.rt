@@ -6,9 +6,9 @@ use pack::bytes::u64_at;
 use pack::contents::offset;
 use pack::contents::size;
 use pack::format::Format;
-use pack_check::format::FORMAT1;
 use pack_lists::definitions::item_count;
 ghost use mathlib.Core.Path.{_≡_};
+ghost use mathlib.Core.Bool.{true};
 ghost use Prim.Native.Nat.{_+_, _*_, _<_, _≤_};
 ghost use lib.ListN.{length};
 ghost use Rattle.ink_list.specs.Every.{table};
@@ -16,8 +16,8 @@ ghost use Rattle.ink_list.specs.Filled.{fill};
 ghost use Rattle.pack.specs.Bodies.{itemCount, decoded};
 ghost use Rattle.pack.specs.Bytes.{i32, number};
 ghost use Rattle.pack.specs.Contents.{definitionCount, literalCount, sheetCount};
-ghost use Rattle.pack.specs.Format.{format1, Narrow};
-ghost use Rattle.pack.specs.Judge.{Sound};
+ghost use Rattle.pack.specs.Format.{Narrow};
+ghost use Rattle.pack.specs.Judge.{question5, Framed, Placed, Sound};
 ghost use Rattle.pack.specs.Read.{literalOf, Tabled, Stored, SheetSpan};
 
 // Copies n values that stand one after another from a position, into the places from an index on.
@@ -40,8 +40,8 @@ pub struct Defined {
     pub items: usize,
 }
 
-// Reads the definitions of a pack of a format.
-fn copy_definitions(p: &[u8], ends: &mut [u16], defined: &mut [i32], format: Format) -> Defined
+// Reads the definitions: one past each definition's last item, and each item's value.
+pub fn read_definitions(p: &[u8], ends: &mut [u16], defined: &mut [i32], format: Format) -> Defined
     requires { ⌜ Narrow format ⌝ }
     requires { ⌜ Sound format (now p) ⌝ }
     requires { ⌜ definitionCount (now p) ≤ length (now ends) ⌝ }
@@ -65,42 +65,33 @@ fn copy_definitions(p: &[u8], ends: &mut [u16], defined: &mut [i32], format: For
     }
 }
 
-// Reads the definitions: one past each definition's last item, and each item's value.
-pub fn read_definitions(p: &[u8], ends: &mut [u16], defined: &mut [i32]) -> Defined
-    requires { ⌜ Sound format1 (now p) ⌝ }
-    requires { ⌜ definitionCount (now p) ≤ length (now ends) ⌝ }
-    requires { ⌜ itemCount format1 (now p) ≤ length (now defined) ⌝ }
-    ensures { λ r. ⌜ Tabled (decoded format1 (now (p .entry))) (r .definitions) (r .items) (now (ends .entry)) (now (ends .exit)) (now (defined .entry)) (now (defined .exit)) ⌝ }
-{
-    copy_definitions(p, ends, defined, FORMAT1)
-}
-
 // How many literals there are.
 pub fn literal_count(p: &[u8]) -> usize
-    requires { ⌜ Sound format1 (now p) ⌝ }
-    ensures { λ r. ⌜ r ≡ length (decoded format1 (now (p .entry)) .literals) ⌝ }
+    requires { ⌜ Framed (now p) ⌝ }
+    ensures { λ r. ⌜ r ≡ literalCount (now (p .entry)) ⌝ }
 {
     byte_at(p, 2)
 }
 
 // The origin set of literal l.
-pub fn literal_origins(p: &[u8], l: usize) -> u64
-    requires { ⌜ Sound format1 (now p) ⌝ }
+pub fn literal_origins(p: &[u8], l: usize, format: Format) -> u64
+    requires { ⌜ Sound format (now p) ⌝ }
     requires { ⌜ l < literalCount (now p) ⌝ }
-    ensures { λ r. ⌜ r ≡ literalOf (decoded format1 (now (p .entry))) l .origins ⌝ }
+    ensures { λ r. ⌜ r ≡ literalOf (decoded format (now (p .entry))) l .origins ⌝ }
 {
     let at = offset(p, byte_at(p, 1) + l);
     u64_at(p, at)
 }
 
 // How many entries literal l has.
-pub fn literal_len(p: &[u8], l: usize) -> usize
-    requires { ⌜ Sound format1 (now p) ⌝ }
+pub fn literal_len(p: &[u8], l: usize, format: Format) -> usize
+    requires { ⌜ Narrow format ⌝ }
+    requires { ⌜ Sound format (now p) ⌝ }
     requires { ⌜ l < literalCount (now p) ⌝ }
-    ensures { λ r. ⌜ r ≡ length (literalOf (decoded format1 (now (p .entry))) l .entries) ⌝ }
+    ensures { λ r. ⌜ r ≡ length (literalOf (decoded format (now (p .entry))) l .entries) ⌝ }
 {
     let n = size(p, byte_at(p, 1) + l);
-    (n - 8) / (FORMAT1.wide + 4)
+    (n - 8) / (format.wide + 4)
 }
 
 // Copies n entries that stand one after another from a position, into the places from an index on.
@@ -132,23 +123,31 @@ fn copy_entries(
 }
 
 // Copies the entries of literal l into the places from an index on, and says how many there are.
-pub fn read_literal(p: &[u8], l: usize, items: &mut [u16], values: &mut [i32], from: usize) -> usize
-    requires { ⌜ Sound format1 (now p) ⌝ }
+pub fn read_literal(
+    p: &[u8],
+    l: usize,
+    items: &mut [u16],
+    values: &mut [i32],
+    from: usize,
+    format: Format,
+) -> usize
+    requires { ⌜ Narrow format ⌝ }
+    requires { ⌜ Sound format (now p) ⌝ }
     requires { ⌜ l < literalCount (now p) ⌝ }
-    requires { ⌜ from + length (literalOf (decoded format1 (now p)) l .entries) ≤ length (now items) ⌝ }
-    requires { ⌜ from + length (literalOf (decoded format1 (now p)) l .entries) ≤ length (now values) ⌝ }
-    ensures { λ r. ⌜ Stored (literalOf (decoded format1 (now (p .entry))) l .entries) from r (now (items .entry)) (now (items .exit)) (now (values .entry)) (now (values .exit)) ⌝ }
+    requires { ⌜ from + length (literalOf (decoded format (now p)) l .entries) ≤ length (now items) ⌝ }
+    requires { ⌜ from + length (literalOf (decoded format (now p)) l .entries) ≤ length (now values) ⌝ }
+    ensures { λ r. ⌜ Stored (literalOf (decoded format (now (p .entry))) l .entries) from r (now (items .entry)) (now (items .exit)) (now (values .entry)) (now (values .exit)) ⌝ }
 {
-    let n = literal_len(p, l);
+    let n = literal_len(p, l, format);
     let at = offset(p, byte_at(p, 1) + l) + 8;
-    copy_entries(p, at, n, items, values, from, FORMAT1.wide);
+    copy_entries(p, at, n, items, values, from, format.wide);
     n
 }
 
 // How many sheets there are.
 pub fn sheet_count(p: &[u8]) -> usize
-    requires { ⌜ Sound format1 (now p) ⌝ }
-    ensures { λ r. ⌜ r ≡ length (decoded format1 (now (p .entry)) .sheets) ⌝ }
+    requires { ⌜ Framed (now p) ⌝ }
+    ensures { λ r. ⌜ r ≡ sheetCount (now (p .entry)) ⌝ }
 {
     byte_at(p, 3)
 }
@@ -161,7 +160,7 @@ pub struct Span {
 
 // Where sheet s starts and ends.
 pub fn sheet_span(p: &[u8], s: usize) -> Span
-    requires { ⌜ Sound format1 (now p) ⌝ }
+    requires { ⌜ Placed (now p) × (question5 (now p) ≡ true) ⌝ }
     requires { ⌜ s < sheetCount (now p) ⌝ }
     ensures { λ r. ⌜ SheetSpan (now (p .entry)) s (r .start) (r .end) ⌝ }
 {

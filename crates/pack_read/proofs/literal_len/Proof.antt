@@ -6,7 +6,6 @@ use lib.ListN.{length}
 use denote.Ref.{now}
 use Rattle.pack.specs.Bodies.{Literal}
 use Rattle.pack.specs.Contents.{literalBody, size}
-use Rattle.pack.specs.Format.{format1}
 use Rattle.pack.proofs.Listed.{literal-listed, literal-is, entries-long}
 use borrow.Author.Needs.{needs}
 use Rattle.pack_read.proofs.literal_len.Statement.{statement}
@@ -28,7 +27,7 @@ sub-result c =
     let b = literalBody p (s .args .l) in
     let w : c .before .byte-at .result + s .args .l ≡ b = omega arith in
     let z : c .size .result ≡ size p b = c .size .ensures .0 ∙ ap (size p) w in
-    omega (arith, literal-listed format1 p (s .pre .0 .four) (s .args .l) (s .pre .1) .whole)
+    omega (arith, literal-listed (s .args .format) p (s .pre .1 .0 .four) (s .args .l) (s .pre .1 .1) .whole)
 
 add-result : tie.Need-add-result
 add-result c = search needs
@@ -43,9 +42,9 @@ returns c =
     let b = literalBody p (s .args .l) in
     let w : c .before .before .byte-at .result + s .args .l ≡ b = omega arith in
     let z : c .before .size .result ≡ size p b = c .before .size .ensures .0 ∙ ap (size p) w in
-    ap (λ (n : ℕ). (n - 8) / (format1 .wide + 4)) z
-    ∙ sym (entries-long format1 p b)
-    ∙ ap (λ (x : Literal). length (x .entries)) (sym (literal-is p (s .args .l) (s .pre .1)))
+    ap (λ (n : ℕ). (n - 8) / ((s .args .format) .wide + 4)) z
+    ∙ sym (entries-long (s .args .format) p b)
+    ∙ ap (λ (x : Literal). length (x .entries)) (sym (literal-is (s .args .format) p (s .args .l) (s .pre .1 .1)))
 
 pub literal-len-spec : {M : Type 1} → statement M
 literal-len-spec =

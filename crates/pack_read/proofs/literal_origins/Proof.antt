@@ -6,7 +6,6 @@ use denote.Ref.{now}
 use Rattle.pack.specs.Bodies.{Literal}
 use Rattle.pack.specs.Bytes.{u64}
 use Rattle.pack.specs.Contents.{literalBody, offset}
-use Rattle.pack.specs.Format.{format1}
 use Rattle.pack.proofs.Laid.{body}
 use Rattle.pack.proofs.Listed.{literal-listed, literal-is}
 use borrow.Author.Needs.{needs}
@@ -29,7 +28,7 @@ u64-at-requires c κs =
     let b = literalBody p (s .args .l) in
     let w : c .before .byte-at .result + s .args .l ≡ b = omega arith in
     let o : c .offset .result ≡ offset p b = c .offset .ensures .0 ∙ ap (offset p) w in
-    omega (arith, body p (s .pre .0 .contents) b (omega arith), literal-listed format1 p (s .pre .0 .four) (s .args .l) (s .pre .1) .whole)
+    omega (arith, body p (s .pre .0 .contents) b (omega arith), literal-listed (s .args .format) p (s .pre .0 .four) (s .args .l) (s .pre .1) .whole)
 
 returns : tie.Need-returns
 returns c =
@@ -38,7 +37,7 @@ returns c =
     let b = literalBody p (s .args .l) in
     let w : c .before .before .byte-at .result + s .args .l ≡ b = omega arith in
     let o : c .before .offset .result ≡ offset p b = c .before .offset .ensures .0 ∙ ap (offset p) w in
-    c .u64-at .ensures ∙ ap (u64 p) o ∙ ap (λ (x : Literal). x .origins) (sym (literal-is p (s .args .l) (s .pre .1)))
+    c .u64-at .ensures ∙ ap (u64 p) o ∙ ap (λ (x : Literal). x .origins) (sym (literal-is (s .args .format) p (s .args .l) (s .pre .1)))
 
 pub literal-origins-spec : {M : Type 1} → statement M
 literal-origins-spec =

@@ -41,9 +41,9 @@ returns c =
     let o : c .before .offset .result ≡ offset p b = c .before .offset .ensures .0 ∙ ap (offset p) w in
     let z : c .size .result ≡ size p b = c .size .ensures .0 ∙ ap (size p) w in
     record {
-      starts = subst (λ (x : ℕ). Standing p (s .args .s) 0 x) (sym o) (first p (s .args .s) (s .pre .0 .five) (s .pre .1));
+      starts = subst (λ (x : ℕ). Standing p (s .args .s) 0 x) (sym o) (first p (s .args .s) (s .pre .0 .1) (s .pre .1));
       ends = omega arith;
-      within = omega (arith, body p (s .pre .0 .contents) b (omega arith));
+      within = omega (arith, body p (s .pre .0 .0) b (omega arith));
     }
 
 pub sheet-span-spec : {M : Type 1} → statement M
