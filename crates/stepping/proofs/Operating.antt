@@ -23,7 +23,8 @@ use Rattle.native_function_call.specs.Apply.{compute, applyOp, call}
 use Rattle.native_function_call.proofs.Applying.{takes, count-three}
 use Rattle.native_function_call.proofs.Calling.{codes-are, call-gives, call-refuses, decoded-kind, decoded-no, two-of}
 use Rattle.native_function_call.proofs.Results.{apply-fine}
-use Rattle.pack.specs.Format.{format1}
+use Rattle.pack.specs.Format.{Narrow}
+use Rattle.pack.specs.declared.format.Format.{Format}
 use Rattle.pack.specs.Instruction.{Push, Instr, op, push}
 use Rattle.pack.proofs.Values.{pack-tables}
 use Rattle.sheet.specs.Machine.{stackLimit, topped, stepOp, stepPush, step}
@@ -35,23 +36,20 @@ use Rattle.stepping.specs.declared.Step.the-variants as St
 
 -- ---- an operand in parts, as an operator on parts asks for it
 
-module _ (is : List ℕ) (vs : List ℤ) (v : Value) {s n : ℕ} (es : s ≡ startOf v) (en : n ≡ lenOf v) (f : Formed (format1 .limit) is vs v) where
-  below : Formed itemNumbers is vs v
-  below = formed-limit (format1 .limit) is vs itemNumbers v (omega arith) f
-
+module _ (is : List ℕ) (vs : List ℤ) (v : Value) {s n : ℕ} (es : s ≡ startOf v) (en : n ≡ lenOf v) (f : Formed itemNumbers is vs v) where
   pub spans-in : Spans itemNumbers is vs s n
-  spans-in = spans-of itemNumbers is vs v s n es en below
+  spans-in = spans-of itemNumbers is vs v s n es en f
 
   pub operand-in : {k : ℕ} {z : ℤ} {x : Float} → k ≡ codeOfValue v → z ≡ wholeIn v → x ≡ realIn v → Operand is vs v k z x s n
-  operand-in {k} {z} {x} ek ez ex = record { parts = parts-of v k z x s n ek ez ex es en; formed = below }
+  operand-in {k} {z} {x} ek ez ex = record { parts = parts-of v k z x s n ek ez ex es en; formed = f }
 
 -- ---- a call
 
-pub wf-in : (is : List ℕ) (vs : List ℤ) (v : Value) → Formed (format1 .limit) is vs v → Wf (format1 .limit) (valOf is vs v)
+pub wf-in : {L : ℕ} (is : List ℕ) (vs : List ℤ) (v : Value) → Formed L is vs v → Wf L (valOf is vs v)
 wf-in is vs (Is.Bool b) f = tt
 wf-in is vs (Is.Int z) f = tt
 wf-in is vs (Is.Float x) f = tt
-wf-in is vs (Is.List o s n) f = rising-in (format1 .limit) is vs (Is.List o s n) f
+wf-in {L} is vs (Is.List o s n) f = rising-in L is vs (Is.List o s n) f
 wf-in is vs Is.Void f = tt
 
 module _ (is : List ℕ) (vs : List ℤ) (a b c : Value) where
@@ -59,7 +57,7 @@ module _ (is : List ℕ) (vs : List ℤ) (a b c : Value) where
   abbrev pub operandsOf : ℕ → List Val
   operandsOf n = take n (valOf is vs a ∷ valOf is vs b ∷ valOf is vs c ∷ [])
 
-  all-wf : (n : ℕ) → FirstFormed (format1 .limit) is vs n a b c → AllWf (format1 .limit) (operandsOf n)
+  all-wf : {L : ℕ} (n : ℕ) → FirstFormed L is vs n a b c → AllWf L (operandsOf n)
   all-wf zero f = tt
   all-wf (suc zero) f = (wf-in is vs a (f .one (omega arith)), tt)
   all-wf (suc (suc zero)) f = (wf-in is vs a (f .one (omega arith)), (wf-in is vs b (f .two (omega arith)), tt))
@@ -67,15 +65,15 @@ module _ (is : List ℕ) (vs : List ℤ) (a b c : Value) where
   all-wf (suc (suc (suc (suc n)))) f = (wf-in is vs a (f .one (omega arith)), (wf-in is vs b (f .two (omega arith)), (wf-in is vs c (f .three (omega arith)), tt)))
 
   module _ (u : ListDefinitions) (o n : ℕ) where
-    pub call-rises : FirstFormed (format1 .limit) is vs n a b c → u .limit ≡ format1 .limit
-        → length (u .defined) ≤ u .limit → Rising (format1 .limit) (written (call u o n (operandsOf n)))
+    pub call-rises : (L : ℕ) → 1 ≤ L → FirstFormed L is vs n a b c → u .limit ≡ L
+        → length (u .defined) ≤ u .limit → Rising L (written (call u o n (operandsOf n)))
     unfolding call
-    call-rises f e w = go (known o) (eqb n (arity o))
+    call-rises L some f e w = go (known o) (eqb n (arity o))
       where
         wf : AllWf (u .limit) (operandsOf n)
         wf = rw e (all-wf n f)
 
-        go : (s t : Bool) → Rising (format1 .limit) (written (ask 8 s (ask 10 t (applyOp u o (operandsOf n)))))
+        go : (s t : Bool) → Rising L (written (ask 8 s (ask 10 t (applyOp u o (operandsOf n)))))
         go true true = rw (← e) (apply-fine u (omega arith) w o (operandsOf n) wf .rising)
         go true false = tt
         go false t = tt
@@ -101,24 +99,24 @@ pub computes-two : (u : ListDefinitions) (o n : ℕ) (a b x : Val) {k k′ : Kin
     → compute u o (take n (a ∷ b ∷ x ∷ [])) k ≡ compute u o (take n (a ∷ b ∷ [])) k′
 computes-two u o n a b x {k} h m e = ap (λ (vs : List Val). compute u o vs k) (sym (two-of n a b x h m)) ∙ ap (compute u o (take n (a ∷ b ∷ []))) e
 
-pub answered-is : (a b : Answer Val) (place : ℕ) (r : Step) (wi wi′ : List ℕ) (wv wv′ : List ℤ) → b ≡ a → Answered a place r wi wi′ wv wv′ → Answered b place r wi wi′ wv wv′
-answered-is a b place r wi wi′ wv wv′ e w = subst (λ (x : Answer Val). Answered x place r wi wi′ wv wv′) (sym e) w
+pub answered-is : {F : Format} (a b : Answer Val) (place : ℕ) (r : Step) (wi wi′ : List ℕ) (wv wv′ : List ℤ) → b ≡ a → Answered F a place r wi wi′ wv wv′ → Answered F b place r wi wi′ wv wv′
+answered-is {F} a b place r wi wi′ wv wv′ e w = subst (λ (x : Answer Val). Answered F x place r wi wi′ wv wv′) (sym e) w
 
 -- ---- the stack
 
 -- an answer on the stack below
-pub steps-of : (n place : ℕ) (a : Answer Val) (b : Answer (List Val)) (f : ℕ → Val) (r : Step) (wi wi′ : List ℕ) (wv wv′ : List ℤ)
-    → topped (stackOf f place) a ≡ b → place ≤ n → Answered a place r wi wi′ wv wv′ → Steps n b f r wi wi′ wv wv′
-steps-of n place a b f r wi wi′ wv wv′ e h w = record { by = go r (w .by) }
+pub steps-of : {F : Format} (n place : ℕ) (a : Answer Val) (b : Answer (List Val)) (f : ℕ → Val) (r : Step) (wi wi′ : List ℕ) (wv wv′ : List ℤ)
+    → topped (stackOf f place) a ≡ b → place ≤ n → Answered F a place r wi wi′ wv wv′ → Steps F n b f r wi wi′ wv wv′
+steps-of {F} n place a b f r wi wi′ wv wv′ e h w = record { by = go r (w .by) }
   where
-    go : (r : Step) → AnswerCase a place r wi wi′ wv wv′ → StepCase n b f r wi wi′ wv wv′
+    go : (r : Step) → AnswerCase F a place r wi wi′ wv wv′ → StepCase F n b f r wi wi′ wv wv′
     go (St.Put p v) x =
         record {
           value = x .value;
           given = sym e ∙ ap (topped (stackOf f place)) (x .given) ∙ ap (λ (k : ℕ). gives (x .value ∷ stackOf f k)) (sym (x .at-place));
           within = omega (arith, x .at-place);
           depth = omega (arith, x .at-place, x .depth);
-          put = subst (λ (k : ℕ). Put (x .value) (startAt k) v wi wi′ wv wv′) (sym (x .at-place)) (x .put);
+          put = subst (λ (k : ℕ). Put F (x .value) (startAt F k) v wi wi′ wv wv′) (sym (x .at-place)) (x .put);
         }
     go (St.No q) x = record { refused = sym e ∙ ap (topped (stackOf f place)) (x .refused); items-same = x .items-same; values-same = x .values-same }
 
@@ -156,26 +154,26 @@ module _ (wi : List ℕ) (wv : List ℤ) (a b c : Value) (f : ℕ → Val) (u : 
 
 -- ---- no operator, and too few operands
 
-module _ (u : ListDefinitions) (o n : ℕ) (f : ℕ → Val) (wi : List ℕ) (wv : List ℤ) where
-  pub no-operator : operandCount o ≡ 0 → Steps n (stepOp (applyOp u) o (stackOf f n)) f (St.No 8) wi wi wv wv
+module _ {F : Format} (u : ListDefinitions) (o n : ℕ) (f : ℕ → Val) (wi : List ℕ) (wv : List ℤ) where
+  pub no-operator : operandCount o ≡ 0 → Steps F n (stepOp (applyOp u) o (stackOf f n)) f (St.No 8) wi wi wv wv
   no-operator e = record { by = record { refused = op-unknown (applyOp u) f o n e; items-same = refl; values-same = refl } }
 
-  pub no-operands : (m : ℕ) → 1 ≤ m → operandCount o ≡ m → n < m → Steps n (stepOp (applyOp u) o (stackOf f n)) f (St.No 10) wi wi wv wv
+  pub no-operands : (m : ℕ) → 1 ≤ m → operandCount o ≡ m → n < m → Steps F n (stepOp (applyOp u) o (stackOf f n)) f (St.No 10) wi wi wv wv
   no-operands m h e l = record { by = record { refused = op-few (applyOp u) f o n m h e l; items-same = refl; values-same = refl } }
 
 -- ---- an instruction
 
-module _ (value : Push → Val) (apply : ℕ → List Val → Answer Val) (n : ℕ) (f : ℕ → Val) (r : Step) (wi wi′ : List ℕ) (wv wv′ : List ℤ) (i : Instr) where
-  pub push-steps : (p : Push) → i ≡ push p → (x : Val) → x ≡ value p → Answered (pushed n x) n r wi wi′ wv wv′
-      → Steps n (step value apply i (stackOf f n)) f r wi wi′ wv wv′
+module _ {F : Format} (value : Push → Val) (apply : ℕ → List Val → Answer Val) (n : ℕ) (f : ℕ → Val) (r : Step) (wi wi′ : List ℕ) (wv wv′ : List ℤ) (i : Instr) where
+  pub push-steps : (p : Push) → i ≡ push p → (x : Val) → x ≡ value p → Answered F (pushed n x) n r wi wi′ wv wv′
+      → Steps F n (step value apply i (stackOf f n)) f r wi wi′ wv wv′
   unfolding step
   push-steps p e x q w =
       steps-of n n _ _ f r wi wi′ wv wv′
       (push-topped n x f ∙ ap (λ (y : Val). stepPush y (stackOf f n)) q ∙ sym (ap (λ (y : Instr). step value apply y (stackOf f n)) e)) (omega arith) w
 
-  pub op-steps : (o : ℕ) → i ≡ op o → Steps n (stepOp apply o (stackOf f n)) f r wi wi′ wv wv′ → Steps n (step value apply i (stackOf f n)) f r wi wi′ wv wv′
+  pub op-steps : (o : ℕ) → i ≡ op o → Steps F n (stepOp apply o (stackOf f n)) f r wi wi′ wv wv′ → Steps F n (step value apply i (stackOf f n)) f r wi wi′ wv wv′
   unfolding step
-  op-steps o e w = subst (λ (y : Instr). Steps n (step value apply y (stackOf f n)) f r wi wi′ wv wv′) (sym e) w
+  op-steps o e w = subst (λ (y : Instr). Steps F n (step value apply y (stackOf f n)) f r wi wi′ wv wv′) (sym e) w
 
 -- a slot's value
 pub slot-value : (is : List ℕ) (vs : List ℤ) (slots : List Value) (k : ℕ) → k < length slots
@@ -183,8 +181,8 @@ pub slot-value : (is : List ℕ) (vs : List ℤ) (slots : List Value) (k : ℕ) 
 slot-value is vs slots k h = ap (valOf is vs) (getD-any slots k (Is.Bool false) Is.Void h) ∙ sym (List·getD-map (valOf is vs) slots k Is.Void)
 
 -- the definitions of a pack that passed
-pub known-of : (p ends : List ℕ) (defined : List ℤ) (slots : List Value) (si : List ℕ) (sv : List ℤ) → Inputs p ends defined slots si sv → Known ends defined
-known-of p ends defined slots si sv g =
-    let t = pack-tables p (g .sound) in
+pub known-of : (F : Format) → Narrow F → (p ends : List ℕ) (defined : List ℤ) (slots : List Value) (si : List ℕ) (sv : List ℤ) → Inputs F p ends defined slots si sv → Known F ends defined
+known-of F narrow p ends defined slots si sv g =
+    let t = pack-tables F p narrow (g .sound) in
     rw (g .ends-are, g .defined-are)
     (record { tables = t .tables; few = omega (arith, t .ends-long, t .ends-few); within = omega (arith, t .defined-long, t .defined-few) })

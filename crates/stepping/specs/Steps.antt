@@ -17,7 +17,7 @@ use Rattle.ink_value.specs.Value.{valOf, Formed, FirstFormed}
 use Rattle.ink_value.specs.declared.Value.{Value}
 use Rattle.ink_value.specs.declared.Value.the-variants as Is
 use Rattle.pack.specs.Bodies.{decoded}
-use Rattle.pack.specs.Format.{format1, definitionLimit}
+use Rattle.pack.specs.Format.{Narrow, definitionLimit}
 use Rattle.pack.specs.Instruction.{Instr, op, push, pushBool, pushInt, pushFloat, pushList, pushSlot, pushVoid}
 use Rattle.pack.specs.Judge.{Sound}
 use Rattle.pack.specs.Read.{endsOf, definedOf}
@@ -38,24 +38,34 @@ placedAt at (list o es) = Is.List o at (length es)
 placedAt at void = Is.Void
 
 -- a value is put: its entries are written from `at` on of two slices, which are else as they were
-pub record Put (x : Val) (at : ℕ) (r : Value) (oi oi′ : List ℕ) (ov ov′ : List ℤ) : Type 0 where
+pub record Put (F : Format) (x : Val) (at : ℕ) (r : Value) (oi oi′ : List ℕ) (ov ov′ : List ℤ) : Type 0 where
   pub value-is : r ≡ placedAt at x
   pub items-in : oi′ ≡ fill at (items (entriesOf x)) oi
   pub values-in : ov′ ≡ fill at (values (entriesOf x)) ov
-  pub rising : Rising (format1 .limit) (entriesOf x)
+  pub rising : Rising (F .limit) (entriesOf x)
+
+-- the most items that the code has room for in a list it makes
+abbrev pub scratchLimit : ℕ
+scratchLimit = 1024
+
+-- a format that the code can run
+pub record Runnable (F : Format) : Type 0 where
+  pub narrow : Narrow F
+  pub some : 1 ≤ F .limit
+  pub few : F .limit ≤ scratchLimit
 
 -- ---- one step
 
 -- what a run goes by: a pack that passed, its definitions' tables, and slots whose lists stand well formed in their slices
-pub record Inputs (p : List ℕ) (ends : List ℕ) (defined : List ℤ) (slots : List Value) (si : List ℕ) (sv : List ℤ) : Type 0 where
-  pub sound : Sound format1 p
-  pub ends-are : ends ≡ endsOf (decoded format1 p)
-  pub defined-are : defined ≡ definedOf (decoded format1 p)
-  pub slots-formed : (k : ℕ) → k < length slots → Formed (format1 .limit) si sv (getD slots k (Is.Bool false))
+pub record Inputs (F : Format) (p : List ℕ) (ends : List ℕ) (defined : List ℤ) (slots : List Value) (si : List ℕ) (sv : List ℤ) : Type 0 where
+  pub sound : Sound F p
+  pub ends-are : ends ≡ endsOf (decoded F p)
+  pub defined-are : defined ≡ definedOf (decoded F p)
+  pub slots-formed : (k : ℕ) → k < length slots → Formed (F .limit) si sv (getD slots k (Is.Bool false))
 
 -- where the entries of the list at a place of the stack start
-abbrev pub startAt : ℕ → ℕ
-startAt place = place * format1 .limit
+abbrev pub startAt : Format → ℕ → ℕ
+startAt F place = place * F .limit
 
 -- "a no": the question's number, and nothing is written
 pub record Refuses {X : Type 0} (a : Answer X) (q : ℕ) (wi wi′ : List ℕ) (wv wv′ : List ℤ) : Type 0 where
@@ -64,38 +74,38 @@ pub record Refuses {X : Type 0} (a : Answer X) (q : ℕ) (wi wi′ : List ℕ) (
   pub values-same : wv′ ≡ wv
 
 -- an answer's value is put at a place of the stack
-pub record PutAt (a : Answer Val) (place p : ℕ) (v : Value) (wi wi′ : List ℕ) (wv wv′ : List ℤ) : Type 0 where
+pub record PutAt (F : Format) (a : Answer Val) (place p : ℕ) (v : Value) (wi wi′ : List ℕ) (wv wv′ : List ℤ) : Type 0 where
   pub value : Val
   pub given : a ≡ gives value
   pub at-place : p ≡ place
   pub depth : place < stackLimit
-  pub put : Put value (startAt place) v wi wi′ wv wv′
+  pub put : Put F value (startAt F place) v wi wi′ wv wv′
 
-abbrev pub AnswerCase : Answer Val → ℕ → Step → List ℕ → List ℕ → List ℤ → List ℤ → Type 0
-AnswerCase a place (St.Put p v) wi wi′ wv wv′ = PutAt a place p v wi wi′ wv wv′
-AnswerCase a place (St.No q) wi wi′ wv wv′ = Refuses a q wi wi′ wv wv′
+abbrev pub AnswerCase : Format → Answer Val → ℕ → Step → List ℕ → List ℕ → List ℤ → List ℤ → Type 0
+AnswerCase F a place (St.Put p v) wi wi′ wv wv′ = PutAt F a place p v wi wi′ wv wv′
+AnswerCase F a place (St.No q) wi wi′ wv wv′ = Refuses a q wi wi′ wv wv′
 
-pub record Answered (a : Answer Val) (place : ℕ) (r : Step) (wi wi′ : List ℕ) (wv wv′ : List ℤ) : Type 0 where
-  pub by : AnswerCase a place r wi wi′ wv wv′
+pub record Answered (F : Format) (a : Answer Val) (place : ℕ) (r : Step) (wi wi′ : List ℕ) (wv wv′ : List ℤ) : Type 0 where
+  pub by : AnswerCase F a place r wi wi′ wv wv′
 
 -- a push on a stack of n: question 9
 abbrev pub pushed : ℕ → Val → Answer Val
 pushed n x = ask 9 (ltb n stackLimit) (gives x)
 
 -- a value on top of the p lowest of a stack of n whose values, from below, are those of f
-pub record Grown (n : ℕ) (a : Answer (List Val)) (f : ℕ → Val) (p : ℕ) (v : Value) (wi wi′ : List ℕ) (wv wv′ : List ℤ) : Type 0 where
+pub record Grown (F : Format) (n : ℕ) (a : Answer (List Val)) (f : ℕ → Val) (p : ℕ) (v : Value) (wi wi′ : List ℕ) (wv wv′ : List ℤ) : Type 0 where
   pub value : Val
   pub given : a ≡ gives (value ∷ stackOf f p)
   pub within : p ≤ n
   pub depth : p < stackLimit
-  pub put : Put value (startAt p) v wi wi′ wv wv′
+  pub put : Put F value (startAt F p) v wi wi′ wv wv′
 
-abbrev pub StepCase : ℕ → Answer (List Val) → (ℕ → Val) → Step → List ℕ → List ℕ → List ℤ → List ℤ → Type 0
-StepCase n a f (St.Put p v) wi wi′ wv wv′ = Grown n a f p v wi wi′ wv wv′
-StepCase n a f (St.No q) wi wi′ wv wv′ = Refuses a q wi wi′ wv wv′
+abbrev pub StepCase : Format → ℕ → Answer (List Val) → (ℕ → Val) → Step → List ℕ → List ℕ → List ℤ → List ℤ → Type 0
+StepCase F n a f (St.Put p v) wi wi′ wv wv′ = Grown F n a f p v wi wi′ wv wv′
+StepCase F n a f (St.No q) wi wi′ wv wv′ = Refuses a q wi wi′ wv wv′
 
-pub record Steps (n : ℕ) (a : Answer (List Val)) (f : ℕ → Val) (r : Step) (wi wi′ : List ℕ) (wv wv′ : List ℤ) : Type 0 where
-  pub by : StepCase n a f r wi wi′ wv wv′
+pub record Steps (F : Format) (n : ℕ) (a : Answer (List Val)) (f : ℕ → Val) (r : Step) (wi wi′ : List ℕ) (wv wv′ : List ℤ) : Type 0 where
+  pub by : StepCase F n a f r wi wi′ wv wv′
 
 -- an operator's operands, in order: the `count` topmost of a stack of n, where there are as many
 pub record Operands (wi : List ℕ) (wv : List ℤ) (a b c : Value) (n count : ℕ) (f : ℕ → Val) : Type 0 where
@@ -104,8 +114,8 @@ pub record Operands (wi : List ℕ) (wv : List ℤ) (a b c : Value) (n count : �
   pub three : 3 ≤ count → count ≤ n → f (n - count + 2) ≡ valOf wi wv c
 
 -- and they are well formed
-abbrev pub OperandsFormed : List ℕ → List ℤ → Value → Value → Value → ℕ → ℕ → Type 0
-OperandsFormed wi wv a b c n count = count ≤ n → FirstFormed (format1 .limit) wi wv count a b c
+abbrev pub OperandsFormed : Format → List ℕ → List ℤ → Value → Value → Value → ℕ → ℕ → Type 0
+OperandsFormed F wi wv a b c n count = count ≤ n → FirstFormed (F .limit) wi wv count a b c
 
 -- of an operator alone, by its code
 abbrev pub IfOp : Instr → (ℕ → Type 0) → Type 0
@@ -131,16 +141,17 @@ abbrev pub SlotIs : Slots → Value → Instr → Type 0
 SlotIs slots v i = IfSlot i (λ s. (s < length slots) × (v ≡ getD slots s (Is.Bool false)))
 
 -- the definitions' tables
-pub record Known (ends : List ℕ) (defined : List ℤ) : Type 0 where
+pub record Known (F : Format) (ends : List ℕ) (defined : List ℤ) : Type 0 where
   pub tables : Tables ends defined
   pub few : length ends ≤ definitionLimit
-  pub within : length defined ≤ format1 .limit
+  pub within : length defined ≤ F .limit
 
 -- "work slices 16,384": the entries of the list at each place of the stack
 abbrev pub workLimit : Format → ℕ
 workLimit F = stackLimit * F .limit
 
--- work slices that are long enough
-pub record Roomy (wi : List ℕ) (wv : List ℤ) : Type 0 where
-  pub items-room : workLimit format1 ≤ length wi
-  pub values-room : workLimit format1 ≤ length wv
+-- work slices that are long enough, for a format that the code can run
+pub record Roomy (F : Format) (wi : List ℕ) (wv : List ℤ) : Type 0 where
+  pub format : Runnable F
+  pub items-room : workLimit F ≤ length wi
+  pub values-room : workLimit F ≤ length wv

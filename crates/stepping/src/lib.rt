@@ -7,6 +7,7 @@ use ink_value::Value;
 use native_function_call::real;
 use native_function_call::test;
 use native_function_call::whole;
+use pack::format::Format;
 use pack::instruction::Instruction;
 use sheet::STACK_LIMIT;
 ghost use mathlib.Core.Path.{_≡_};
@@ -15,7 +16,7 @@ ghost use Prim.Native.Nat.{ℕ, _<_, _≤_, _+_, _-_};
 ghost use lib.IntN.{ℤ};
 ghost use lib.ListN.{length, take};
 ghost use Rattle.ink_number.specs.Int.{divided};
-ghost use Rattle.ink_list.specs.Entries.{Rising};
+ghost use Rattle.ink_list.specs.Entries.{Rising, itemNumbers};
 ghost use Rattle.ink_value.specs.Val.{Val, list, listK, kindAt};
 ghost use Rattle.ink_value.specs.Slices.{valIn};
 ghost use Rattle.ink_value.specs.Value.{valOf, codeOfValue, lenOf, written, Formed, FirstFormed};
@@ -25,7 +26,7 @@ ghost use Rattle.list_definitions.specs.Defs.{ListDefinitions};
 ghost use Rattle.native_function_call.specs.Lists.{definitions, definitionsIn};
 ghost use Rattle.pack.specs.Bodies.{decoded};
 ghost use Rattle.pack.specs.Contents.{literalCount};
-ghost use Rattle.pack.specs.Format.{format1};
+ghost use Rattle.pack.specs.declared.format.Format.{Format};
 ghost use Rattle.pack.specs.Instruction.{instrOf, Allowed};
 ghost use Rattle.pack.specs.Judge.{Sound};
 ghost use Rattle.pack.specs.Read.{literalOf};
@@ -39,8 +40,8 @@ pub enum Step {
     No(u8),
 }
 
-// The most entries of a list.
-pub const ITEM_LIMIT: usize = pack_check::format::FORMAT1.limit;
+// The most entries of a list, in any format.
+pub const SCRATCH_LIMIT: usize = 1024;
 
 // A value, its list's entries copied to the places from `to` on.
 pub fn store(
@@ -51,9 +52,9 @@ pub fn store(
     ov: &mut [i32],
     to: usize,
 ) -> Value
-    requires { ⌜ Formed (format1 .limit) (now items) (now values) v ⌝ }
+    requires { ⌜ Formed itemNumbers (now items) (now values) v ⌝ }
     requires { ⌜ (to + lenOf v ≤ length (now oi)) × (to + lenOf v ≤ length (now ov)) ⌝ }
-    ensures { λ r. ⌜ Put (valIn items values v) to r (now (oi .entry)) (now (oi .exit)) (now (ov .entry)) (now (ov .exit)) ⌝ }
+    ensures { λ r. ⌜ ((F : Format) → Formed (F .limit) (now (items .entry)) (now (values .entry)) v → Put F (valIn items values v) to r (now (oi .entry)) (now (oi .exit)) (now (ov .entry)) (now (ov .exit))) ⌝ }
 {
     if ink_value::kind(v) != 3 {
         return v;
@@ -73,7 +74,7 @@ pub fn store(
 // A push of a value that is no list, on a stack of n: question 9.
 fn push_value(value: Value, n: usize) -> Step
     requires { ⌜ (codeOfValue value ≡ 3 → ⊥) ⌝ }
-    ensures { λ r. ⌜ ((is : List ℕ) (vs : List ℤ) (wi : List ℕ) (wv : List ℤ) → Answered (pushed n (valOf is vs value)) n r wi wi wv wv) ⌝ }
+    ensures { λ r. ⌜ ((F : Format) (is : List ℕ) (vs : List ℤ) (wi : List ℕ) (wv : List ℤ) → Answered F (pushed n (valOf is vs value)) n r wi wi wv wv) ⌝ }
 {
     if n < STACK_LIMIT {
         Step::Put { place: n, value }
@@ -88,17 +89,18 @@ fn push_slot(
     n: usize,
     slot_items: &[u16],
     slot_values: &[i32],
+    format: Format,
     work_items: &mut [u16],
     work_values: &mut [i32],
 ) -> Step
-    requires { ⌜ Formed (format1 .limit) (now «slot_items») (now «slot_values») v ⌝ }
-    requires { ⌜ Roomy (now «work_items») (now «work_values») ⌝ }
-    ensures { λ r. ⌜ Answered (pushed n (valIn «slot_items» «slot_values» v)) n r (now («work_items» .entry)) (now («work_items» .exit)) (now («work_values» .entry)) (now («work_values» .exit)) ⌝ }
+    requires { ⌜ Formed (format .limit) (now «slot_items») (now «slot_values») v ⌝ }
+    requires { ⌜ Roomy format (now «work_items») (now «work_values») ⌝ }
+    ensures { λ r. ⌜ Answered format (pushed n (valIn «slot_items» «slot_values» v)) n r (now («work_items» .entry)) (now («work_items» .exit)) (now («work_values» .entry)) (now («work_values» .exit)) ⌝ }
 {
     if STACK_LIMIT <= n {
         return Step::No(9);
     }
-    let to = n * ITEM_LIMIT;
+    let to = n * format.limit;
     let value = store(v, slot_items, slot_values, work_items, work_values, to);
     Step::Put { place: n, value }
 }
@@ -108,21 +110,22 @@ fn push_literal(
     pack: &[u8],
     l: usize,
     n: usize,
+    format: Format,
     work_items: &mut [u16],
     work_values: &mut [i32],
 ) -> Step
-    requires { ⌜ Sound format1 (now pack) ⌝ }
+    requires { ⌜ Sound format (now pack) ⌝ }
     requires { ⌜ l < literalCount (now pack) ⌝ }
-    requires { ⌜ Roomy (now «work_items») (now «work_values») ⌝ }
-    ensures { λ r. ⌜ Answered (pushed n (list (literalOf (decoded format1 (now (pack .entry))) l .origins) (literalOf (decoded format1 (now (pack .entry))) l .entries))) n r
+    requires { ⌜ Roomy format (now «work_items») (now «work_values») ⌝ }
+    ensures { λ r. ⌜ Answered format (pushed n (list (literalOf (decoded format (now (pack .entry))) l .origins) (literalOf (decoded format (now (pack .entry))) l .entries))) n r
         (now («work_items» .entry)) (now («work_items» .exit)) (now («work_values» .entry)) (now («work_values» .exit)) ⌝ }
 {
     if STACK_LIMIT <= n {
         return Step::No(9);
     }
-    let to = n * ITEM_LIMIT;
-    let origins = pack_read::literal_origins(pack, l);
-    let len = pack_read::read_literal(pack, l, work_items, work_values, to);
+    let to = n * format.limit;
+    let origins = pack_read::literal_origins(pack, l, format);
+    let len = pack_read::read_literal(pack, l, work_items, work_values, to, format);
     let value = Value::List {
         origins,
         start: to,
@@ -134,7 +137,7 @@ fn push_literal(
 // A result that is an Int, at a place of the stack, or question 15.
 fn whole_result(d: Divided, place: usize) -> Step
     requires { ⌜ place < stackLimit ⌝ }
-    ensures { λ r. ⌜ ((wi : List ℕ) (wv : List ℤ) → Answered (ofInt (divided d)) place r wi wi wv wv) ⌝ }
+    ensures { λ r. ⌜ ((F : Format) (wi : List ℕ) (wv : List ℤ) → Answered F (ofInt (divided d)) place r wi wi wv wv) ⌝ }
 {
     match d {
         Divided::Value(z) => Step::Put {
@@ -157,8 +160,8 @@ fn scalar_result(
     place: usize,
 ) -> Step
     requires { ⌜ (kind ≡ 3 → ⊥) × (1 ≤ n) × (n ≤ 2) × (place < stackLimit) ⌝ }
-    requires { ⌜ Formed (format1 .limit) (now items) (now values) a × (n ≡ 2 → Formed (format1 .limit) (now items) (now values) b) ⌝ }
-    ensures { λ r. ⌜ ((u : ListDefinitions) (x : Val) → Answered (compute u op (take n (valIn items values a ∷ valIn items values b ∷ x ∷ [])) (kindAt kind)) place r
+    requires { ⌜ Formed itemNumbers (now items) (now values) a × (n ≡ 2 → Formed itemNumbers (now items) (now values) b) ⌝ }
+    ensures { λ r. ⌜ ((F : Format) (u : ListDefinitions) (x : Val) → Answered F (compute u op (take n (valIn items values a ∷ valIn items values b ∷ x ∷ [])) (kindAt kind)) place r
         (now (items .entry)) (now (items .entry)) (now (values .entry)) (now (values .entry))) ⌝ }
 {
     let ka = ink_value::kind(a);
@@ -207,17 +210,18 @@ fn list_result(
     ends: &[u16],
     defined: &[i32],
     place: usize,
+    format: Format,
     work_items: &mut [u16],
     work_values: &mut [i32],
 ) -> Step
-    requires { ⌜ Known (now ends) (now defined) × Roomy (now «work_items») (now «work_values») × (1 ≤ count) × (count ≤ 3) × (place < stackLimit) ⌝ }
-    requires { ⌜ FirstFormed (format1 .limit) (now «work_items») (now «work_values») count a b c ⌝ }
-    requires { ⌜ Rising (format1 .limit) (written (compute (definitions (now ends) (now defined) (format1 .limit)) op (take count (valOf (now «work_items») (now «work_values») a ∷ valOf (now «work_items») (now «work_values») b ∷ valOf (now «work_items») (now «work_values») c ∷ [])) listK)) ⌝ }
-    ensures { λ r. ⌜ Answered (compute (definitionsIn ends defined (format1 .limit)) op (take count (valIn «work_items» «work_values» a ∷ valIn «work_items» «work_values» b ∷ valIn «work_items» «work_values» c ∷ [])) listK) place r
+    requires { ⌜ Known format (now ends) (now defined) × Roomy format (now «work_items») (now «work_values») × (1 ≤ count) × (count ≤ 3) × (place < stackLimit) ⌝ }
+    requires { ⌜ FirstFormed (format .limit) (now «work_items») (now «work_values») count a b c ⌝ }
+    requires { ⌜ Rising (format .limit) (written (compute (definitions (now ends) (now defined) (format .limit)) op (take count (valOf (now «work_items») (now «work_values») a ∷ valOf (now «work_items») (now «work_values») b ∷ valOf (now «work_items») (now «work_values») c ∷ [])) listK)) ⌝ }
+    ensures { λ r. ⌜ Answered format (compute (definitionsIn ends defined (format .limit)) op (take count (valIn «work_items» «work_values» a ∷ valIn «work_items» «work_values» b ∷ valIn «work_items» «work_values» c ∷ [])) listK) place r
         (now («work_items» .entry)) (now («work_items» .exit)) (now («work_values» .entry)) (now («work_values» .exit)) ⌝ }
 {
-    let mut items = [0u16; ITEM_LIMIT];
-    let mut values = [0i32; ITEM_LIMIT];
+    let mut items = [0u16; SCRATCH_LIMIT];
+    let mut values = [0i32; SCRATCH_LIMIT];
     let outcome = native_function_call::list(
         op,
         count,
@@ -228,13 +232,13 @@ fn list_result(
         &work_values[..],
         ends,
         defined,
-        ITEM_LIMIT,
+        format.limit,
         &mut items,
         &mut values,
     );
     match outcome {
         Outcome::Value(v) => {
-            let to = place * ITEM_LIMIT;
+            let to = place * format.limit;
             let value = store(v, &items, &values, work_items, work_values, to);
             Step::Put { place, value }
         }
@@ -263,12 +267,13 @@ fn operate(
     ends: &[u16],
     defined: &[i32],
     place: usize,
+    format: Format,
     work_items: &mut [u16],
     work_values: &mut [i32],
 ) -> Step
-    requires { ⌜ Known (now ends) (now defined) × Roomy (now «work_items») (now «work_values») × (place < stackLimit) × (op < 32) × (count ≡ operandCount op) × (1 ≤ count) ⌝ }
-    requires { ⌜ FirstFormed (format1 .limit) (now «work_items») (now «work_values») count a b c ⌝ }
-    ensures { λ r. ⌜ Answered (call (definitionsIn ends defined (format1 .limit)) op count (take count (valIn «work_items» «work_values» a ∷ valIn «work_items» «work_values» b ∷ valIn «work_items» «work_values» c ∷ []))) place r
+    requires { ⌜ Known format (now ends) (now defined) × Roomy format (now «work_items») (now «work_values») × (place < stackLimit) × (op < 32) × (count ≡ operandCount op) × (1 ≤ count) ⌝ }
+    requires { ⌜ FirstFormed (format .limit) (now «work_items») (now «work_values») count a b c ⌝ }
+    ensures { λ r. ⌜ Answered format (call (definitionsIn ends defined (format .limit)) op count (take count (valIn «work_items» «work_values» a ∷ valIn «work_items» «work_values» b ∷ valIn «work_items» «work_values» c ∷ []))) place r
         (now («work_items» .entry)) (now («work_items» .exit)) (now («work_values» .entry)) (now («work_values» .exit)) ⌝ }
 {
     let kind = kinds(
@@ -291,6 +296,7 @@ fn operate(
             ends,
             defined,
             place,
+            format,
             work_items,
             work_values,
         );
@@ -316,13 +322,14 @@ fn run_op(
     c: Value,
     ends: &[u16],
     defined: &[i32],
+    format: Format,
     work_items: &mut [u16],
     work_values: &mut [i32],
 ) -> Step
-    requires { ⌜ (op < 32) × (n ≤ stackLimit) × Known (now ends) (now defined) ⌝ }
-    requires { ⌜ Roomy (now «work_items») (now «work_values») × OperandsFormed (now «work_items») (now «work_values») a b c n (operandCount op) ⌝ }
+    requires { ⌜ (op < 32) × (n ≤ stackLimit) × Known format (now ends) (now defined) ⌝ }
+    requires { ⌜ Roomy format (now «work_items») (now «work_values») × OperandsFormed format (now «work_items») (now «work_values») a b c n (operandCount op) ⌝ }
     ensures { λ r. ⌜ ((f : ℕ → Val) → Operands (now («work_items» .entry)) (now («work_values» .entry)) a b c n (operandCount op) f
-        → Steps n (stepOp (applyOp (definitionsIn ends defined (format1 .limit))) op (stackOf f n)) f r
+        → Steps format n (stepOp (applyOp (definitionsIn ends defined (format .limit))) op (stackOf f n)) f r
         (now («work_items» .entry)) (now («work_items» .exit)) (now («work_values» .entry)) (now («work_values» .exit))) ⌝ }
 {
     let count = kind_table::operands(op);
@@ -341,6 +348,7 @@ fn run_op(
         ends,
         defined,
         n - count,
+        format,
         work_items,
         work_values,
     )
@@ -359,32 +367,45 @@ pub fn run_step(
     a: Value,
     b: Value,
     c: Value,
+    format: Format,
     work_items: &mut [u16],
     work_values: &mut [i32],
 ) -> Step
-    requires { ⌜ Inputs (now pack) (now ends) (now defined) [] (now «slot_items») (now «slot_values») × Formed (format1 .limit) (now «slot_items») (now «slot_values») slot ⌝ }
+    requires { ⌜ Inputs format (now pack) (now ends) (now defined) [] (now «slot_items») (now «slot_values») × Formed (format .limit) (now «slot_items») (now «slot_values») slot ⌝ }
     requires { ⌜ Allowed (literalCount (now pack)) (instrOf i) × (n ≤ stackLimit) ⌝ }
-    requires { ⌜ Roomy (now «work_items») (now «work_values») × IfOp (instrOf i) (λ o. OperandsFormed (now «work_items») (now «work_values») a b c n (operandCount o)) ⌝ }
+    requires { ⌜ Roomy format (now «work_items») (now «work_values») × IfOp (instrOf i) (λ o. OperandsFormed format (now «work_items») (now «work_values») a b c n (operandCount o)) ⌝ }
     ensures { λ r. ⌜ ((slots : Slots) → SlotIs slots slot (instrOf i)
         → (f : ℕ → Val) → IfOp (instrOf i) (λ o. Operands (now («work_items» .entry)) (now («work_values» .entry)) a b c n (operandCount o) f)
-        → Steps n (step (valuePushed (literalOf (decoded format1 (now (pack .entry)))) (map (valIn «slot_items» «slot_values») slots))
-        (applyOp (definitionsIn ends defined (format1 .limit))) (instrOf i) (stackOf f n)) f r
+        → Steps format n (step (valuePushed (literalOf (decoded format (now (pack .entry)))) (map (valIn «slot_items» «slot_values») slots))
+        (applyOp (definitionsIn ends defined (format .limit))) (instrOf i) (stackOf f n)) f r
         (now («work_items» .entry)) (now («work_items» .exit)) (now («work_values» .entry)) (now («work_values» .exit))) ⌝ }
 {
     match i {
-        Instruction::Op(op) => run_op(op, n, a, b, c, ends, defined, work_items, work_values),
+        Instruction::Op(op) => run_op(
+            op,
+            n,
+            a,
+            b,
+            c,
+            ends,
+            defined,
+            format,
+            work_items,
+            work_values,
+        ),
         Instruction::Bool(b) => push_value(Value::Bool(b), n),
         Instruction::Int(z) => push_value(Value::Int(z), n),
         Instruction::Float(b) => push_value(
             Value::Float(ink_float::convert::float_from_bits(b)),
             n,
         ),
-        Instruction::List(l) => push_literal(pack, l as usize, n, work_items, work_values),
+        Instruction::List(l) => push_literal(pack, l as usize, n, format, work_items, work_values),
         Instruction::Slot(_) => push_slot(
             slot,
             n,
             slot_items,
             slot_values,
+            format,
             work_items,
             work_values,
         ),

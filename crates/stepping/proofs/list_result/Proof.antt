@@ -1,7 +1,8 @@
 -- `stepping::list_result` meets its contract. Assumes nothing.
 use native.Mathlib.Omega.{arith}
-use Rattle.pack.specs.Format.{format1}
-use Rattle.ink_value.proofs.Reading.{few-in}
+use Rattle.ink_list.specs.Entries.{itemNumbers}
+use Prim.Native.Nat.{zero-le}
+use Rattle.ink_value.proofs.Reading.{few-in, formed-limit}
 use Rattle.stepping.proofs.Putting.{place-fits, formed-result, result-read, result-put, refusal}
 use borrow.Author.Needs.{needs}
 use Rattle.stepping.proofs.list_result.Statement.{statement}
@@ -16,13 +17,13 @@ slice-aggregate-list-2 c = search needs
 list-requires : tie.Need-list-requires
 list-requires c κs =
     let s = c .before .before .before .before .before .before in
-    (record { tables = s .pre .0 .0 .tables; few = s .pre .0 .0 .few; within = s .pre .0 .0 .within; some = omega arith; small = omega arith; items-room = omega arith; values-room = omega arith }, (s .pre .1 .0, (s .pre .0 .2, s .pre .0 .3)))
+    (record { tables = s .pre .0 .0 .tables; few = s .pre .0 .0 .few; within = s .pre .0 .0 .within; some = s .pre .0 .1 .format .some; small = omega (arith, s .pre .0 .1 .format .few); items-room = omega (arith, s .pre .0 .1 .format .few); values-room = omega (arith, s .pre .0 .1 .format .few) }, (s .pre .1 .0, (s .pre .0 .2, s .pre .0 .3)))
 
 enum-known-outcome : tie.Need-enum-known-outcome
 enum-known-outcome c = search needs
 
 mul-to : tie.Need-mul-to
-mul-to c = search needs
+mul-to c = let s = c .before .before .before .before .before .before .before .before .before .before .before .before .before in omega (arith, place-fits (s .args .format) (s .args .place) 0 (s .pre .0 .4) zero-le, s .pre .0 .1 .format .few)
 
 slice-aggregate-store : tie.Need-slice-aggregate-store
 slice-aggregate-store c = search needs
@@ -32,10 +33,10 @@ slice-aggregate-store-2 c = search needs
 
 store-requires : tie.Need-store-requires
 store-requires c κs =
-    let s = c .before .before .before .before .before .before .before .before .before .before .before .before .before .before .before .before in
-    let f = formed-result _ _ _ _ (omega arith) (omega arith) _ _ (c .before .before .before .before .before .before .before .before .before .list .ensures) (s .pre .1 .1) _ (c .before .before .before .before .before .outcome .given .1) in
-    let g = place-fits (s .args .place) _ (s .pre .0 .4) (few-in (format1 .limit) _ _ (c .before .before .before .before .before .outcome .given .0 .0) f) in
-    (f, (omega (arith, g, s .pre .0 .1 .items-room), omega (arith, g, s .pre .0 .1 .values-room)))
+    let s = c .before .before .before .before .before .before .before .before .before .before .before .before .before .before .before .before .before in
+    let f = formed-result (s .args .format) _ _ _ _ (omega (arith, s .pre .0 .1 .format .few)) (omega (arith, s .pre .0 .1 .format .few)) _ _ (c .before .before .before .before .before .before .before .before .before .before .list .ensures) (s .pre .1 .1) _ (c .before .before .before .before .before .before .outcome .given .1) in
+    let g = place-fits (s .args .format) (s .args .place) _ (s .pre .0 .4) (few-in (s .args .format .limit) _ _ (c .before .before .before .before .before .before .outcome .given .0 .0) f) in
+    (formed-limit (s .args .format .limit) _ _ itemNumbers (c .before .before .before .before .before .before .outcome .given .0 .0) (omega (arith, s .pre .0 .1 .format .few)) f, (omega (arith, g, s .pre .0 .1 .items-room), omega (arith, g, s .pre .0 .1 .values-room)))
 
 enum-known-outcome-2 : tie.Need-enum-known-outcome-2
 enum-known-outcome-2 c = search needs
@@ -48,8 +49,9 @@ same-length-2 c = search needs
 
 returns : tie.Need-returns
 returns c =
-    let s = c .before .before .before .before .before .before .before .before .before .before .before .before .before .before .before .before .before .before .before .before in
-    result-put _ _ _ _ _ _ _ _ (s .pre .0 .4) (result-read _ _ _ _ (omega arith) (omega arith) _ _ (c .before .before .before .before .before .before .before .before .before .before .before .before .before .list .ensures) _ (c .before .before .before .before .before .before .before .before .before .outcome .given .1)) (c .before .before .before .store .ensures)
+    let s = c .before .before .before .before .before .before .before .before .before .before .before .before .before .before .before .before .before .before .before .before .before in
+    let f = formed-result (s .args .format) _ _ _ _ (omega (arith, s .pre .0 .1 .format .few)) (omega (arith, s .pre .0 .1 .format .few)) _ _ (c .before .before .before .before .before .before .before .before .before .before .before .before .before .before .list .ensures) (s .pre .1 .1) _ (c .before .before .before .before .before .before .before .before .before .before .outcome .given .1) in
+    result-put _ _ _ _ _ _ _ _ (s .pre .0 .4) (result-read (s .args .format) _ _ _ _ (omega (arith, s .pre .0 .1 .format .few)) (omega (arith, s .pre .0 .1 .format .few)) _ _ (c .before .before .before .before .before .before .before .before .before .before .before .before .before .before .list .ensures) _ (c .before .before .before .before .before .before .before .before .before .before .outcome .given .1)) (c .before .before .before .store .ensures (s .args .format) f)
 
 same-length-3 : tie.Need-same-length-3
 same-length-3 c = search needs

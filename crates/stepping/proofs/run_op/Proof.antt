@@ -3,7 +3,6 @@ use mathlib.Core.Path.{sym, _∙_, subst}
 use Prim.Native.Nat.{ℕ}
 use native.Mathlib.Omega.{arith}
 use Rattle.ink_value.specs.Value.{FirstFormed}
-use Rattle.pack.specs.Format.{format1}
 use Rattle.native_function_call.specs.Lists.{definitions}
 use Rattle.stepping.specs.Steps.{Operands}
 use Rattle.stepping.proofs.Operating.{no-operator, no-operands, operands-topped, steps-of}
@@ -17,18 +16,18 @@ operands-requires c κs = search needs
 returns : tie.Need-returns
 returns c =
     let s = c .before .before .before .before in
-    λ f t. no-operator (definitions (s .args .ends .now) (s .args .defined .now) (format1 .limit)) (s .args .op) (s .args .n) f _ _ (sym (c .before .operands .ensures) ∙ c .if1 .taken)
+    λ f t. no-operator (definitions (s .args .ends .now) (s .args .defined .now) (s .args .format .limit)) (s .args .op) (s .args .n) f _ _ (sym (c .before .operands .ensures) ∙ c .if1 .taken)
 
 returns-2 : tie.Need-returns-2
 returns-2 c =
     let s = c .before .before .before .before .before in
-    λ f t. no-operands (definitions (s .args .ends .now) (s .args .defined .now) (format1 .limit)) (s .args .op) (s .args .n) f _ _ (c .before .before .operands .result) (omega (arith, c .before .if1 .left)) (sym (c .before .before .operands .ensures)) (c .if2 .taken)
+    λ f t. no-operands (definitions (s .args .ends .now) (s .args .defined .now) (s .args .format .limit)) (s .args .op) (s .args .n) f _ _ (c .before .before .operands .result) (omega (arith, c .before .if1 .left)) (sym (c .before .before .operands .ensures)) (c .if2 .taken)
 
 operate-requires : tie.Need-operate-requires
 operate-requires c κs =
     let s = c .before .before .before .before .before .before .before in
     let e = c .before .before .before .before .operands .ensures in
-    let f = subst (λ (k : ℕ). FirstFormed (format1 .limit) (s .args .work-items .now) (s .args .work-values .now) k (s .args .a) (s .args .b) (s .args .c)) (sym e) (s .pre .1 .1 (omega (arith, e, c .before .before .if2 .left))) in
+    let f = subst (λ (k : ℕ). FirstFormed (s .args .format .limit) (s .args .work-items .now) (s .args .work-values .now) k (s .args .a) (s .args .b) (s .args .c)) (sym e) (s .pre .1 .1 (omega (arith, e, c .before .before .if2 .left))) in
     ((s .pre .0 .2, s .pre .1 .0, omega (arith, c .before .before .before .if1 .left, c .before .before .if2 .left, s .pre .0 .1), s .pre .0 .0, e, omega (arith, c .before .before .before .if1 .left)), f)
 
 same-length : tie.Need-same-length
@@ -46,7 +45,7 @@ returns-3 c =
     λ f t.
     let at = subst (λ (k : ℕ). Operands is vs (s .args .a) (s .args .b) (s .args .c) (s .args .n) k f) (sym e) t in
     steps-of (s .args .n) _ _ _ f _ _ _ _ _
-    (operands-topped is vs (s .args .a) (s .args .b) (s .args .c) f (definitions (s .args .ends .now) (s .args .defined .now) (format1 .limit)) (s .args .op) (s .args .n)
+    (operands-topped is vs (s .args .a) (s .args .b) (s .args .c) f (definitions (s .args .ends .now) (s .args .defined .now) (s .args .format .limit)) (s .args .op) (s .args .n)
     (c .before .before .before .before .before .before .before .before .operands .result) at (sym e) (omega (arith, c .before .before .before .before .before .before .before .if1 .left)) (omega (arith, c .before .before .before .before .before .before .if2 .left)))
     (omega arith) (c .before .before .before .operate .ensures)
 

@@ -10,7 +10,7 @@ use Rattle.ink_value.specs.Value.{valOf}
 use Rattle.ink_value.proofs.Reading.{few-in}
 use Rattle.native_function_call.specs.Apply.{compute}
 use Rattle.native_function_call.proofs.Applying.{kind-other}
-use Rattle.pack.specs.Format.{format1}
+use Rattle.ink_list.specs.Entries.{itemNumbers}
 use Rattle.stepping.proofs.Putting.{scalar-put}
 use Rattle.stepping.proofs.Operating.{spans-in, operand-in, computes-two, answered-is}
 use borrow.Author.Needs.{needs}
@@ -59,7 +59,7 @@ whole-requires c κs =
     let s = c .before .before .before .before .before .before .before .before .before .before .before .before in
     let is = s .args .items .now in
     let vs = s .args .values .now in
-    (s .pre .0 .1, s .pre .0 .2, spans-in is vs (s .args .a) (c .before .before .before .before .before .before .before .start-of .ensures) (c .before .before .before .before .before .before .len-of .ensures) (s .pre .1 .0) .values-in, omega (arith, c .before .before .before .before .before .before .len-of .ensures, few-in (format1 .limit) is vs (s .args .a) (s .pre .1 .0)), λ t. spans-in is vs (s .args .b) (c .before .before .start-of2 .ensures) (c .before .len-of2 .ensures) (s .pre .1 .1 t) .values-in)
+    (s .pre .0 .1, s .pre .0 .2, spans-in is vs (s .args .a) (c .before .before .before .before .before .before .before .start-of .ensures) (c .before .before .before .before .before .before .len-of .ensures) (s .pre .1 .0) .values-in, omega (arith, c .before .before .before .before .before .before .len-of .ensures, few-in itemNumbers is vs (s .args .a) (s .pre .1 .0)), λ t. spans-in is vs (s .args .b) (c .before .before .start-of2 .ensures) (c .before .len-of2 .ensures) (s .pre .1 .1 t) .values-in)
 
 whole-result-requires : tie.Need-whole-result-requires
 whole-result-requires c κs = search needs
@@ -77,7 +77,7 @@ returns c =
     let s = c .before .before .before .before .before .before .before .before .before .before .before .before .before in
     let is = s .args .items .now in
     let vs = s .args .values .now in
-    λ u x. scalar-put _ (s .args .place) _ is vs (s .pre .0 .3) (λ q. omega arith)
+    λ F u x. scalar-put _ (s .args .place) _ is vs (s .pre .0 .3) (λ q. omega arith)
     (computes-two u (s .args .op) (s .args .n) (valOf is vs (s .args .a)) (valOf is vs (s .args .b)) x (s .pre .0 .1) (s .pre .0 .2) (ap kindAt (c .before .match .keys1)) ∙ sym (ap (λ (t : Bool). gives (bool t)) (c .test .ensures (s .args .a) (s .args .b)
     (operand-in is vs (s .args .a) (c .before .before .before .before .before .before .before .before .start-of .ensures) (c .before .before .before .before .before .before .before .len-of .ensures) (s .pre .1 .0) (c .before .before .before .before .before .before .before .before .before .before .before .kind .ensures .0) (returned (c .before .before .before .before .before .before .before .before .before .before .whole-in .ok) ∙ c .before .before .before .before .before .before .before .before .before .before .whole-in .ensures) (c .before .before .before .before .before .before .before .before .before .real-in .ensures))
     (λ t. operand-in is vs (s .args .b) (c .before .before .before .start-of2 .ensures) (c .before .before .len-of2 .ensures) (s .pre .1 .1 t) (c .before .before .before .before .before .before .kind2 .ensures .0) (returned (c .before .before .before .before .before .whole-in2 .ok) ∙ c .before .before .before .before .before .whole-in2 .ensures) (c .before .before .before .before .real-in2 .ensures)))))
@@ -88,10 +88,10 @@ returns-2 c =
     let s = c .before .before .before .before .before .before .before .before .before .before .before .before .before .before in
     let is = s .args .items .now in
     let vs = s .args .values .now in
-    λ u x. answered-is _ _ (s .args .place) _ is is vs vs
+    λ F u x. answered-is _ _ (s .args .place) _ is is vs vs
     (computes-two u (s .args .op) (s .args .n) (valOf is vs (s .args .a)) (valOf is vs (s .args .b)) x (s .pre .0 .1) (s .pre .0 .2) (ap kindAt (c .before .before .match .keys2)) ∙ sym (c .before .whole .ensures (s .args .a) (s .args .b) is
     (operand-in is vs (s .args .a) (c .before .before .before .before .before .before .before .before .before .start-of .ensures) (c .before .before .before .before .before .before .before .before .len-of .ensures) (s .pre .1 .0) (c .before .before .before .before .before .before .before .before .before .before .before .before .kind .ensures .0) (returned (c .before .before .before .before .before .before .before .before .before .before .before .whole-in .ok) ∙ c .before .before .before .before .before .before .before .before .before .before .before .whole-in .ensures) (c .before .before .before .before .before .before .before .before .before .before .real-in .ensures))
-    (λ t. operand-in is vs (s .args .b) (c .before .before .before .before .start-of2 .ensures) (c .before .before .before .len-of2 .ensures) (s .pre .1 .1 t) (c .before .before .before .before .before .before .before .kind2 .ensures .0) (returned (c .before .before .before .before .before .before .whole-in2 .ok) ∙ c .before .before .before .before .before .before .whole-in2 .ensures) (c .before .before .before .before .before .real-in2 .ensures)))) (c .whole-result .ensures is vs)
+    (λ t. operand-in is vs (s .args .b) (c .before .before .before .before .start-of2 .ensures) (c .before .before .before .len-of2 .ensures) (s .pre .1 .1 t) (c .before .before .before .before .before .before .before .kind2 .ensures .0) (returned (c .before .before .before .before .before .before .whole-in2 .ok) ∙ c .before .before .before .before .before .before .whole-in2 .ensures) (c .before .before .before .before .before .real-in2 .ensures)))) (c .whole-result .ensures F is vs)
 
 returns-3 : tie.Need-returns-3
 unfolding compute
@@ -99,7 +99,7 @@ returns-3 c =
     let s = c .before .before .before .before .before .before .before .before .before .before .before .before .before in
     let is = s .args .items .now in
     let vs = s .args .values .now in
-    λ u x. scalar-put _ (s .args .place) _ is vs (s .pre .0 .3) (λ q. omega arith)
+    λ F u x. scalar-put _ (s .args .place) _ is vs (s .pre .0 .3) (λ q. omega arith)
     (computes-two u (s .args .op) (s .args .n) (valOf is vs (s .args .a)) (valOf is vs (s .args .b)) x (s .pre .0 .1) (s .pre .0 .2) (ap kindAt (c .before .match .keys3)) ∙ sym (ap (λ (y : Float). gives (float y)) (c .real .ensures (s .args .a) (s .args .b) is
     (operand-in is vs (s .args .a) (c .before .before .before .before .before .before .before .before .start-of .ensures) (c .before .before .before .before .before .before .before .len-of .ensures) (s .pre .1 .0) (c .before .before .before .before .before .before .before .before .before .before .before .kind .ensures .0) (returned (c .before .before .before .before .before .before .before .before .before .before .whole-in .ok) ∙ c .before .before .before .before .before .before .before .before .before .before .whole-in .ensures) (c .before .before .before .before .before .before .before .before .before .real-in .ensures))
     (λ t. operand-in is vs (s .args .b) (c .before .before .before .start-of2 .ensures) (c .before .before .len-of2 .ensures) (s .pre .1 .1 t) (c .before .before .before .before .before .before .kind2 .ensures .0) (returned (c .before .before .before .before .before .whole-in2 .ok) ∙ c .before .before .before .before .before .whole-in2 .ensures) (c .before .before .before .before .real-in2 .ensures)))))
@@ -110,7 +110,7 @@ returns-4 c =
     let s = c .before .before .before .before .before .before .before .before .before .before .before .before in
     let is = s .args .items .now in
     let vs = s .args .values .now in
-    λ u x. scalar-put _ (s .args .place) _ is vs (s .pre .0 .3) (λ q. omega arith)
+    λ F u x. scalar-put _ (s .args .place) _ is vs (s .pre .0 .3) (λ q. omega arith)
     (computes-two u (s .args .op) (s .args .n) (valOf is vs (s .args .a)) (valOf is vs (s .args .b)) x (s .pre .0 .1) (s .pre .0 .2) (kind-other (s .args .kind) (c .match .rest .0 .0 .1) (c .match .rest .0 .1) (c .match .rest .1) (s .pre .0 .0)))
 
 pub scalar-result-spec : {M : Type 1} → statement M

@@ -10,7 +10,7 @@ kind-requires c κs = search needs
 
 returns : tie.Need-returns
 returns c =
-    put-plain _ _ _ _ _ _ (λ e. c .if1 .taken (c .before .kind .ensures .0 ∙ e))
+    λ F f. put-plain _ _ _ _ _ _ (λ e. c .if1 .taken (c .before .kind .ensures .0 ∙ e))
 
 start-of-requires : tie.Need-start-of-requires
 start-of-requires c κs = search needs
@@ -60,7 +60,7 @@ same-length-2 c = search needs
 returns-2 : tie.Need-returns-2
 returns-2 c =
     let s = c .before .before .before .before .before .before .before .before .before .before .before .before .before .before .before in
-    put-copied (s .args .items .now) (s .args .values .now) (s .args .v) (s .pre .0) (c .before .before .before .before .before .before .before .before .before .before .start-of .result) (c .before .before .before .before .before .before .before .before .before .len-of .result) (s .args .to) (c .before .before .before .before .before .before .before .before .before .before .start-of .ensures) (c .before .before .before .before .before .before .before .before .before .len-of .ensures) _ _ _ _ (s .pre .1 .0) (s .pre .1 .1) _ (c .before .before .before .copy-rest .ensures) (c .before .before .before .before .before .before .before .before .origins-in .result) _ (c .before .before .before .before .before .before .before .before .origins-in .ensures) (sym (c .before .before .before .before .before .before .before .before .before .before .before .before .kind .ensures .0) ∙ c .before .before .before .before .before .before .before .before .before .before .before .if1 .left) refl
+    λ F f. put-copied F (s .args .items .now) (s .args .values .now) (s .args .v) f (c .before .before .before .before .before .before .before .before .before .before .start-of .result) (c .before .before .before .before .before .before .before .before .before .len-of .result) (s .args .to) (c .before .before .before .before .before .before .before .before .before .before .start-of .ensures) (c .before .before .before .before .before .before .before .before .before .len-of .ensures) _ _ _ _ (s .pre .1 .0) (s .pre .1 .1) _ (c .before .before .before .copy-rest .ensures) (c .before .before .before .before .before .before .before .before .origins-in .result) _ (c .before .before .before .before .before .before .before .before .origins-in .ensures) (sym (c .before .before .before .before .before .before .before .before .before .before .before .before .kind .ensures .0) ∙ c .before .before .before .before .before .before .before .before .before .before .before .if1 .left) refl
 
 pub store-spec : {M : Type 1} → statement M
 store-spec =

@@ -20,11 +20,11 @@ enum-told c = search needs
 
 returns : tie.Need-returns
 returns c =
-    λ wi wv. scalar-put _ _ _ wi wv (c .before .before .before .pre) (λ q. omega arith) (ap (λ d. ofInt (divided d)) (c .before .d .given .1) ∙ sym (ap (λ (z : ℤ). gives (int z)) (returned (c .known-told .given .0 .1))))
+    λ F wi wv. scalar-put _ _ _ wi wv (c .before .before .before .pre) (λ q. omega arith) (ap (λ d. ofInt (divided d)) (c .before .d .given .1) ∙ sym (ap (λ (z : ℤ). gives (int z)) (returned (c .known-told .given .0 .1))))
 
 returns-2 : tie.Need-returns-2
 returns-2 c =
-    λ wi wv. record { by = record { refused = ap (λ d. ofInt (divided d)) (c .enum-told .given .1); items-same = refl; values-same = refl } }
+    λ F wi wv. record { by = record { refused = ap (λ d. ofInt (divided d)) (c .enum-told .given .1); items-same = refl; values-same = refl } }
 
 pub whole-result-spec : {M : Type 1} → statement M
 whole-result-spec = tie.close (tie.spec enum-known-d enum-told returns returns-2)
