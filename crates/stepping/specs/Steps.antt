@@ -17,7 +17,7 @@ use Rattle.ink_value.specs.Value.{valOf, Formed, FirstFormed}
 use Rattle.ink_value.specs.declared.Value.{Value}
 use Rattle.ink_value.specs.declared.Value.the-variants as Is
 use Rattle.pack.specs.Bodies.{decoded}
-use Rattle.pack.specs.Format.{Narrow, definitionLimit}
+use Rattle.pack.specs.Format.{Runnable, definitionLimit}
 use Rattle.pack.specs.Instruction.{Instr, op, push, pushBool, pushInt, pushFloat, pushList, pushSlot, pushVoid}
 use Rattle.pack.specs.Judge.{Sound}
 use Rattle.pack.specs.Read.{endsOf, definedOf}
@@ -43,16 +43,6 @@ pub record Put (F : Format) (x : Val) (at : ℕ) (r : Value) (oi oi′ : List �
   pub items-in : oi′ ≡ fill at (items (entriesOf x)) oi
   pub values-in : ov′ ≡ fill at (values (entriesOf x)) ov
   pub rising : Rising (F .limit) (entriesOf x)
-
--- the most items that the code has room for in a list it makes
-abbrev pub scratchLimit : ℕ
-scratchLimit = 1024
-
--- a format that the code can run
-pub record Runnable (F : Format) : Type 0 where
-  pub narrow : Narrow F
-  pub some : 1 ≤ F .limit
-  pub few : F .limit ≤ scratchLimit
 
 -- ---- one step
 

@@ -1,5 +1,5 @@
 // One instruction of a run: a push, or an operator on the values on top of the stack. The entries of the list at place p of
-// the stack stand in the work slices, from p * ITEM_LIMIT on.
+// the stack stand in the work slices, from p times the format's item limit on.
 
 use ink_number::int::Divided;
 use ink_value::Outcome;
@@ -40,8 +40,10 @@ pub enum Step {
     No(u8),
 }
 
-// The most entries of a list, in any format.
+// The most entries of a list, in any format that can be run; and where only small slices are made for a list.
 pub const SCRATCH_LIMIT: usize = 1024;
+
+const SHORT_LIMIT: usize = 256;
 
 // A value, its list's entries copied to the places from `to` on.
 pub fn store(
@@ -200,7 +202,54 @@ fn scalar_result(
     }
 }
 
-// A result that is a List, its entries copied to its place in the work slices.
+// A result that is a List, made in lent slices, its entries copied to its place in the work slices.
+fn list_through(
+    op: u8,
+    count: usize,
+    a: Value,
+    b: Value,
+    c: Value,
+    ends: &[u16],
+    defined: &[i32],
+    place: usize,
+    format: Format,
+    items: &mut [u16],
+    values: &mut [i32],
+    work_items: &mut [u16],
+    work_values: &mut [i32],
+) -> Step
+    requires { ⌜ Known format (now ends) (now defined) × Roomy format (now «work_items») (now «work_values») × (1 ≤ count) × (count ≤ 3) × (place < stackLimit) ⌝ }
+    requires { ⌜ FirstFormed (format .limit) (now «work_items») (now «work_values») count a b c ⌝ }
+    requires { ⌜ Rising (format .limit) (written (compute (definitions (now ends) (now defined) (format .limit)) op (take count (valOf (now «work_items») (now «work_values») a ∷ valOf (now «work_items») (now «work_values») b ∷ valOf (now «work_items») (now «work_values») c ∷ [])) listK)) ⌝ }
+    requires { ⌜ (format .limit ≤ length (now items)) × (format .limit ≤ length (now values)) ⌝ }
+    ensures { λ r. ⌜ Answered format (compute (definitionsIn ends defined (format .limit)) op (take count (valIn «work_items» «work_values» a ∷ valIn «work_items» «work_values» b ∷ valIn «work_items» «work_values» c ∷ [])) listK) place r
+        (now («work_items» .entry)) (now («work_items» .exit)) (now («work_values» .entry)) (now («work_values» .exit)) ⌝ }
+{
+    let outcome = native_function_call::list(
+        op,
+        count,
+        a,
+        b,
+        c,
+        &work_items[..],
+        &work_values[..],
+        ends,
+        defined,
+        format.limit,
+        items,
+        values,
+    );
+    match outcome {
+        Outcome::Value(v) => {
+            let to = place * format.limit;
+            let value = store(v, &items[..], &values[..], work_items, work_values, to);
+            Step::Put { place, value }
+        }
+        Outcome::Refused(number) => Step::No(number),
+    }
+}
+
+// The same, made in slices of its own: small ones where the format's lists are short.
 fn list_result(
     op: u8,
     count: usize,
@@ -220,30 +269,42 @@ fn list_result(
     ensures { λ r. ⌜ Answered format (compute (definitionsIn ends defined (format .limit)) op (take count (valIn «work_items» «work_values» a ∷ valIn «work_items» «work_values» b ∷ valIn «work_items» «work_values» c ∷ [])) listK) place r
         (now («work_items» .entry)) (now («work_items» .exit)) (now («work_values» .entry)) (now («work_values» .exit)) ⌝ }
 {
-    let mut items = [0u16; SCRATCH_LIMIT];
-    let mut values = [0i32; SCRATCH_LIMIT];
-    let outcome = native_function_call::list(
+    if format.limit <= SHORT_LIMIT {
+        let mut items = [0u16; SHORT_LIMIT];
+        let mut values = [0i32; SHORT_LIMIT];
+        return list_through(
+            op,
+            count,
+            a,
+            b,
+            c,
+            ends,
+            defined,
+            place,
+            format,
+            &mut items,
+            &mut values,
+            work_items,
+            work_values,
+        );
+    }
+    let mut long_items = [0u16; SCRATCH_LIMIT];
+    let mut long_values = [0i32; SCRATCH_LIMIT];
+    list_through(
         op,
         count,
         a,
         b,
         c,
-        &work_items[..],
-        &work_values[..],
         ends,
         defined,
-        format.limit,
-        &mut items,
-        &mut values,
-    );
-    match outcome {
-        Outcome::Value(v) => {
-            let to = place * format.limit;
-            let value = store(v, &items, &values, work_items, work_values, to);
-            Step::Put { place, value }
-        }
-        Outcome::Refused(number) => Step::No(number),
-    }
+        place,
+        format,
+        &mut long_items,
+        &mut long_values,
+        work_items,
+        work_values,
+    )
 }
 
 // Questions 11 to 14 of an operator and as many kind codes as it takes: the code of the answer.
