@@ -11,7 +11,7 @@ use Rattle.ink_value.specs.Value.{placedVal}
 use Rattle.ink_value.specs.declared.Value.{Value}
 use Rattle.native_function_call.specs.Lists.{definitions}
 use Rattle.pack.specs.Bodies.{decoded}
-use Rattle.pack.specs.Format.{format1}
+use Rattle.pack.specs.declared.format.Format.{Format}
 use Rattle.pack.specs.Read.{endsOf, literalOf, program}
 use Rattle.pack.proofs.Values.{fill-over}
 use Rattle.sheet.specs.Machine.{End, ended, stopped, stackLimit, run}
@@ -29,8 +29,8 @@ placed-start (float x) = refl
 placed-start (list o es) = refl
 placed-start void = refl
 
-module _ (ri ri′ : List ℕ) (rv rv′ : List ℤ) where
-  ran-ended : (x : Val) (v : Value) → Put x 0 v ri ri′ rv rv′ → RanTo (ended x) (Rn.Ended v) ri ri′ rv rv′
+module _ {F : Format} (ri ri′ : List ℕ) (rv rv′ : List ℤ) where
+  ran-ended : (x : Val) (v : Value) → Put F x 0 v ri ri′ rv rv′ → RanTo (ended x) (Rn.Ended v) ri ri′ rv rv′
   ran-ended x v w =
       record {
         answered = ap Rn.Ended (w .value-is ∙ placed-start x);
@@ -38,7 +38,7 @@ module _ (ri ri′ : List ℕ) (rv rv′ : List ℤ) where
         values-out = w .values-in ∙ fill-over (values (entriesOf x)) rv;
       }
 
-  pub ran-value : (e : End Val) (x : Val) (v : Value) → ended x ≡ e → Put x 0 v ri ri′ rv rv′ → RanTo e (Rn.Ended v) ri ri′ rv rv′
+  pub ran-value : (e : End Val) (x : Val) (v : Value) → ended x ≡ e → Put F x 0 v ri ri′ rv rv′ → RanTo e (Rn.Ended v) ri ri′ rv rv′
   ran-value e x v q w = subst (λ (z : End Val). RanTo z (Rn.Ended v) ri ri′ rv rv′) q (ran-ended x v w)
 
 pub ran-stopped : (e : End Val) (n k : ℕ) (ri : List ℕ) (rv : List ℤ) → stopped n k ≡ e → RanTo e (Rn.Stopped n k) ri ri rv rv
@@ -46,19 +46,19 @@ ran-stopped e n k ri rv q =
     subst (λ (z : End Val). RanTo z (Rn.Stopped n k) ri ri rv rv) q (record { answered = refl; items-out = refl; values-out = refl })
 
 -- the tables are the pack's own
-pub same-run : (p ends : List ℕ) (defined : List ℤ) (slots : List Value) (si : List ℕ) (sv : List ℤ) → Inputs p ends defined slots si sv → (s : ℕ) (vs : List Val)
-    → run (definitions ends defined (format1 .limit)) (program p s) (literalOf (decoded format1 p)) vs .end ≡ runOf p s vs
-same-run p ends defined slots si sv g s vs =
-    ap (λ (es : List ℕ). run (definitions es defined (format1 .limit)) (program p s) (literalOf (decoded format1 p)) vs .end) (g .ends-are)
-    ∙ ap (λ (ds : List ℤ). run (definitions (endsOf (decoded format1 p)) ds (format1 .limit)) (program p s) (literalOf (decoded format1 p)) vs .end) (g .defined-are)
+pub same-run : (F : Format) (p ends : List ℕ) (defined : List ℤ) (slots : List Value) (si : List ℕ) (sv : List ℤ) → Inputs F p ends defined slots si sv → (s : ℕ) (vs : List Val)
+    → run (definitions ends defined (F .limit)) (program p s) (literalOf (decoded F p)) vs .end ≡ runOf F p s vs
+same-run F p ends defined slots si sv g s vs =
+    ap (λ (es : List ℕ). run (definitions es defined (F .limit)) (program p s) (literalOf (decoded F p)) vs .end) (g .ends-are)
+    ∙ ap (λ (ds : List ℤ). run (definitions (endsOf (decoded F p)) ds (F .limit)) (program p s) (literalOf (decoded F p)) vs .end) (g .defined-are)
 
-module _ (e : End Val) (r : Ran) (used wi wi′ : List ℕ) (wv wv′ : List ℤ) (ri : List ℕ) (rv : List ℤ) (m : Memory wi wv ri rv) (w : Worked e r used wi wi′ wv wv′) where
-  pub roomy-after : Roomy wi′ wv′
+module _ {F : Format} (e : End Val) (r : Ran) (used wi wi′ : List ℕ) (wv wv′ : List ℤ) (ri : List ℕ) (rv : List ℤ) (m : Memory F wi wv ri rv) (w : Worked F e r used wi wi′ wv wv′) where
+  pub roomy-after : Roomy F wi′ wv′
   roomy-after =
-      record { items-room = omega (arith, m .items-room, w .items-touched .long); values-room = omega (arith, m .values-room, w .values-touched .long) }
+      record { format = m .format; items-room = omega (arith, m .items-room, w .items-touched .long); values-room = omega (arith, m .values-room, w .values-touched .long) }
 
-  pub items-back : cleared 0 used stackLimit wi′ ≡ wi
-  items-back = cleared-back 0 used wi′ (w .few) (roomy-after .items-room) wi (w .items-touched) (m .items-zero)
+  pub items-back : cleared F 0 used stackLimit wi′ ≡ wi
+  items-back = cleared-back F 0 used wi′ (w .few) (roomy-after .items-room) wi (w .items-touched) (m .items-zero)
 
-  pub values-back : cleared (pos 0) used stackLimit wv′ ≡ wv
-  values-back = cleared-back (pos 0) used wv′ (w .few) (roomy-after .values-room) wv (w .values-touched) (m .values-zero)
+  pub values-back : cleared F (pos 0) used stackLimit wv′ ≡ wv
+  values-back = cleared-back F (pos 0) used wv′ (w .few) (roomy-after .values-room) wv (w .values-touched) (m .values-zero)

@@ -4,7 +4,8 @@ use mathlib.Core.Path.{_≡_, refl, sym, ap, ap₂, _∙_, subst}
 use mathlib.Core.Logic.{inl, inr, ⊎-elim}
 use mathlib.Core.Bool.{false}
 use mathlib.Core.List.{List, [], _∷_}
-use Prim.Native.Nat.{ℕ, zero, suc, _+_, _-_, _≤_, _<_}
+use Prim.Native.Nat.{ℕ, zero, suc, _+_, _-_, _*_, _≤_, _<_}
+use native.Mathlib.Nat.{suc-mul, mul-le-mul-right}
 use native.Mathlib.Omega.{arith}
 use native.Mathlib.Decide.{ℕ-discrete}
 use lib.IntN.{ℤ, pos}
@@ -26,7 +27,8 @@ use Rattle.list_definitions.specs.Defs.{ListDefinitions}
 use Rattle.kind_table.specs.Kinds.{operandCount}
 use Rattle.native_function_call.specs.Apply.{applyOp}
 use Rattle.pack.specs.Bodies.{decoded}
-use Rattle.pack.specs.Format.{format1, slotLimit}
+use Rattle.pack.specs.Format.{slotLimit}
+use Rattle.pack.specs.declared.format.Format.{Format}
 use Rattle.pack.specs.Instruction.{Instr, op, push, pushBool, pushInt, pushFloat, pushList, pushSlot, pushVoid, width, Allowed, instrOf}
 use Rattle.pack.specs.declared.instruction.Instruction.{Instruction}
 use Rattle.pack.specs.Read.{program, sheetEnd, literalOf, Standing, Reads}
@@ -77,7 +79,7 @@ allowed-slot L (push (pushSlot s)) a = a
 allowed-slot L (push pushVoid) a = tt
 
 -- the inputs but for the slots
-pub inputs-none : {p ends : List ℕ} {defined : List ℤ} {slots : List Value} {si : List ℕ} {sv : List ℤ} → Inputs p ends defined slots si sv → Inputs p ends defined [] si sv
+pub inputs-none : {F : Format} {p ends : List ℕ} {defined : List ℤ} {slots : List Value} {si : List ℕ} {sv : List ℤ} → Inputs F p ends defined slots si sv → Inputs F p ends defined [] si sv
 inputs-none g = record { sound = g .sound; ends-are = g .ends-are; defined-are = g .defined-are; slots-formed = λ k h. absurd (omega arith) }
 
 -- ---- a value after it is put, and the values below
@@ -104,8 +106,8 @@ module _ (at : ℕ) (es : List Entry) (wi : List ℕ) (wv : List ℤ) (hi : at +
       ap₂ (λ (is : List ℕ) (vs : List ℤ). list o (entries is vs)) (part-before at (items es) wi fits-items s n h) (part-before at (values es) wv fits-values s n h)
   val-kept Is.Void h = refl
 
-  formed-kept : (u : Value) → startOf u + lenOf u ≤ at → Formed (format1 .limit) wi wv u → Formed (format1 .limit) (fill at (items es) wi) (fill at (values es) wv) u
-  formed-kept u h f =
+  formed-kept : (F : Format) (u : Value) → startOf u + lenOf u ≤ at → Formed (F .limit) wi wv u → Formed (F .limit) (fill at (items es) wi) (fill at (values es) wv) u
+  formed-kept F u h f =
       record {
         items-in = omega (arith, f .items-in, long-items);
         values-in = omega (arith, f .values-in, long-values);
@@ -127,12 +129,12 @@ module _ (at : ℕ) (wi : List ℕ) (wv : List ℤ) where
   val-put (list o es) hi hv = ap (list o) (entries-back at es wi wv hi hv)
   val-put void hi hv = refl
 
-  formed-put : (x : Val) → at + length (entriesOf x) ≤ length wi → at + length (entriesOf x) ≤ length wv → Rising (format1 .limit) (entriesOf x)
-      → Formed (format1 .limit) (fill at (items (entriesOf x)) wi) (fill at (values (entriesOf x)) wv) (placedAt at x)
-  formed-put (bool b) hi hv up = formed-none _ _ (Is.Bool b) refl refl
-  formed-put (int z) hi hv up = formed-none _ _ (Is.Int z) refl refl
-  formed-put (float x) hi hv up = formed-none _ _ (Is.Float x) refl refl
-  formed-put (list o es) hi hv up =
+  formed-put : (F : Format) (x : Val) → at + length (entriesOf x) ≤ length wi → at + length (entriesOf x) ≤ length wv → Rising (F .limit) (entriesOf x)
+      → Formed (F .limit) (fill at (items (entriesOf x)) wi) (fill at (values (entriesOf x)) wv) (placedAt at x)
+  formed-put F (bool b) hi hv up = formed-none _ _ (Is.Bool b) refl refl
+  formed-put F (int z) hi hv up = formed-none _ _ (Is.Int z) refl refl
+  formed-put F (float x) hi hv up = formed-none _ _ (Is.Float x) refl refl
+  formed-put F (list o es) hi hv up =
       let a : take (length es) (drop at (fill at (items es) wi)) ≡ items es =
       ap (λ (m : ℕ). take m (drop at (fill at (items es) wi))) (sym (length-items es)) ∙ part-filled at (items es) wi (fits-items at es wi wv hi hv) in
       let b : take (length es) (drop at (fill at (values es) wv)) ≡ values es =
@@ -142,7 +144,7 @@ module _ (at : ℕ) (wi : List ℕ) (wv : List ℤ) where
         values-in = omega (arith, long-values at es wi wv hi hv);
         lent = rw (a, b) (record { long = length-items es ∙ sym (length-values es); rising = up });
       }
-  formed-put void hi hv up = formed-none _ _ Is.Void refl refl
+  formed-put F void hi hv up = formed-none _ _ Is.Void refl refl
 
 placed-ends : (at : ℕ) (x : Val) → startOf (placedAt at x) + lenOf (placedAt at x) ≤ at + length (entriesOf x)
 placed-ends at (bool b) = omega arith
@@ -158,24 +160,30 @@ placed-long at (float x) = refl
 placed-long at (list o es) = refl
 placed-long at void = refl
 
+-- a list at a place ends before the next
+places-apart : (F : Format) (q p : ℕ) → q < p → startAt F q + F .limit ≤ startAt F p
+places-apart F q p h =
+    let a : suc q * F .limit ≤ p * F .limit = mul-le-mul-right (F .limit) h in
+    omega (arith, a, suc-mul q (F .limit))
+
 -- ---- the places that are used
 
-module _ {X : Type 0} (d : X) where
-  touched-none : (used : List ℕ) (l : List X) → Touched d used l l
+module _ (F : Format) {X : Type 0} (d : X) where
+  touched-none : (used : List ℕ) (l : List X) → Touched F d used l l
   touched-none used l = record { long = refl; kept = λ j h. refl }
 
   outside-less : (at m n j : ℕ) → m ≤ n → Outside at n j → Outside at m j
   outside-less at m n j h (inl k) = inl k
   outside-less at m n j h (inr k) = inr (omega arith)
 
-  touched-more : (used used′ : List ℕ) (p n : ℕ) (xs old l : List X) → p < stackLimit → startAt p + length xs ≤ length l → length xs ≤ n → Longest used used′ p n
-      → Touched d used old l → Touched d used′ old (fill (startAt p) xs l)
+  touched-more : (used used′ : List ℕ) (p n : ℕ) (xs old l : List X) → p < stackLimit → startAt F p + length xs ≤ length l → length xs ≤ n → Longest used used′ p n
+      → Touched F d used old l → Touched F d used′ old (fill (startAt F p) xs l)
   touched-more used used′ p n xs old l hp fits hn g t =
       record {
-        long = length-fill (startAt p) xs l fits ∙ t .long;
+        long = length-fill (startAt F p) xs l fits ∙ t .long;
         kept = λ j h.
-            getD-outside (startAt p) xs l fits j d (outside-less (startAt p) (length xs) (getD used′ p 0) j (omega (arith, g .covers)) (h p hp))
-            ∙ t .kept j (λ q k. outside-less (startAt q) (getD used q 0) (getD used′ q 0) j (g .kept q) (h q k));
+            getD-outside (startAt F p) xs l fits j d (outside-less (startAt F p) (length xs) (getD used′ p 0) j (omega (arith, g .covers)) (h p hp))
+            ∙ t .kept j (λ q k. outside-less (startAt F q) (getD used q 0) (getD used′ q 0) j (g .kept q) (h q k));
       }
 
 module _ (used : List ℕ) (place len : ℕ) where
@@ -202,26 +210,26 @@ module _ (used : List ℕ) (place len : ℕ) where
 abbrev pub valueOn : List ℕ → List ℤ → List Value → ℕ → Val
 valueOn wi wv stack q = valOf wi wv (getD stack q (Is.Bool false))
 
-pub record Working (p : List ℕ) (s : ℕ) (u : ListDefinitions) (slots : List Val) (wi₀ : List ℕ) (wv₀ : List ℤ) (used wi : List ℕ) (wv : List ℤ) (stack : List Value)
+pub record Working (F : Format) (p : List ℕ) (s : ℕ) (u : ListDefinitions) (slots : List Val) (wi₀ : List ℕ) (wv₀ : List ℤ) (used wi : List ℕ) (wv : List ℤ) (stack : List Value)
     (n at i : ℕ) : Type 0 where
-  pub end-same : runFrom (valuePushed (literalOf (decoded format1 p)) slots) (applyOp u) i (drop i (program p s)) (stackOf (valueOn wi wv stack) n) .end
-      ≡ run u (program p s) (literalOf (decoded format1 p)) slots .end
+  pub end-same : runFrom (valuePushed (literalOf (decoded F p)) slots) (applyOp u) i (drop i (program p s)) (stackOf (valueOn wi wv stack) n) .end
+      ≡ run u (program p s) (literalOf (decoded F p)) slots .end
   pub standing : Standing p s i at
   pub depth : n ≤ stackLimit
-  pub formed : (q : ℕ) → q < n → Formed (format1 .limit) wi wv (getD stack q (Is.Bool false))
-  pub ends-in : (q : ℕ) → q < n → startOf (getD stack q (Is.Bool false)) + lenOf (getD stack q (Is.Bool false)) ≤ startAt q + format1 .limit
+  pub formed : (q : ℕ) → q < n → Formed (F .limit) wi wv (getD stack q (Is.Bool false))
+  pub ends-in : (q : ℕ) → q < n → startOf (getD stack q (Is.Bool false)) + lenOf (getD stack q (Is.Bool false)) ≤ startAt F q + F .limit
   pub stack-is : length stack ≡ stackLimit
   pub used-is : length used ≡ stackLimit
-  pub few : (q : ℕ) → getD used q 0 ≤ format1 .limit
-  pub items-touched : Touched 0 used wi₀ wi
-  pub values-touched : Touched (pos 0) used wv₀ wv
+  pub few : (q : ℕ) → getD used q 0 ≤ F .limit
+  pub items-touched : Touched F 0 used wi₀ wi
+  pub values-touched : Touched F (pos 0) used wv₀ wv
 
 none-used : (q : ℕ) → _≡_ {A = ℕ} (getD (replicate stackLimit 0) q 0) 0
 none-used q = ⊎-elim (λ h. getD-replicate {A = ℕ} stackLimit q 0 0 h) (λ h. List·getD-eq-default {A = ℕ} (replicate stackLimit 0) 0 {n = q} (omega (arith, length-replicate {A = ℕ} stackLimit 0))) (lt-or-le q stackLimit)
 
-pub begin : (p : List ℕ) (s : ℕ) (u : ListDefinitions) (slots : List Val) (wi : List ℕ) (wv : List ℤ) (used : List ℕ) (stack : List Value) (at : ℕ)
-    → Standing p s 0 at → length stack ≡ stackLimit → used ≡ replicate stackLimit 0 → Working p s u slots wi wv used wi wv stack 0 at 0
-begin p s u slots wi wv used stack at h l e =
+pub begin : {F : Format} (p : List ℕ) (s : ℕ) (u : ListDefinitions) (slots : List Val) (wi : List ℕ) (wv : List ℤ) (used : List ℕ) (stack : List Value) (at : ℕ)
+    → Standing p s 0 at → length stack ≡ stackLimit → used ≡ replicate stackLimit 0 → Working F p s u slots wi wv used wi wv stack 0 at 0
+begin {F} p s u slots wi wv used stack at h l e =
     record {
       end-same = refl;
       standing = h;
@@ -231,12 +239,12 @@ begin p s u slots wi wv used stack at h l e =
       stack-is = l;
       used-is = ap length e ∙ length-replicate {A = ℕ} stackLimit 0;
       few = λ q. rw e (omega (arith, none-used q));
-      items-touched = touched-none 0 used wi;
-      values-touched = touched-none (pos 0) used wv;
+      items-touched = touched-none F 0 used wi;
+      values-touched = touched-none F (pos 0) used wv;
     }
 
-module _ (p : List ℕ) (s : ℕ) (u : ListDefinitions) (slots : List Val) (wi₀ : List ℕ) (wv₀ : List ℤ) (used wi : List ℕ) (wv : List ℤ) (stack : List Value)
-    (n at i : ℕ) (g : Working p s u slots wi₀ wv₀ used wi wv stack n at i) where
+module _ {F : Format} (p : List ℕ) (s : ℕ) (u : ListDefinitions) (slots : List Val) (wi₀ : List ℕ) (wv₀ : List ℤ) (used wi : List ℕ) (wv : List ℤ) (stack : List Value)
+    (n at i : ℕ) (g : Working F p s u slots wi₀ wv₀ used wi wv stack n at i) where
   -- an operator's operands, read at their places
   module _ (count p0 p1 p2 : ℕ) (h0 : 0 < count → count ≤ n → p0 ≡ n - count + 0) (h1 : 1 < count → count ≤ n → p1 ≡ n - count + 1)
       (h2 : 2 < count → count ≤ n → p2 ≡ n - count + 2) where
@@ -257,7 +265,7 @@ module _ (p : List ℕ) (s : ℕ) (u : ListDefinitions) (slots : List Val) (wi�
           three = λ l k. ap (valueOn wi wv stack) (sym (h2 l k));
         }
 
-    are-formed : OperandsFormed wi wv a b c n count
+    are-formed : OperandsFormed F wi wv a b c n count
     are-formed k =
         record {
           one = λ l. g .formed p0 (omega (arith, h0 l k));
@@ -268,25 +276,25 @@ module _ (p : List ℕ) (s : ℕ) (u : ListDefinitions) (slots : List Val) (wi�
     pub operands : (instr : Instr) → IfOp instr (λ o. count ≡ operandCount o) → IfOp instr (λ o. Operands wi wv a b c n (operandCount o) (valueOn wi wv stack))
     operands instr e = if-op instr (λ o q. rw (← q) are) e
 
-    pub operands-formed : (instr : Instr) → IfOp instr (λ o. count ≡ operandCount o) → IfOp instr (λ o. OperandsFormed wi wv a b c n (operandCount o))
+    pub operands-formed : (instr : Instr) → IfOp instr (λ o. count ≡ operandCount o) → IfOp instr (λ o. OperandsFormed F wi wv a b c n (operandCount o))
     operands-formed instr e = if-op instr (λ o q. rw (← q) are-formed) e
 
-  pub roomy : Roomy wi₀ wv₀ → Roomy wi wv
-  roomy r = record { items-room = omega (arith, r .items-room, g .items-touched .long); values-room = omega (arith, r .values-room, g .values-touched .long) }
+  pub roomy : Roomy F wi₀ wv₀ → Roomy F wi wv
+  roomy r = record { format = r .format; items-room = omega (arith, r .items-room, g .items-touched .long); values-room = omega (arith, r .values-room, g .values-touched .long) }
 
   -- an instruction that is completed
   module _ (instr : Instr) (r : Reads p at instr) (more : at < sheetEnd p s) (m : ℕ) (v : Value) (wi′ : List ℕ) (wv′ : List ℤ) (used′ : List ℕ)
-      (room : Roomy wi₀ wv₀)
-      (w : Grown n (step (valuePushed (literalOf (decoded format1 p)) slots) (applyOp u) instr (stackOf (valueOn wi wv stack) n)) (valueOn wi wv stack) m v wi wi′ wv wv′)
+      (room : Roomy F wi₀ wv₀)
+      (w : Grown F n (step (valuePushed (literalOf (decoded F p)) slots) (applyOp u) instr (stackOf (valueOn wi wv stack) n)) (valueOn wi wv stack) m v wi wi′ wv wv′)
       (k : Longest used used′ m (lenOf v)) where
-    few-entries : length (entriesOf (w .value)) ≤ format1 .limit
-    few-entries = rising-length (format1 .limit) (entriesOf (w .value)) (w .put .rising)
+    few-entries : length (entriesOf (w .value)) ≤ F .limit
+    few-entries = rising-length (F .limit) (entriesOf (w .value)) (w .put .rising)
 
-    fits-i : startAt m + length (entriesOf (w .value)) ≤ length wi
-    fits-i = omega (arith, place-fits m (length (entriesOf (w .value))) (w .depth) few-entries, roomy room .items-room)
+    fits-i : startAt F m + length (entriesOf (w .value)) ≤ length wi
+    fits-i = omega (arith, place-fits F m (length (entriesOf (w .value))) (w .depth) few-entries, roomy room .items-room)
 
-    fits-v : startAt m + length (entriesOf (w .value)) ≤ length wv
-    fits-v = omega (arith, place-fits m (length (entriesOf (w .value))) (w .depth) few-entries, roomy room .values-room)
+    fits-v : startAt F m + length (entriesOf (w .value)) ≤ length wv
+    fits-v = omega (arith, place-fits F m (length (entriesOf (w .value))) (w .depth) few-entries, roomy room .values-room)
 
     abbrev stack′ : List Value
     stack′ = set stack m v
@@ -294,68 +302,68 @@ module _ (p : List ℕ) (s : ℕ) (u : ListDefinitions) (slots : List Val) (wi�
     in-stack : m < length stack
     in-stack = omega (arith, w .depth, g .stack-is)
 
-    here : getD stack′ m (Is.Bool false) ≡ placedAt (startAt m) (w .value)
+    here : getD stack′ m (Is.Bool false) ≡ placedAt (startAt F m) (w .value)
     here = getD-set-same stack m v (Is.Bool false) in-stack ∙ w .put .value-is
 
     there : (q : ℕ) → q < m → getD stack′ q (Is.Bool false) ≡ getD stack q (Is.Bool false)
     there q h = getD-set-other stack m q v (Is.Bool false) (λ e. omega arith)
 
-    low : (q : ℕ) → q < m → startOf (getD stack q (Is.Bool false)) + lenOf (getD stack q (Is.Bool false)) ≤ startAt m
-    low q h = omega (arith, g .ends-in q (omega (arith, w .within)))
+    low : (q : ℕ) → q < m → startOf (getD stack q (Is.Bool false)) + lenOf (getD stack q (Is.Bool false)) ≤ startAt F m
+    low q h = omega (arith, g .ends-in q (omega (arith, w .within)), places-apart F q m h)
 
     top-val : valueOn wi′ wv′ stack′ m ≡ w .value
-    top-val = ap (valOf wi′ wv′) here ∙ rw (w .put .items-in, w .put .values-in) (val-put (startAt m) wi wv (w .value) fits-i fits-v)
+    top-val = ap (valOf wi′ wv′) here ∙ rw (w .put .items-in, w .put .values-in) (val-put (startAt F m) wi wv (w .value) fits-i fits-v)
 
     low-val : (q : ℕ) → q < m → valueOn wi′ wv′ stack′ q ≡ valueOn wi wv stack q
     low-val q h =
         ap (valOf wi′ wv′) (there q h)
-        ∙ rw (w .put .items-in, w .put .values-in) (val-kept (startAt m) (entriesOf (w .value)) wi wv fits-i fits-v (getD stack q (Is.Bool false)) (low q h))
+        ∙ rw (w .put .items-in, w .put .values-in) (val-kept (startAt F m) (entriesOf (w .value)) wi wv fits-i fits-v (getD stack q (Is.Bool false)) (low q h))
 
     top-is : stackOf (valueOn wi′ wv′ stack′) (m + 1) ≡ w .value ∷ stackOf (valueOn wi wv stack) m
     top-is = stack-put (valueOn wi wv stack) (valueOn wi′ wv′ stack′) m (w .value) top-val low-val
 
-    top-formed : Formed (format1 .limit) wi′ wv′ (getD stack′ m (Is.Bool false))
-    top-formed = rw (here, w .put .items-in, w .put .values-in) (formed-put (startAt m) wi wv (w .value) fits-i fits-v (w .put .rising))
+    top-formed : Formed (F .limit) wi′ wv′ (getD stack′ m (Is.Bool false))
+    top-formed = rw (here, w .put .items-in, w .put .values-in) (formed-put (startAt F m) wi wv F (w .value) fits-i fits-v (w .put .rising))
 
-    low-formed : (q : ℕ) → q < m → Formed (format1 .limit) wi′ wv′ (getD stack′ q (Is.Bool false))
+    low-formed : (q : ℕ) → q < m → Formed (F .limit) wi′ wv′ (getD stack′ q (Is.Bool false))
     low-formed q h =
         rw (there q h, w .put .items-in, w .put .values-in)
-        (formed-kept (startAt m) (entriesOf (w .value)) wi wv fits-i fits-v (getD stack q (Is.Bool false)) (low q h) (g .formed q (omega (arith, w .within))))
+        (formed-kept (startAt F m) (entriesOf (w .value)) wi wv fits-i fits-v F (getD stack q (Is.Bool false)) (low q h) (g .formed q (omega (arith, w .within))))
 
-    all-formed : (q : ℕ) → q < m + 1 → Formed (format1 .limit) wi′ wv′ (getD stack′ q (Is.Bool false))
+    all-formed : (q : ℕ) → q < m + 1 → Formed (F .limit) wi′ wv′ (getD stack′ q (Is.Bool false))
     all-formed q h = go (ℕ-discrete q m)
       where
-        go : Dec (q ≡ m) → Formed (format1 .limit) wi′ wv′ (getD stack′ q (Is.Bool false))
-        go (yes e) = subst (λ (y : ℕ). Formed (format1 .limit) wi′ wv′ (getD stack′ y (Is.Bool false))) (sym e) top-formed
+        go : Dec (q ≡ m) → Formed (F .limit) wi′ wv′ (getD stack′ q (Is.Bool false))
+        go (yes e) = subst (λ (y : ℕ). Formed (F .limit) wi′ wv′ (getD stack′ y (Is.Bool false))) (sym e) top-formed
         go (no ne) = low-formed q (omega arith)
 
-    all-end : (q : ℕ) → q < m + 1 → startOf (getD stack′ q (Is.Bool false)) + lenOf (getD stack′ q (Is.Bool false)) ≤ startAt q + format1 .limit
+    all-end : (q : ℕ) → q < m + 1 → startOf (getD stack′ q (Is.Bool false)) + lenOf (getD stack′ q (Is.Bool false)) ≤ startAt F q + F .limit
     all-end q h = go (ℕ-discrete q m)
       where
-        go : Dec (q ≡ m) → startOf (getD stack′ q (Is.Bool false)) + lenOf (getD stack′ q (Is.Bool false)) ≤ startAt q + format1 .limit
+        go : Dec (q ≡ m) → startOf (getD stack′ q (Is.Bool false)) + lenOf (getD stack′ q (Is.Bool false)) ≤ startAt F q + F .limit
         go (yes e) =
-            subst (λ (y : ℕ). startOf (getD stack′ y (Is.Bool false)) + lenOf (getD stack′ y (Is.Bool false)) ≤ startAt y + format1 .limit) (sym e)
-            (rw here (omega (arith, placed-ends (startAt m) (w .value), few-entries)))
+            subst (λ (y : ℕ). startOf (getD stack′ y (Is.Bool false)) + lenOf (getD stack′ y (Is.Bool false)) ≤ startAt F y + F .limit) (sym e)
+            (rw here (omega (arith, placed-ends (startAt F m) (w .value), few-entries)))
         go (no ne) = rw (there q (omega arith)) (g .ends-in q (omega (arith, w .within)))
 
     len-is : lenOf v ≡ length (entriesOf (w .value))
-    len-is = ap lenOf (w .put .value-is) ∙ placed-long (startAt m) (w .value)
+    len-is = ap lenOf (w .put .value-is) ∙ placed-long (startAt F m) (w .value)
 
     kth : getD (program p s) i (push pushVoid) ≡ instr
     kth = r .each s i (g .standing) more .kth
 
-    rest-is : runFrom (valuePushed (literalOf (decoded format1 p)) slots) (applyOp u) i (drop i (program p s)) (stackOf (valueOn wi wv stack) n)
+    rest-is : runFrom (valuePushed (literalOf (decoded F p)) slots) (applyOp u) i (drop i (program p s)) (stackOf (valueOn wi wv stack) n)
         ≡ onward i (gives (w .value ∷ stackOf (valueOn wi wv stack) m))
-        (runFrom (valuePushed (literalOf (decoded format1 p)) slots) (applyOp u) (i + 1) (drop (i + 1) (program p s)))
+        (runFrom (valuePushed (literalOf (decoded F p)) slots) (applyOp u) (i + 1) (drop (i + 1) (program p s)))
     rest-is =
-        run-more (valuePushed (literalOf (decoded format1 p)) slots) (applyOp u) (program p s) i (stackOf (valueOn wi wv stack) n) _
+        run-more (valuePushed (literalOf (decoded F p)) slots) (applyOp u) (program p s) i (stackOf (valueOn wi wv stack) n) _
         (r .each s i (g .standing) more .below) (rw kth (w .given))
 
-    pub advance : Working p s u slots wi₀ wv₀ used′ wi′ wv′ stack′ (m + 1) (at + width instr) (i + 1)
+    pub advance : Working F p s u slots wi₀ wv₀ used′ wi′ wv′ stack′ (m + 1) (at + width instr) (i + 1)
     advance =
         record {
           end-same =
-              ap (λ (st : List Val). runFrom (valuePushed (literalOf (decoded format1 p)) slots) (applyOp u) (i + 1) (drop (i + 1) (program p s)) st .end) top-is
+              ap (λ (st : List Val). runFrom (valuePushed (literalOf (decoded F p)) slots) (applyOp u) (i + 1) (drop (i + 1) (program p s)) st .end) top-is
               ∙ sym (ap (λ (z : Run Val). z .end) rest-is) ∙ g .end-same;
           standing = r .each s i (g .standing) more .next;
           depth = omega (arith, w .depth);
@@ -363,34 +371,34 @@ module _ (p : List ℕ) (s : ℕ) (u : ListDefinitions) (slots : List Val) (wi�
           ends-in = all-end;
           stack-is = length-set stack m v ∙ g .stack-is;
           used-is = k .long ∙ g .used-is;
-          few = k .few (format1 .limit) (g .few) (omega (arith, len-is, few-entries));
+          few = k .few (F .limit) (g .few) (omega (arith, len-is, few-entries));
           items-touched =
               rw (w .put .items-in)
-              (touched-more 0 used used′ m (lenOf v) (items (entriesOf (w .value))) wi₀ wi (w .depth) (omega (arith, fits-i, length-items (entriesOf (w .value))))
+              (touched-more F 0 used used′ m (lenOf v) (items (entriesOf (w .value))) wi₀ wi (w .depth) (omega (arith, fits-i, length-items (entriesOf (w .value))))
               (omega (arith, len-is, length-items (entriesOf (w .value)))) k (g .items-touched));
           values-touched =
               rw (w .put .values-in)
-              (touched-more (pos 0) used used′ m (lenOf v) (values (entriesOf (w .value))) wv₀ wv (w .depth) (omega (arith, fits-v, length-values (entriesOf (w .value))))
+              (touched-more F (pos 0) used used′ m (lenOf v) (values (entriesOf (w .value))) wv₀ wv (w .depth) (omega (arith, fits-v, length-values (entriesOf (w .value))))
               (omega (arith, len-is, length-values (entriesOf (w .value)))) k (g .values-touched));
         }
 
   -- an instruction that is refused
   pub refused : (instr : Instr) (r : Reads p at instr) → at < sheetEnd p s → (q : ℕ)
-      → step (valuePushed (literalOf (decoded format1 p)) slots) (applyOp u) instr (stackOf (valueOn wi wv stack) n) ≡ refuses q
-      → stopped q i ≡ run u (program p s) (literalOf (decoded format1 p)) slots .end
+      → step (valuePushed (literalOf (decoded F p)) slots) (applyOp u) instr (stackOf (valueOn wi wv stack) n) ≡ refuses q
+      → stopped q i ≡ run u (program p s) (literalOf (decoded F p)) slots .end
   refused instr r more q e =
-      sym (run-stop (valuePushed (literalOf (decoded format1 p)) slots) (applyOp u) (program p s) i q (stackOf (valueOn wi wv stack) n)
+      sym (run-stop (valuePushed (literalOf (decoded F p)) slots) (applyOp u) (program p s) i q (stackOf (valueOn wi wv stack) n)
       (r .each s i (g .standing) more .below) (rw (r .each s i (g .standing) more .kth) e))
       ∙ g .end-same
 
   -- after the last
-  end-is : sheetEnd p s ≤ at → run u (program p s) (literalOf (decoded format1 p)) slots .end ≡ finish i (stackOf (valueOn wi wv stack) n)
+  end-is : sheetEnd p s ≤ at → run u (program p s) (literalOf (decoded F p)) slots .end ≡ finish i (stackOf (valueOn wi wv stack) n)
   end-is h =
       sym (g .end-same)
       ∙ ap (λ (z : Run Val). z .end)
-      (run-done (valuePushed (literalOf (decoded format1 p)) slots) (applyOp u) (program p s) i (stackOf (valueOn wi wv stack) n) (last-of p s i at (g .standing) h))
+      (run-done (valuePushed (literalOf (decoded F p)) slots) (applyOp u) (program p s) i (stackOf (valueOn wi wv stack) n) (last-of p s i at (g .standing) h))
 
-  pub one-left : sheetEnd p s ≤ at → n ≡ 1 → ended (valueOn wi wv stack 0) ≡ run u (program p s) (literalOf (decoded format1 p)) slots .end
+  pub one-left : sheetEnd p s ≤ at → n ≡ 1 → ended (valueOn wi wv stack 0) ≡ run u (program p s) (literalOf (decoded F p)) slots .end
   one-left h e = sym (end-is h ∙ ap (λ (m : ℕ). finish i (stackOf (valueOn wi wv stack) m)) e)
 
   finish-not-one : (m : ℕ) → (m ≡ 1 → ⊥) → finish i (stackOf (valueOn wi wv stack) m) ≡ stopped 17 i
@@ -398,7 +406,7 @@ module _ (p : List ℕ) (s : ℕ) (u : ListDefinitions) (slots : List Val) (wi�
   finish-not-one (suc zero) h = absurd (h refl)
   finish-not-one (suc (suc m)) h = refl
 
-  pub not-one : sheetEnd p s ≤ at → (n ≡ 1 → ⊥) → stopped 17 i ≡ run u (program p s) (literalOf (decoded format1 p)) slots .end
+  pub not-one : sheetEnd p s ≤ at → (n ≡ 1 → ⊥) → stopped 17 i ≡ run u (program p s) (literalOf (decoded F p)) slots .end
   not-one h e = sym (end-is h ∙ finish-not-one n e)
 
 -- an instruction takes a byte at least

@@ -15,7 +15,7 @@ use Rattle.ink_value.specs.Convert.{entriesOf}
 use Rattle.ink_value.specs.Value.{placedVal, allFormed}
 use Rattle.ink_value.specs.declared.Value.{Value}
 use Rattle.pack.specs.Bodies.{Pack, decoded}
-use Rattle.pack.specs.Format.{format1}
+use Rattle.pack.specs.Format.{Runnable}
 use Rattle.pack.specs.Read.{endsOf, definedOf, definitionsOf, literalOf, sheetOf, program}
 use Rattle.pack.specs.declared.format.Format.{Format}
 use Rattle.sheet.specs.Machine.{End, ended, stopped, run}
@@ -58,26 +58,27 @@ pub record RanTo (e : End Val) (r : Ran) (ri ri′ : List ℕ) (rv rv′ : List 
 -- ---- a run whose questions 1 to 7 say yes
 
 -- memory lent for it: work slices long enough and zero where it works, result slices long enough for a List
-pub record Memory (wi : List ℕ) (wv : List ℤ) (ri : List ℕ) (rv : List ℤ) : Type 0 where
-  pub items-room : workLimit format1 ≤ length wi
-  pub values-room : workLimit format1 ≤ length wv
-  pub items-zero : (j : ℕ) → j < workLimit format1 → getD wi j 0 ≡ 0
-  pub values-zero : (j : ℕ) → j < workLimit format1 → getD wv j (pos 0) ≡ pos 0
-  pub result-items : format1 .limit ≤ length ri
-  pub result-values : format1 .limit ≤ length rv
+pub record Memory (F : Format) (wi : List ℕ) (wv : List ℤ) (ri : List ℕ) (rv : List ℤ) : Type 0 where
+  pub format : Runnable F
+  pub items-room : workLimit F ≤ length wi
+  pub values-room : workLimit F ≤ length wv
+  pub items-zero : (j : ℕ) → j < workLimit F → getD wi j 0 ≡ 0
+  pub values-zero : (j : ℕ) → j < workLimit F → getD wv j (pos 0) ≡ pos 0
+  pub result-items : F .limit ≤ length ri
+  pub result-values : F .limit ≤ length rv
 
 -- the run of a sheet of a pack that passed
-abbrev pub runOf : List ℕ → ℕ → List Val → End Val
-runOf p s slots = run (definitionsOf (decoded format1 p) format1) (program p s) (literalOf (decoded format1 p)) slots .end
+abbrev pub runOf : Format → List ℕ → ℕ → List Val → End Val
+runOf F p s slots = run (definitionsOf (decoded F p) F) (program p s) (literalOf (decoded F p)) slots .end
 
 -- ---- a run of any bytes
 
 -- a run's end, from the answer of questions 1 to 7
-abbrev pub endAfter : ℕ → List Val → Answer Pack → End Val
-endAfter s slots a = started a (λ d. run (definitionsOf d format1) (sheetOf d s) (literalOf d) slots) .end
+abbrev pub endAfter : Format → ℕ → List Val → Answer Pack → End Val
+endAfter F s slots a = started a (λ d. run (definitionsOf d F) (sheetOf d s) (literalOf d) slots) .end
 
 -- what a run comes to, from that answer: its end, and what it leaves in the result and the work slices
-pub record Runs (a : Answer Pack) (s : ℕ) (slots : List Val) (r : Ran) (wi wi′ : List ℕ) (wv wv′ : List ℤ) (ri ri′ : List ℕ) (rv rv′ : List ℤ) : Type 0 where
-  pub ran : RanTo (endAfter s slots a) r ri ri′ rv rv′
-  pub items-left : wi′ ≡ workAfter (workLimit format1) 0 a wi
-  pub values-left : wv′ ≡ workAfter (workLimit format1) (pos 0) a wv
+pub record Runs (F : Format) (a : Answer Pack) (s : ℕ) (slots : List Val) (r : Ran) (wi wi′ : List ℕ) (wv wv′ : List ℤ) (ri ri′ : List ℕ) (rv rv′ : List ℤ) : Type 0 where
+  pub ran : RanTo (endAfter F s slots a) r ri ri′ rv rv′
+  pub items-left : wi′ ≡ workAfter (workLimit F) 0 a wi
+  pub values-left : wv′ ≡ workAfter (workLimit F) (pos 0) a wv

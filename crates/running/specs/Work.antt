@@ -9,7 +9,7 @@ use lib.ListN.{length, getD, replicate}
 use Rattle.ink_list.specs.Filled.{fill}
 use Rattle.ink_value.specs.Val.{Val}
 use Rattle.ink_value.specs.Value.{valOf, Formed}
-use Rattle.pack.specs.Format.{format1}
+use Rattle.pack.specs.declared.format.Format.{Format}
 use Rattle.sheet.specs.Machine.{End, ended, stopped, stackLimit}
 use Rattle.stepping.specs.Steps.{startAt}
 use Rattle.running.specs.declared.Ran.{Ran}
@@ -22,9 +22,9 @@ abbrev pub Outside : ℕ → ℕ → ℕ → Type 0
 Outside at n j = (j < at) ⊎ (at + n ≤ j)
 
 -- used has for each place of the stack how many entries it had at most: no others have changed
-pub record Touched {X : Type 0} (d : X) (used : List ℕ) (old new : List X) : Type 0 where
+pub record Touched {X : Type 0} (F : Format) (d : X) (used : List ℕ) (old new : List X) : Type 0 where
   pub long : length new ≡ length old
-  pub kept : (j : ℕ) → ((q : ℕ) → q < stackLimit → Outside (startAt q) (getD used q 0) j) → getD new j d ≡ getD old j d
+  pub kept : (j : ℕ) → ((q : ℕ) → q < stackLimit → Outside (startAt F q) (getD used q 0) j) → getD new j d ≡ getD old j d
 
 -- the greatest length at a place, after one of n entries
 pub record Longest (used used′ : List ℕ) (place n : ℕ) : Type 0 where
@@ -34,9 +34,9 @@ pub record Longest (used used′ : List ℕ) (place n : ℕ) : Type 0 where
   pub few : (m : ℕ) → ((q : ℕ) → getD used q 0 ≤ m) → n ≤ m → (q : ℕ) → getD used′ q 0 ≤ m
 
 -- the places below n of the stack, cleared
-unfoldable pub cleared : {X : Type 0} → X → List ℕ → ℕ → List X → List X
-cleared d used zero l = l
-cleared d used (suc n) l = fill (startAt n) (replicate (getD used n 0) d) (cleared d used n l)
+unfoldable pub cleared : {X : Type 0} → Format → X → List ℕ → ℕ → List X → List X
+cleared F d used zero l = l
+cleared F d used (suc n) l = fill (startAt F n) (replicate (getD used n 0) d) (cleared F d used n l)
 
 -- ---- how the work ends
 
@@ -45,13 +45,13 @@ abbrev pub endOf : List ℕ → List ℤ → Ran → End Val
 endOf wi wv (Rn.Ended v) = ended (valOf wi wv v)
 endOf wi wv (Rn.Stopped r k) = stopped r k
 
-abbrev pub EndFormed : List ℕ → List ℤ → Ran → Type 0
-EndFormed wi wv (Rn.Ended v) = Formed (format1 .limit) wi wv v
-EndFormed wi wv (Rn.Stopped r k) = Unit {0}
+abbrev pub EndFormed : Format → List ℕ → List ℤ → Ran → Type 0
+EndFormed F wi wv (Rn.Ended v) = Formed (F .limit) wi wv v
+EndFormed F wi wv (Rn.Stopped r k) = Unit {0}
 
-pub record Worked (e : End Val) (r : Ran) (used : List ℕ) (wi wi′ : List ℕ) (wv wv′ : List ℤ) : Type 0 where
+pub record Worked (F : Format) (e : End Val) (r : Ran) (used : List ℕ) (wi wi′ : List ℕ) (wv wv′ : List ℤ) : Type 0 where
   pub end-is : endOf wi′ wv′ r ≡ e
-  pub end-formed : EndFormed wi′ wv′ r
-  pub items-touched : Touched 0 used wi wi′
-  pub values-touched : Touched (pos 0) used wv wv′
-  pub few : (q : ℕ) → getD used q 0 ≤ format1 .limit
+  pub end-formed : EndFormed F wi′ wv′ r
+  pub items-touched : Touched F 0 used wi wi′
+  pub values-touched : Touched F (pos 0) used wv wv′
+  pub few : (q : ℕ) → getD used q 0 ≤ F .limit

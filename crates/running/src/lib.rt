@@ -1,10 +1,10 @@
 // Running: a sheet's instructions worked on values. The stack's values stand in a local array, and the entries of the
-// list at place p in the work slices, from p * ITEM_LIMIT on.
+// list at place p in the work slices, from p times the format's item limit on.
 
 use ink_value::Value;
+use pack::format::Format;
 use pack::instruction::Instruction;
 use sheet::STACK_LIMIT;
-use stepping::ITEM_LIMIT;
 use stepping::Step;
 ghost use mathlib.Core.Path.{_≡_};
 ghost use mathlib.Core.List.{List, map};
@@ -18,7 +18,7 @@ ghost use Rattle.kind_table.specs.Kinds.{operandCount};
 ghost use Rattle.native_function_call.specs.Lists.{definitions, definitionsIn};
 ghost use Rattle.pack.specs.Bodies.{decoded};
 ghost use Rattle.pack.specs.Contents.{sheetCount};
-ghost use Rattle.pack.specs.Format.{format1, slotLimit};
+ghost use Rattle.pack.specs.Format.{slotLimit};
 ghost use Rattle.pack.specs.Instruction.{instrOf};
 ghost use Rattle.pack.specs.Read.{literalOf, program};
 ghost use Rattle.sheet.specs.Machine.{stackLimit, step, run};
@@ -116,16 +116,16 @@ pub fn zero_values(s: &mut [i32], from: usize, n: usize)
 }
 
 // Zeros what each place of the stack has used of the work slices.
-fn clear(used: &[usize], work_items: &mut [u16], work_values: &mut [i32])
-    requires { ⌜ (length (now used) ≡ stackLimit) × ((q : ℕ) → getD (now used) q 0 ≤ format1 .limit) ⌝ }
-    requires { ⌜ Roomy (now «work_items») (now «work_values») ⌝ }
-    ensures { λ _. ⌜ (now («work_items» .exit) ≡ cleared 0 (now (used .entry)) stackLimit (now («work_items» .entry)))
-        × (now («work_values» .exit) ≡ cleared (pos 0) (now (used .entry)) stackLimit (now («work_values» .entry))) ⌝ }
+fn clear(used: &[usize], format: Format, work_items: &mut [u16], work_values: &mut [i32])
+    requires { ⌜ (length (now used) ≡ stackLimit) × ((q : ℕ) → getD (now used) q 0 ≤ format .limit) ⌝ }
+    requires { ⌜ Roomy format (now «work_items») (now «work_values») ⌝ }
+    ensures { λ _. ⌜ (now («work_items» .exit) ≡ cleared format 0 (now (used .entry)) stackLimit (now («work_items» .entry)))
+        × (now («work_values» .exit) ≡ cleared format (pos 0) (now (used .entry)) stackLimit (now («work_values» .entry))) ⌝ }
 {
     let mut q: usize = 0;
     while q < STACK_LIMIT {
         let n = used[q];
-        let from = q * ITEM_LIMIT;
+        let from = q * format.limit;
         zero_items(work_items, from, n);
         zero_values(work_values, from, n);
         q += 1;
@@ -141,14 +141,15 @@ fn work(
     slots: [Value; 16],
     slot_items: &[u16],
     slot_values: &[i32],
+    format: Format,
     used: &mut [usize],
     work_items: &mut [u16],
     work_values: &mut [i32],
 ) -> Ran
-    requires { ⌜ Inputs (now pack) (now ends) (now defined) slots (now «slot_items») (now «slot_values») ⌝ }
+    requires { ⌜ Inputs format (now pack) (now ends) (now defined) slots (now «slot_items») (now «slot_values») ⌝ }
     requires { ⌜ (sheet < sheetCount (now pack)) × (now used ≡ replicate stackLimit 0) ⌝ }
-    requires { ⌜ Roomy (now «work_items») (now «work_values») ⌝ }
-    ensures { λ r. ⌜ Worked (run (definitionsIn ends defined (format1 .limit)) (program (now (pack .entry)) sheet) (literalOf (decoded format1 (now (pack .entry)))) (map (valIn «slot_items» «slot_values») slots) .end) r
+    requires { ⌜ Roomy format (now «work_items») (now «work_values») ⌝ }
+    ensures { λ r. ⌜ Worked format (run (definitionsIn ends defined (format .limit)) (program (now (pack .entry)) sheet) (literalOf (decoded format (now (pack .entry)))) (map (valIn «slot_items» «slot_values») slots) .end) r
         (now (used .exit)) (now («work_items» .entry)) (now («work_items» .exit)) (now («work_values» .entry)) (now («work_values» .exit)) ⌝ }
 {
     let span = pack_read::sheet_span(pack, sheet);
@@ -182,6 +183,7 @@ fn work(
             a,
             b,
             c,
+            format,
             work_items,
             work_values,
         );
@@ -218,14 +220,15 @@ pub fn run_checked(
     slots: [Value; 16],
     slot_items: &[u16],
     slot_values: &[i32],
+    format: Format,
     work_items: &mut [u16],
     work_values: &mut [i32],
     result_items: &mut [u16],
     result_values: &mut [i32],
 ) -> Ran
-    requires { ⌜ Inputs (now pack) (now ends) (now defined) slots (now «slot_items») (now «slot_values») × (sheet < sheetCount (now pack)) ⌝ }
-    requires { ⌜ Memory (now «work_items») (now «work_values») (now «result_items») (now «result_values») ⌝ }
-    ensures { λ r. ⌜ RanTo (runOf (now (pack .entry)) sheet (map (valIn «slot_items» «slot_values») slots)) r
+    requires { ⌜ Inputs format (now pack) (now ends) (now defined) slots (now «slot_items») (now «slot_values») × (sheet < sheetCount (now pack)) ⌝ }
+    requires { ⌜ Memory format (now «work_items») (now «work_values») (now «result_items») (now «result_values») ⌝ }
+    ensures { λ r. ⌜ RanTo (runOf format (now (pack .entry)) sheet (map (valIn «slot_items» «slot_values») slots)) r
         (now («result_items» .entry)) (now («result_items» .exit)) (now («result_values» .entry)) (now («result_values» .exit)) ⌝ }
     ensures { λ _. ⌜ (now («work_items» .exit) ≡ now («work_items» .entry)) × (now («work_values» .exit) ≡ now («work_values» .entry)) ⌝ }
 {
@@ -238,6 +241,7 @@ pub fn run_checked(
         slots,
         slot_items,
         slot_values,
+        format,
         &mut used,
         work_items,
         work_values,
@@ -252,11 +256,11 @@ pub fn run_checked(
                 result_values,
                 0,
             );
-            clear(&used, work_items, work_values);
+            clear(&used, format, work_items, work_values);
             Ran::Ended(last)
         }
         Ran::Stopped { number, index } => {
-            clear(&used, work_items, work_values);
+            clear(&used, format, work_items, work_values);
             Ran::Stopped { number, index }
         }
     }

@@ -1,6 +1,6 @@
 -- `running::clear` meets its contract. The invariant: the places passed are zero as far as they were used, and the others as they were. Assumes nothing.
 use mathlib.Core.Path.{_≡_, sym, ap, _∙_}
-use Prim.Native.Nat.{ℕ, _-_, _≤_}
+use Prim.Native.Nat.{ℕ, zero-le, _-_, _≤_}
 use native.Mathlib.Omega.{arith}
 use lib.IntN.{ℤ, pos}
 use lib.ListN.{length}
@@ -13,17 +13,17 @@ use Rattle.running.proofs.clear.Statement.{statement}
 use Rattle.running.proofs.clear.Tie as tie
 
 abbrev Inv-loop : tie.InvT-loop
-Inv-loop used work-items₀ work-values₀ q₀ work-items work-values q =
-    (q ≤ stackLimit) × (work-items ≡ cleared 0 used q work-items₀) × (work-values ≡ cleared (pos 0) used q work-values₀)
+Inv-loop used format work-items₀ work-values₀ q₀ work-items work-values q =
+    (q ≤ stackLimit) × (work-items ≡ cleared format 0 used q work-items₀) × (work-values ≡ cleared format (pos 0) used q work-values₀)
 
 abbrev μ-loop : tie.MeasureT-loop
-μ-loop used work-items₀ work-values₀ q₀ work-items work-values q =
+μ-loop used format work-items₀ work-values₀ q₀ work-items work-values q =
     stackLimit - q
 
 loop-holds : tie.Need-loop-holds Inv-loop μ-loop
 loop-holds c =
     let s = c .before .before in
-    (omega arith, sym (cleared-none {X = ℕ} 0 (s .args .used .now) (s .args .work-items .now)), sym (cleared-none {X = ℤ} (pos 0) (s .args .used .now) (s .args .work-values .now)))
+    (omega arith, sym (cleared-none (s .args .format) {X = ℕ} 0 (s .args .used .now) (s .args .work-items .now)), sym (cleared-none (s .args .format) {X = ℤ} (pos 0) (s .args .used .now) (s .args .work-values .now)))
 
 mul-n : tie.Need-mul-n Inv-loop μ-loop
 mul-n c = search needs
@@ -34,19 +34,20 @@ shared-slice-read-n c =
 
 mul-from : tie.Need-mul-from Inv-loop μ-loop
 mul-from c =
-    omega (arith, c .before .loop-test .taken)
+    let s = c .before .before .before .before .before .before in
+    omega (arith, place-fits (s .args .format) (c .before .before .before .loop .q) 0 (c .before .before .loop-test .taken) zero-le, s .pre .1 .format .few)
 
 zero-items-requires : tie.Need-zero-items-requires Inv-loop μ-loop
 zero-items-requires c κs =
-    let s = c .before .before .before .before .before .before in
-    let l = c .before .before .before .loop in
-    omega (arith, place-fits (l .q) _ (c .before .before .loop-test .taken) (s .pre .0 .1 (l .q)), s .pre .1 .items-room, ap length (l .inv .1), cleared-long {X = ℕ} 0 (s .args .used .now) (s .args .work-items .now) (s .pre .0 .1) (s .pre .1 .items-room) (l .q) (l .inv .0))
+    let s = c .before .before .before .before .before .before .before in
+    let l = c .before .before .before .before .loop in
+    omega (arith, place-fits (s .args .format) (l .q) _ (c .before .before .before .loop-test .taken) (s .pre .0 .1 (l .q)), s .pre .1 .items-room, ap length (l .inv .1), cleared-long (s .args .format) {X = ℕ} 0 (s .args .used .now) (s .args .work-items .now) (s .pre .0 .1) (s .pre .1 .items-room) (l .q) (l .inv .0))
 
 zero-values-requires : tie.Need-zero-values-requires Inv-loop μ-loop
 zero-values-requires c κs =
-    let s = c .before .before .before .before .before .before .before .before .before .before in
-    let l = c .before .before .before .before .before .before .before .loop in
-    omega (arith, place-fits (l .q) _ (c .before .before .before .before .before .before .loop-test .taken) (s .pre .0 .1 (l .q)), s .pre .1 .values-room, ap length (l .inv .2), cleared-long {X = ℤ} (pos 0) (s .args .used .now) (s .args .work-values .now) (s .pre .0 .1) (s .pre .1 .values-room) (l .q) (l .inv .0))
+    let s = c .before .before .before .before .before .before .before .before .before .before .before in
+    let l = c .before .before .before .before .before .before .before .before .loop in
+    omega (arith, place-fits (s .args .format) (l .q) _ (c .before .before .before .before .before .before .before .loop-test .taken) (s .pre .0 .1 (l .q)), s .pre .1 .values-room, ap length (l .inv .2), cleared-long (s .args .format) {X = ℤ} (pos 0) (s .args .used .now) (s .args .work-values .now) (s .pre .0 .1) (s .pre .1 .values-room) (l .q) (l .inv .0))
 
 add-q : tie.Need-add-q Inv-loop μ-loop
 add-q c = search needs
@@ -56,28 +57,28 @@ loop-less c = search needs
 
 loop-again : tie.Need-loop-again Inv-loop μ-loop
 loop-again c =
-    let s = c .before .before .before .before .before .before .before .before .before .before .before .before in
-    let l = c .before .before .before .before .before .before .before .before .before .loop in
-    (omega (arith, c .before .before .before .before .before .before .before .before .loop-test .taken), c .before .before .before .before .before .zero-items .ensures ∙ rw (l .inv .1) (sym (cleared-more {X = ℕ} 0 (s .args .used .now) (s .args .work-items .now) (l .q))), c .before .zero-values .ensures ∙ rw (l .inv .2) (sym (cleared-more {X = ℤ} (pos 0) (s .args .used .now) (s .args .work-values .now) (l .q))))
+    let s = c .before .before .before .before .before .before .before .before .before .before .before .before .before in
+    let l = c .before .before .before .before .before .before .before .before .before .before .loop in
+    (omega (arith, c .before .before .before .before .before .before .before .before .before .loop-test .taken), c .before .before .before .before .before .zero-items .ensures ∙ rw (l .inv .1) (sym (cleared-more (s .args .format) {X = ℕ} 0 (s .args .used .now) (s .args .work-items .now) (l .q))), c .before .zero-values .ensures ∙ rw (l .inv .2) (sym (cleared-more (s .args .format) {X = ℤ} (pos 0) (s .args .used .now) (s .args .work-values .now) (l .q))))
 
 same-length : tie.Need-same-length Inv-loop μ-loop
 same-length c =
     let s = c .before .before .before .before in
     let l = c .before .loop in
-    ap length (l .inv .1) ∙ cleared-long {X = ℕ} 0 (s .args .used .now) (s .args .work-items .now) (s .pre .0 .1) (s .pre .1 .items-room) (l .q) (l .inv .0)
+    ap length (l .inv .1) ∙ cleared-long (s .args .format) {X = ℕ} 0 (s .args .used .now) (s .args .work-items .now) (s .pre .0 .1) (s .pre .1 .items-room) (l .q) (l .inv .0)
 
 same-length-2 : tie.Need-same-length-2 Inv-loop μ-loop
 same-length-2 c =
     let s = c .before .before .before .before in
     let l = c .before .loop in
-    ap length (l .inv .2) ∙ cleared-long {X = ℤ} (pos 0) (s .args .used .now) (s .args .work-values .now) (s .pre .0 .1) (s .pre .1 .values-room) (l .q) (l .inv .0)
+    ap length (l .inv .2) ∙ cleared-long (s .args .format) {X = ℤ} (pos 0) (s .args .used .now) (s .args .work-values .now) (s .pre .0 .1) (s .pre .1 .values-room) (l .q) (l .inv .0)
 
 returns : tie.Need-returns Inv-loop μ-loop
 returns c =
     let s = c .before .before .before .before in
     let l = c .before .loop in
     let e : l .q ≡ stackLimit = omega (arith, l .inv .0, c .loop-test .left) in
-    (l .inv .1 ∙ ap (λ (k : ℕ). cleared 0 (s .args .used .now) k (s .args .work-items .now)) e, l .inv .2 ∙ ap (λ (k : ℕ). cleared (pos 0) (s .args .used .now) k (s .args .work-values .now)) e)
+    (l .inv .1 ∙ ap (λ (k : ℕ). cleared (s .args .format) 0 (s .args .used .now) k (s .args .work-items .now)) e, l .inv .2 ∙ ap (λ (k : ℕ). cleared (s .args .format) (pos 0) (s .args .used .now) k (s .args .work-values .now)) e)
 
 pub clear-spec : {M : Type 1} → statement M
 clear-spec =

@@ -1,8 +1,8 @@
 -- `running::run_checked` meets its contract: the work, the result stored, and what was used cleared. Assumes nothing.
 use mathlib.Core.Path.{refl, _∙_}
 use native.Mathlib.Omega.{arith}
-use Rattle.ink_value.proofs.Reading.{few-in}
-use Rattle.pack.specs.Format.{format1}
+use Rattle.ink_list.specs.Entries.{itemNumbers}
+use Rattle.ink_value.proofs.Reading.{few-in, formed-limit}
 use Rattle.running.proofs.Ending.{ran-value, ran-stopped, same-run, roomy-after, items-back, values-back}
 use borrow.Author.Needs.{needs}
 use Rattle.running.proofs.run_checked.Statement.{statement}
@@ -14,7 +14,7 @@ slice-aggregate-work c = search needs
 work-requires : tie.Need-work-requires
 work-requires c κs =
     let s = c .before .before .before .before .before .before .before .before in
-    (s .pre .0 .0, ((s .pre .0 .1, refl), record { items-room = s .pre .1 .items-room; values-room = s .pre .1 .values-room }))
+    (s .pre .0 .0, ((s .pre .0 .1, refl), record { format = s .pre .1 .format; items-room = s .pre .1 .items-room; values-room = s .pre .1 .values-room }))
 
 enum-known-ran : tie.Need-enum-known-ran
 enum-known-ran c = search needs
@@ -24,8 +24,8 @@ store-requires c κs =
     let s = c .before .before .before .before .before .before .before .before .before .before .before .before .before .before .before .before .before .before .before .before in
     let w = c .before .before .before .before .before .before .before .before .before .before .before .work .ensures in
     let f = rw (c .before .before .before .before .before .ran .given .1) at (w .end-formed) in
-    let n = few-in (format1 .limit) _ _ (c .before .before .before .before .before .ran .given .0 .0) f in
-    (f, (omega (arith, n, s .pre .1 .result-items), omega (arith, n, s .pre .1 .result-values)))
+    let n = few-in (s .args .format .limit) _ _ (c .before .before .before .before .before .ran .given .0 .0) f in
+    (formed-limit (s .args .format .limit) _ _ itemNumbers (c .before .before .before .before .before .ran .given .0 .0) (omega (arith, s .pre .1 .format .few)) f, (omega (arith, n, s .pre .1 .result-items), omega (arith, n, s .pre .1 .result-values)))
 
 slice-aggregate-clear : tie.Need-slice-aggregate-clear
 slice-aggregate-clear c = search needs
@@ -34,7 +34,7 @@ clear-requires : tie.Need-clear-requires
 clear-requires c κs =
     let s = c .before .before .before .before .before .before .before .before .before .before .before .before .before .before .before .before .before .before .before .before .before .before .before .before .before .before .before in
     let w = c .before .before .before .before .before .before .before .before .before .before .before .before .before .before .before .before .before .before .work .ensures in
-    ((omega (arith, c .before .before .before .before .before .before .before .before .before .before .before .before .before .before .before .before .before .before .work .kept .1 .1 .1 .1 .1 .1 .1 .0), w .few), roomy-after _ _ _ _ _ _ _ _ _ (s .pre .1) w)
+    ((omega (arith, c .before .before .before .before .before .before .before .before .before .before .before .before .before .before .before .before .before .before .work .kept .1 .1 .1 .1 .1 .1 .1 .1 .0), w .few), roomy-after _ _ _ _ _ _ _ _ _ (s .pre .1) w)
 
 enum-known-ran-2 : tie.Need-enum-known-ran-2
 enum-known-ran-2 c = search needs
@@ -65,7 +65,8 @@ returns c =
     let s = c .before .before .before .before .before .before .before .before .before .before .before .before .before .before .before .before .before .before .before .before .before .before .before .before .before .before .before .before .before .before .before in
     let w = c .before .before .before .before .before .before .before .before .before .before .before .before .before .before .before .before .before .before .before .before .before .before .work .ensures in
     let e = rw (c .before .before .before .before .before .before .before .before .before .before .before .before .before .before .before .before .ran .given .1) at (w .end-is) in
-    (ran-value _ _ _ _ _ _ _ (e ∙ same-run _ _ _ _ _ _ (s .pre .0 .0) (s .args .sheet) _) (c .before .before .before .before .before .before .before .before .before .before .store .ensures), (c .before .before .before .clear .ensures .0 ∙ items-back _ _ _ _ _ _ _ _ _ (s .pre .1) w, c .before .before .before .clear .ensures .1 ∙ values-back _ _ _ _ _ _ _ _ _ (s .pre .1) w))
+    let f = rw (c .before .before .before .before .before .before .before .before .before .before .before .before .before .before .before .before .ran .given .1) at (w .end-formed) in
+    (ran-value _ _ _ _ _ _ _ (e ∙ same-run _ _ _ _ _ _ _ (s .pre .0 .0) (s .args .sheet) _) (c .before .before .before .before .before .before .before .before .before .before .store .ensures (s .args .format) f), (c .before .before .before .clear .ensures .0 ∙ items-back _ _ _ _ _ _ _ _ _ (s .pre .1) w, c .before .before .before .clear .ensures .1 ∙ values-back _ _ _ _ _ _ _ _ _ (s .pre .1) w))
 
 same-length-5 : tie.Need-same-length-5
 same-length-5 c = search needs
@@ -78,7 +79,7 @@ returns-2 c =
     let s = c .before .before .before .before .before .before .before .before .before .before .before .before .before .before .before .before .before .before .before .before .before .before .before in
     let w = c .before .before .before .before .before .before .before .before .before .before .before .before .before .before .work .ensures in
     let e = rw (c .before .before .before .before .before .before .before .before .ran2 .given .1) at (w .end-is) in
-    (ran-stopped _ _ _ _ _ (e ∙ same-run _ _ _ _ _ _ (s .pre .0 .0) (s .args .sheet) _), (c .before .before .before .clear2 .ensures .0 ∙ items-back _ _ _ _ _ _ _ _ _ (s .pre .1) w, c .before .before .before .clear2 .ensures .1 ∙ values-back _ _ _ _ _ _ _ _ _ (s .pre .1) w))
+    (ran-stopped _ _ _ _ _ (e ∙ same-run _ _ _ _ _ _ _ (s .pre .0 .0) (s .args .sheet) _), (c .before .before .before .clear2 .ensures .0 ∙ items-back _ _ _ _ _ _ _ _ _ (s .pre .1) w, c .before .before .before .clear2 .ensures .1 ∙ values-back _ _ _ _ _ _ _ _ _ (s .pre .1) w))
 
 pub run-checked-spec : {M : Type 1} → statement M
 run-checked-spec =

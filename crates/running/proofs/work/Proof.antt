@@ -7,7 +7,6 @@ use lib.ListN.{length, length-replicate}
 use Rattle.ink_value.specs.Value.{valOf}
 use Rattle.native_function_call.specs.Lists.{definitions}
 use Rattle.pack.specs.Contents.{literalCount}
-use Rattle.pack.specs.Format.{format1}
 use Rattle.pack.specs.Instruction.{instrOf}
 use Rattle.pack.specs.Read.{sheetEnd, literalOf}
 use Rattle.pack.proofs.Allowed.{allowed}
@@ -24,21 +23,22 @@ use Rattle.running.proofs.work.Statement.{statement}
 use Rattle.running.proofs.work.Tie as tie
 
 abbrev Inv-loop : tie.InvT-loop
-Inv-loop pack ends defined sheet slot-items slot-values used₀ work-items₀ work-values₀ slots end at₀ stack₀ n₀ i₀ used work-items work-values at stack n i =
-    Working pack sheet (definitions ends defined (format1 .limit)) (map (valOf slot-items slot-values) slots) work-items₀ work-values₀ used work-items work-values stack n at i
+Inv-loop pack ends defined sheet slot-items slot-values format used₀ work-items₀ work-values₀ slots end at₀ stack₀ n₀ i₀ used work-items work-values at stack n i =
+    Working format pack sheet (definitions ends defined (format .limit)) (map (valOf slot-items slot-values) slots) work-items₀ work-values₀ used work-items work-values stack n at i
 
 abbrev μ-loop : tie.MeasureT-loop
-μ-loop pack ends defined sheet slot-items slot-values used₀ work-items₀ work-values₀ slots end at₀ stack₀ n₀ i₀ used work-items work-values at stack n i =
+μ-loop pack ends defined sheet slot-items slot-values format used₀ work-items₀ work-values₀ slots end at₀ stack₀ n₀ i₀ used work-items work-values at stack n i =
     end - at
 
 sheet-span-requires : tie.Need-sheet-span-requires Inv-loop μ-loop
 sheet-span-requires c κs =
-    search needs
+    let s = c .before .before .before .before .before in
+    ((s .pre .0 .sound .contents, s .pre .0 .sound .five), s .pre .1 .0 .0)
 
 loop-holds : tie.Need-loop-holds Inv-loop μ-loop
 loop-holds c =
     let s = c .before .before .before .before .before .before in
-    begin (s .args .pack .now) (s .args .sheet) (definitions (s .args .ends .now) (s .args .defined .now) (format1 .limit)) (map (valOf (s .args .slot-items .now) (s .args .slot-values .now)) (s .args .t5)) (s .args .work-items .now) (s .args .work-values .now) (s .args .used .now) _ _ (c .sheet-span .ensures .starts) refl (s .pre .1 .0 .1)
+    begin (s .args .pack .now) (s .args .sheet) (definitions (s .args .ends .now) (s .args .defined .now) (s .args .format .limit)) (map (valOf (s .args .slot-items .now) (s .args .slot-values .now)) (s .args .t5)) (s .args .work-items .now) (s .args .work-values .now) (s .args .used .now) _ _ (c .sheet-span .ensures .starts) refl (s .pre .1 .0 .1)
 
 read-instruction-requires : tie.Need-read-instruction-requires Inv-loop μ-loop
 read-instruction-requires c κs =
@@ -110,24 +110,24 @@ run-step-requires c κs =
     let l = c .before .before .before .before .before .before .before .before .before .before .before .before .before .before .loop in
     let sp = c .before .before .before .before .before .before .before .before .before .before .before .before .before .before .before .sheet-span .ensures in
     let more : l .at < sheetEnd (s .args .pack .now) (s .args .sheet) = omega (arith, sp .ends, c .before .before .before .before .before .before .before .before .before .before .before .before .before .loop-test .taken) in
-    ((inputs-none (s .pre .0), s .pre .0 .slots-formed (c .before .before .before .before .before .before .before .before .before .before .slot-place .result) (omega (arith, s .good .1 .1 .1 .1 .0 .1 .0 .1, c .before .before .before .before .before .before .before .before .before .before .slot-place .ensures .0))), ((allowed (literalCount (s .args .pack .now)) (s .args .pack .now) (l .at) _ (c .before .before .before .before .before .before .before .before .before .before .before .before .read-instruction .ensures .stands), l .inv .depth), (roomy (s .args .pack .now) (s .args .sheet) (definitions (s .args .ends .now) (s .args .defined .now) (format1 .limit)) (map (valOf (s .args .slot-items .now) (s .args .slot-values .now)) (s .args .t5)) (s .args .work-items .now) (s .args .work-values .now) (l .used) (l .work-items) (l .work-values) (l .stack) (l .n) (l .at) (l .i) (l .inv) (s .pre .1 .1), operands-formed (s .args .pack .now) (s .args .sheet) (definitions (s .args .ends .now) (s .args .defined .now) (format1 .limit)) (map (valOf (s .args .slot-items .now) (s .args .slot-values .now)) (s .args .t5)) (s .args .work-items .now) (s .args .work-values .now) (l .used) (l .work-items) (l .work-values) (l .stack) (l .n) (l .at) (l .i) (l .inv) (c .before .before .before .before .before .before .before .before .operand-count .result) (c .before .before .before .before .before .before .before .operand-place .result) (c .before .before .before .before .before .before .operand-place2 .result) (c .before .before .before .before .before .operand-place3 .result) (c .before .before .before .before .before .before .before .operand-place .ensures .0) (c .before .before .before .before .before .before .operand-place2 .ensures .0) (c .before .before .before .before .before .operand-place3 .ensures .0) (instrOf (c .before .before .before .before .before .before .before .before .before .before .before .before .read-instruction .result)) (c .before .before .before .before .before .before .before .before .operand-count .ensures))))
+    ((inputs-none (s .pre .0), s .pre .0 .slots-formed (c .before .before .before .before .before .before .before .before .before .before .slot-place .result) (omega (arith, s .good .1 .1 .1 .1 .0 .1 .0 .1, c .before .before .before .before .before .before .before .before .before .before .slot-place .ensures .0))), ((allowed (literalCount (s .args .pack .now)) (s .args .pack .now) (l .at) _ (c .before .before .before .before .before .before .before .before .before .before .before .before .read-instruction .ensures .stands), l .inv .depth), (roomy (s .args .pack .now) (s .args .sheet) (definitions (s .args .ends .now) (s .args .defined .now) (s .args .format .limit)) (map (valOf (s .args .slot-items .now) (s .args .slot-values .now)) (s .args .t5)) (s .args .work-items .now) (s .args .work-values .now) (l .used) (l .work-items) (l .work-values) (l .stack) (l .n) (l .at) (l .i) (l .inv) (s .pre .1 .1), operands-formed (s .args .pack .now) (s .args .sheet) (definitions (s .args .ends .now) (s .args .defined .now) (s .args .format .limit)) (map (valOf (s .args .slot-items .now) (s .args .slot-values .now)) (s .args .t5)) (s .args .work-items .now) (s .args .work-values .now) (l .used) (l .work-items) (l .work-values) (l .stack) (l .n) (l .at) (l .i) (l .inv) (c .before .before .before .before .before .before .before .before .operand-count .result) (c .before .before .before .before .before .before .before .operand-place .result) (c .before .before .before .before .before .before .operand-place2 .result) (c .before .before .before .before .before .operand-place3 .result) (c .before .before .before .before .before .before .before .operand-place .ensures .0) (c .before .before .before .before .before .before .operand-place2 .ensures .0) (c .before .before .before .before .before .operand-place3 .ensures .0) (instrOf (c .before .before .before .before .before .before .before .before .before .before .before .before .read-instruction .result)) (c .before .before .before .before .before .before .before .before .operand-count .ensures))))
 
 -- what the step comes to, on the stack as it stands
 stepped : (c : tie.After-run-step Inv-loop μ-loop) →
     let s = c .before .before .before .before .before .before .before .before .before .before .before .before .before .before .before .before .before .before .before .before .before .before in
     let l = c .before .before .before .before .before .before .before .before .before .before .before .before .before .before .before .loop in
     let r = c .before .before .before .before .before .before .before .before .before .before .before .before .before .read-instruction in
-    Steps (l .n)
-    (step (valuePushed (literalOf (decoded format1 (s .args .pack .now))) (map (valOf (s .args .slot-items .now) (s .args .slot-values .now)) (s .args .t5)))
-    (applyOp (definitions (s .args .ends .now) (s .args .defined .now) (format1 .limit))) (instrOf (r .result)) (stackOf (valueOn (l .work-items) (l .work-values) (l .stack)) (l .n)))
+    Steps (s .args .format) (l .n)
+    (step (valuePushed (literalOf (decoded (s .args .format) (s .args .pack .now))) (map (valOf (s .args .slot-items .now) (s .args .slot-values .now)) (s .args .t5)))
+    (applyOp (definitions (s .args .ends .now) (s .args .defined .now) (s .args .format .limit))) (instrOf (r .result)) (stackOf (valueOn (l .work-items) (l .work-values) (l .stack)) (l .n)))
     (valueOn (l .work-items) (l .work-values) (l .stack)) (c .run-step .result)
-    (l .work-items) (c .run-step .last .1 .1 .1 .1 .1 .1 .1 .1 .1 .1 .1 .0) (l .work-values) (c .run-step .last .1 .1 .1 .1 .1 .1 .1 .1 .1 .1 .1 .1 .0)
+    (l .work-items) (c .run-step .last .1 .1 .1 .1 .1 .1 .1 .1 .1 .1 .1 .1 .0) (l .work-values) (c .run-step .last .1 .1 .1 .1 .1 .1 .1 .1 .1 .1 .1 .1 .1 .0)
 stepped c =
     let s = c .before .before .before .before .before .before .before .before .before .before .before .before .before .before .before .before .before .before .before .before .before .before in
     let l = c .before .before .before .before .before .before .before .before .before .before .before .before .before .before .before .loop in
     let r = c .before .before .before .before .before .before .before .before .before .before .before .before .before .read-instruction in
     let k = c .before .before .before .before .before .before .before .before .before .before .before .slot-place in
-    c .run-step .ensures (s .args .t5) (slot-is (instrOf (r .result)) (s .args .t5) (k .result) (omega (arith, s .good .1 .1 .1 .1 .0 .1 .0 .1, k .ensures .0)) (k .ensures .1)) (valueOn (l .work-items) (l .work-values) (l .stack)) (operands (s .args .pack .now) (s .args .sheet) (definitions (s .args .ends .now) (s .args .defined .now) (format1 .limit)) (map (valOf (s .args .slot-items .now) (s .args .slot-values .now)) (s .args .t5)) (s .args .work-items .now) (s .args .work-values .now) (l .used) (l .work-items) (l .work-values) (l .stack) (l .n) (l .at) (l .i) (l .inv) (c .before .before .before .before .before .before .before .before .before .operand-count .result) (c .before .before .before .before .before .before .before .before .operand-place .result) (c .before .before .before .before .before .before .before .operand-place2 .result) (c .before .before .before .before .before .before .operand-place3 .result) (c .before .before .before .before .before .before .before .before .operand-place .ensures .0) (c .before .before .before .before .before .before .before .operand-place2 .ensures .0) (c .before .before .before .before .before .before .operand-place3 .ensures .0) (instrOf (r .result)) (c .before .before .before .before .before .before .before .before .before .operand-count .ensures))
+    c .run-step .ensures (s .args .t5) (slot-is (instrOf (r .result)) (s .args .t5) (k .result) (omega (arith, s .good .1 .1 .1 .1 .0 .1 .0 .1, k .ensures .0)) (k .ensures .1)) (valueOn (l .work-items) (l .work-values) (l .stack)) (operands (s .args .pack .now) (s .args .sheet) (definitions (s .args .ends .now) (s .args .defined .now) (s .args .format .limit)) (map (valOf (s .args .slot-items .now) (s .args .slot-values .now)) (s .args .t5)) (s .args .work-items .now) (s .args .work-values .now) (l .used) (l .work-items) (l .work-values) (l .stack) (l .n) (l .at) (l .i) (l .inv) (c .before .before .before .before .before .before .before .before .before .operand-count .result) (c .before .before .before .before .before .before .before .before .operand-place .result) (c .before .before .before .before .before .before .before .operand-place2 .result) (c .before .before .before .before .before .before .operand-place3 .result) (c .before .before .before .before .before .before .before .before .operand-place .ensures .0) (c .before .before .before .before .before .before .before .operand-place2 .ensures .0) (c .before .before .before .before .before .before .operand-place3 .ensures .0) (instrOf (r .result)) (c .before .before .before .before .before .before .before .before .before .operand-count .ensures))
 
 enum-known-step : tie.Need-enum-known-step Inv-loop μ-loop
 enum-known-step c =
@@ -194,7 +194,7 @@ loop-again c =
     let more : l .at < sheetEnd (s .args .pack .now) (s .args .sheet) = omega (arith, sp .ends, c .before .before .before .before .before .before .before .before .before .before .before .before .before .before .before .before .before .before .before .before .before .before .before .before .before .loop-test .taken) in
     let w = rw (c .before .before .before .before .before .before .step .given .1) at (stepped (c .before .before .before .before .before .before .before .before .before .before .before) .by) in
     let k = subst (λ (x : ℕ). Longest (l .used) (c .before .before .keep-longest .last .0) (c .before .before .before .before .before .before .step .given .0 .0) x) (c .before .before .before .len-of .ensures) (c .before .before .keep-longest .ensures) in
-    rw (c .before .before .before .before .before .before .before .before .before .before .before .before .before .before .before .before .before .before .before .before .before .before .before .instruction-width .ensures) (advance (s .args .pack .now) (s .args .sheet) (definitions (s .args .ends .now) (s .args .defined .now) (format1 .limit)) (map (valOf (s .args .slot-items .now) (s .args .slot-values .now)) (s .args .t5)) (s .args .work-items .now) (s .args .work-values .now) (l .used) (l .work-items) (l .work-values) (l .stack) (l .n) (l .at) (l .i) (l .inv) (instrOf (c .before .before .before .before .before .before .before .before .before .before .before .before .before .before .before .before .before .before .before .before .before .before .before .before .read-instruction .result)) (c .before .before .before .before .before .before .before .before .before .before .before .before .before .before .before .before .before .before .before .before .before .before .before .before .read-instruction .ensures) more _ _ _ _ _ (s .pre .1 .1) w k)
+    rw (c .before .before .before .before .before .before .before .before .before .before .before .before .before .before .before .before .before .before .before .before .before .before .before .instruction-width .ensures) (advance (s .args .pack .now) (s .args .sheet) (definitions (s .args .ends .now) (s .args .defined .now) (s .args .format .limit)) (map (valOf (s .args .slot-items .now) (s .args .slot-values .now)) (s .args .t5)) (s .args .work-items .now) (s .args .work-values .now) (l .used) (l .work-items) (l .work-values) (l .stack) (l .n) (l .at) (l .i) (l .inv) (instrOf (c .before .before .before .before .before .before .before .before .before .before .before .before .before .before .before .before .before .before .before .before .before .before .before .before .read-instruction .result)) (c .before .before .before .before .before .before .before .before .before .before .before .before .before .before .before .before .before .before .before .before .before .before .before .before .read-instruction .ensures) more _ _ _ _ _ (s .pre .1 .1) w k)
 
 enum-known-step-2 : tie.Need-enum-known-step-2 Inv-loop μ-loop
 enum-known-step-2 c =
@@ -228,7 +228,7 @@ returns c =
     let more : l .at < sheetEnd (s .args .pack .now) (s .args .sheet) = omega (arith, sp .ends, c .before .before .before .before .before .before .before .before .before .before .before .before .before .before .before .before .before .before .before .before .loop-test .taken) in
     let w = rw (c .before .step2 .given .1) at (stepped (c .before .before .before .before .before .before) .by) in
     record {
-      end-is = refused (s .args .pack .now) (s .args .sheet) (definitions (s .args .ends .now) (s .args .defined .now) (format1 .limit)) (map (valOf (s .args .slot-items .now) (s .args .slot-values .now)) (s .args .t5)) (s .args .work-items .now) (s .args .work-values .now) (l .used) (l .work-items) (l .work-values) (l .stack) (l .n) (l .at) (l .i) (l .inv) (instrOf (c .before .before .before .before .before .before .before .before .before .before .before .before .before .before .before .before .before .before .before .read-instruction .result)) (c .before .before .before .before .before .before .before .before .before .before .before .before .before .before .before .before .before .before .before .read-instruction .ensures) more _ (w .refused);
+      end-is = refused (s .args .pack .now) (s .args .sheet) (definitions (s .args .ends .now) (s .args .defined .now) (s .args .format .limit)) (map (valOf (s .args .slot-items .now) (s .args .slot-values .now)) (s .args .t5)) (s .args .work-items .now) (s .args .work-values .now) (l .used) (l .work-items) (l .work-values) (l .stack) (l .n) (l .at) (l .i) (l .inv) (instrOf (c .before .before .before .before .before .before .before .before .before .before .before .before .before .before .before .before .before .before .before .read-instruction .result)) (c .before .before .before .before .before .before .before .before .before .before .before .before .before .before .before .before .before .before .before .read-instruction .ensures) more _ (w .refused);
       end-formed = tt;
       items-touched = rw (w .items-same) (l .inv .items-touched);
       values-touched = rw (w .values-same) (l .inv .values-touched);
@@ -262,7 +262,7 @@ returns-2 c =
     let l = c .before .before .before .loop in
     let s = c .before .before .before .before .before .before .before .before .before .before in
     let sp = c .before .before .before .before .sheet-span .ensures in
-    record { end-is = one-left (s .args .pack .now) (s .args .sheet) (definitions (s .args .ends .now) (s .args .defined .now) (format1 .limit)) (map (valOf (s .args .slot-items .now) (s .args .slot-values .now)) (s .args .t5)) (s .args .work-items .now) (s .args .work-values .now) (l .used) (l .work-items) (l .work-values) (l .stack) (l .n) (l .at) (l .i) (l .inv) (omega (arith, sp .ends, c .before .before .loop-test .left)) (c .before .if1 .taken); end-formed = l .inv .formed 0 (omega (arith, c .before .if1 .taken)); items-touched = l .inv .items-touched; values-touched = l .inv .values-touched; few = l .inv .few }
+    record { end-is = one-left (s .args .pack .now) (s .args .sheet) (definitions (s .args .ends .now) (s .args .defined .now) (s .args .format .limit)) (map (valOf (s .args .slot-items .now) (s .args .slot-values .now)) (s .args .t5)) (s .args .work-items .now) (s .args .work-values .now) (l .used) (l .work-items) (l .work-values) (l .stack) (l .n) (l .at) (l .i) (l .inv) (omega (arith, sp .ends, c .before .before .loop-test .left)) (c .before .if1 .taken); end-formed = l .inv .formed 0 (omega (arith, c .before .if1 .taken)); items-touched = l .inv .items-touched; values-touched = l .inv .values-touched; few = l .inv .few }
 
 same-length-7 : tie.Need-same-length-7 Inv-loop μ-loop
 same-length-7 c =
@@ -287,7 +287,7 @@ returns-3 c =
     let l = c .before .before .loop in
     let s = c .before .before .before .before .before .before .before .before .before in
     let sp = c .before .before .before .sheet-span .ensures in
-    record { end-is = not-one (s .args .pack .now) (s .args .sheet) (definitions (s .args .ends .now) (s .args .defined .now) (format1 .limit)) (map (valOf (s .args .slot-items .now) (s .args .slot-values .now)) (s .args .t5)) (s .args .work-items .now) (s .args .work-values .now) (l .used) (l .work-items) (l .work-values) (l .stack) (l .n) (l .at) (l .i) (l .inv) (omega (arith, sp .ends, c .before .loop-test .left)) (c .if1 .left); end-formed = tt; items-touched = l .inv .items-touched; values-touched = l .inv .values-touched; few = l .inv .few }
+    record { end-is = not-one (s .args .pack .now) (s .args .sheet) (definitions (s .args .ends .now) (s .args .defined .now) (s .args .format .limit)) (map (valOf (s .args .slot-items .now) (s .args .slot-values .now)) (s .args .t5)) (s .args .work-items .now) (s .args .work-values .now) (l .used) (l .work-items) (l .work-values) (l .stack) (l .n) (l .at) (l .i) (l .inv) (omega (arith, sp .ends, c .before .loop-test .left)) (c .if1 .left); end-formed = tt; items-touched = l .inv .items-touched; values-touched = l .inv .values-touched; few = l .inv .few }
 
 pub work-spec : {M : Type 1} → statement M
 work-spec =
