@@ -4,6 +4,7 @@ use pack::Checked;
 use pack::instruction::Instruction;
 use sheet::STACK_LIMIT;
 ghost use mathlib.Core.Path.{_≡_};
+ghost use mathlib.Core.Bool.{true};
 ghost use mathlib.Core.List.{map};
 ghost use Prim.Native.Nat.{ℕ, _<_, _≤_, _-_, _*_};
 ghost use lib.ListN.{length, take};
@@ -13,7 +14,7 @@ ghost use Rattle.kind_table.specs.Kinds.{kindAnswer, Coded, kindApply, operandC
 ghost use Rattle.pack.specs.Contents.{sheetCount};
 ghost use Rattle.pack.specs.Format.{format1};
 ghost use Rattle.pack.specs.Instruction.{instrOf, Allowed};
-ghost use Rattle.pack.specs.Judge.{Sound};
+ghost use Rattle.pack.specs.Judge.{question5, Placed};
 ghost use Rattle.pack.specs.Read.{program};
 ghost use Rattle.sheet.specs.Machine.{stepOp, stepPush, step, topped, kindPushed, vet};
 ghost use Rattle.sheet.specs.Stack.{stackOf};
@@ -109,7 +110,7 @@ fn vet_into(
     table: &[u8; 775],
     out: &mut [u8; 2048],
 ) -> Vetted
-    requires { ⌜ Sound format1 (now pack) × (sheet < sheetCount (now pack)) ⌝ }
+    requires { ⌜ (Placed (now pack) × (question5 (now pack) ≡ true)) × (sheet < sheetCount (now pack)) ⌝ }
     requires { ⌜ (length (now out) ≡ 2048) × Codes kinds × Table (now table) ⌝ }
     ensures { λ r. ⌜ (verdictOf r ≡ verdict (vet (program (now (pack .entry)) sheet) (map kindAt kinds) .end)) × Forecasts r (now (out .exit)) (vet (program (now (pack .entry)) sheet) (map kindAt kinds) .stacks) × (length (now (out .exit)) ≡ 2048) ⌝ }
 {
@@ -175,7 +176,7 @@ fn are_codes(kinds: [u8; 16]) -> bool
 
 // A sheet of a pack that has passed, where question 7 says yes.
 fn vet_sheet(pack: &[u8], sheet: usize, kinds: [u8; 16], forecast: &mut [u8]) -> Vetted
-    requires { ⌜ Sound format1 (now pack) × (sheet < sheetCount (now pack)) ⌝ }
+    requires { ⌜ (Placed (now pack) × (question5 (now pack) ≡ true)) × (sheet < sheetCount (now pack)) ⌝ }
     requires { ⌜ Codes kinds × (2048 ≤ length (now forecast)) ⌝ }
     ensures { λ r. ⌜ Vets (program (now (pack .entry)) sheet) kinds r (now (forecast .entry)) (now (forecast .exit)) ⌝ }
 {

@@ -33,7 +33,7 @@ enum-told c = search needs
 
 sheet-count-requires : tie.Need-sheet-count-requires
 sheet-count-requires c κs =
-    passed format1 (c .before .before .before .before .before .args .pack .now) (c .before .before .check .result) (c .enum-told .given .1) (c .before .before .check .ensures)
+    passed format1 (c .before .before .before .before .before .args .pack .now) (c .before .before .check .result) (c .enum-told .given .1) (c .before .before .check .ensures) .contents .frame
 
 returns : tie.Need-returns
 returns c =
@@ -41,7 +41,7 @@ returns c =
     let p = s .args .pack .now in
     let d = decoded format1 p in
     let j : judge format1 p ≡ gives d = sym (c .before .before .before .before .check .ensures) ∙ ap (λ (r : Checked). checked r d) (c .before .before .enum-told .given .1) in
-    stops format1 p (s .args .sheet) (s .args .kinds) (s .args .forecast .now) 6 (opened-six format1 p (s .args .sheet) (memory (s .args .kinds) (s .args .forecast .now)) d j (omega (arith, c .before .sheet-count .ensures, c .if1 .taken)))
+    stops format1 p (s .args .sheet) (s .args .kinds) (s .args .forecast .now) 6 (opened-six format1 p (s .args .sheet) (memory (s .args .kinds) (s .args .forecast .now)) d j (omega (arith, c .before .sheet-count .ensures, c .if1 .taken, length-table (sheetCount p) (λ k. orNone (sheet p (sheetBody p k))))))
 
 are-codes-requires : tie.Need-are-codes-requires
 are-codes-requires c κs = search needs
@@ -54,7 +54,7 @@ returns-2 c =
     let d = decoded format1 p in
     let j : judge format1 p ≡ gives d = sym (c .before .before .before .before .before .before .check .ensures) ∙ ap (λ (r : Checked). checked r d) (c .before .before .before .before .enum-told .given .1) in
     let no : allCodes (s .args .kinds) ≡ false = sym (c .before .are-codes .ensures) ∙ not-true _ (c .if2 .taken) in
-    stops format1 p (s .args .sheet) (s .args .kinds) (s .args .forecast .now) 7 (opened-seven format1 p (s .args .sheet) (memory (s .args .kinds) (s .args .forecast .now)) d j (omega (arith, c .before .before .before .sheet-count .ensures, c .before .before .if1 .left)) (and-no-left _ _ no))
+    stops format1 p (s .args .sheet) (s .args .kinds) (s .args .forecast .now) 7 (opened-seven format1 p (s .args .sheet) (memory (s .args .kinds) (s .args .forecast .now)) d j (omega (arith, c .before .before .before .sheet-count .ensures, c .before .before .if1 .left, length-table (sheetCount p) (λ k. orNone (sheet p (sheetBody p k))))) (and-no-left _ _ no))
 
 returns-3 : tie.Need-returns-3
 unfolding memory
@@ -63,14 +63,15 @@ returns-3 c =
     let p = s .args .pack .now in
     let d = decoded format1 p in
     let j : judge format1 p ≡ gives d = sym (c .before .before .before .before .before .before .before .check .ensures) ∙ ap (λ (r : Checked). checked r d) (c .before .before .before .before .before .enum-told .given .1) in
-    stops format1 p (s .args .sheet) (s .args .kinds) (s .args .forecast .now) 7 (opened-seven format1 p (s .args .sheet) (memory (s .args .kinds) (s .args .forecast .now)) d j (omega (arith, c .before .before .before .before .sheet-count .ensures, c .before .before .before .if1 .left)) (and-no-right _ _ (lt-leb forecastLimit (length (s .args .forecast .now)) (c .if3 .taken))))
+    stops format1 p (s .args .sheet) (s .args .kinds) (s .args .forecast .now) 7 (opened-seven format1 p (s .args .sheet) (memory (s .args .kinds) (s .args .forecast .now)) d j (omega (arith, c .before .before .before .before .sheet-count .ensures, c .before .before .before .if1 .left, length-table (sheetCount p) (λ k. orNone (sheet p (sheetBody p k))))) (and-no-right _ _ (lt-leb forecastLimit (length (s .args .forecast .now)) (c .if3 .taken))))
 
 vet-sheet-requires : tie.Need-vet-sheet-requires
 vet-sheet-requires c κs =
     let s = c .before .before .before .before .before .before .before .before .before .before .before in
     let p = s .args .pack .now in
+    let ok = passed format1 p (c .before .before .before .before .before .before .before .before .check .result) (c .before .before .before .before .before .before .enum-told .given .1) (c .before .before .before .before .before .before .before .before .check .ensures) in
     let yes : allCodes (s .args .kinds) ≡ true = sym (c .before .before .before .are-codes .ensures) ∙ not-false _ (c .before .before .if2 .left) in
-    ((passed format1 p (c .before .before .before .before .before .before .before .before .check .result) (c .before .before .before .before .before .before .enum-told .given .1) (c .before .before .before .before .before .before .before .before .check .ensures), omega (arith, c .before .before .before .before .before .sheet-count .ensures, c .before .before .before .before .if1 .left, length-table (sheetCount p) (λ k. orNone (sheet p (sheetBody p k))))), (codes (s .args .kinds) yes, c .before .if3 .left))
+    (((ok .contents, ok .five), omega (arith, c .before .before .before .before .before .sheet-count .ensures, c .before .before .before .before .if1 .left)), (codes (s .args .kinds) yes, c .before .if3 .left))
 
 returns-4 : tie.Need-returns-4
 returns-4 c =
@@ -89,7 +90,7 @@ returns-5 c =
     let d = decoded format1 p in
     let j : judge format1 p ≡ gives d = sym (c .before .before .before .before .before .before .before .before .before .before .before .check .ensures) ∙ ap (λ (r : Checked). checked r d) (c .before .before .before .before .before .before .before .before .before .enum-told .given .1) in
     let yes : allCodes (s .args .kinds) ≡ true = sym (c .before .before .before .before .before .before .are-codes .ensures) ∙ not-false _ (c .before .before .before .before .before .if2 .left) in
-    goes format1 p (s .args .sheet) (s .args .kinds) (s .args .forecast .now) d (c .before .before .vet-sheet .result) _ (opened-all format1 p (s .args .sheet) (memory (s .args .kinds) (s .args .forecast .now)) d j (omega (arith, c .before .before .before .before .before .before .before .before .sheet-count .ensures, c .before .before .before .before .before .before .before .if1 .left)) (and-both _ _ yes (le-leb forecastLimit (length (s .args .forecast .now)) (c .before .before .before .before .if3 .left)))) (c .before .before .vet-sheet .ensures)
+    goes format1 p (s .args .sheet) (s .args .kinds) (s .args .forecast .now) d (c .before .before .vet-sheet .result) _ (opened-all format1 p (s .args .sheet) (memory (s .args .kinds) (s .args .forecast .now)) d j (omega (arith, c .before .before .before .before .before .before .before .before .sheet-count .ensures, c .before .before .before .before .before .before .before .if1 .left, length-table (sheetCount p) (λ k. orNone (sheet p (sheetBody p k))))) (and-both _ _ yes (le-leb forecastLimit (length (s .args .forecast .now)) (c .before .before .before .before .if3 .left)))) (c .before .before .vet-sheet .ensures)
 
 pub vet-spec : {M : Type 1} → statement M
 vet-spec =
