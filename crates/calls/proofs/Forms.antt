@@ -22,7 +22,7 @@ use Rattle.native_function_call.specs.Apply.{call}
 use Rattle.calls.specs.Call.{operandsOk, resultsOk, called, castTo, coerced, onPack}
 use Rattle.ink_value.specs.Convert.{cast}
 use Rattle.pack.specs.Bodies.{decoded}
-use Rattle.pack.specs.Format.{format1}
+use Rattle.pack.specs.declared.format.Format.{Format}
 use Rattle.pack.specs.Judge.{judge}
 use Rattle.pack.specs.Read.{definitionsOf}
 use Rattle.ink_value.specs.declared.Value.the-variants as Is
@@ -60,11 +60,11 @@ map-take {A} {B} f (suc n) (x ∷ l) = ap {B = List B} (λ r. f x ∷ r) (map-ta
 
 -- questions 1 to 5
 
-module _ (p : List ℕ) where
-  pub pack-refused : (n : ℕ) (f : ListDefinitions → Answer Val) → judge format1 p ≡ refuses n → onPack format1 p f ≡ refuses n
+module _ (F : Format) (p : List ℕ) where
+  pub pack-refused : (n : ℕ) (f : ListDefinitions → Answer Val) → judge F p ≡ refuses n → onPack F p f ≡ refuses n
   pack-refused n f e = rw e
 
-  pub pack-passed : (f : ListDefinitions → Answer Val) → judge format1 p ≡ gives (decoded format1 p) → onPack format1 p f ≡ f (definitionsOf (decoded format1 p) format1)
+  pub pack-passed : (f : ListDefinitions → Answer Val) → judge F p ≡ gives (decoded F p) → onPack F p f ≡ f (definitionsOf (decoded F p) F)
   pack-passed f e = rw e
 
 -- ---- question 7, as the code asks it
@@ -151,16 +151,16 @@ module _ (is : List ℕ) (vs : List ℤ) (oi : List ℕ) (ov : List ℤ) (to : �
   unfolding castTo
   cast-goes e f = rw (and-both _ _ e f)
 
-module _ (p is : List ℕ) (vs : List ℤ) (f : Val → Answer Val) (v : Value) where
-  pub coerce-refused : (n : ℕ) → judge format1 p ≡ refuses n → refuses n ≡ onPack format1 p (coerced is vs f v)
-  coerce-refused n e = sym (pack-refused p n (coerced is vs f v) e)
+module _ (F : Format) (p is : List ℕ) (vs : List ℤ) (f : Val → Answer Val) (v : Value) where
+  pub coerce-refused : (n : ℕ) → judge F p ≡ refuses n → refuses n ≡ onPack F p (coerced is vs f v)
+  coerce-refused n e = sym (pack-refused F p n (coerced is vs f v) e)
 
-  pub coerce-ill : judge format1 p ≡ gives (decoded format1 p) → operandsOk (definitionsOf (decoded format1 p) format1) is vs (v ∷ []) ≡ false
-      → refuses 7 ≡ onPack format1 p (coerced is vs f v)
+  pub coerce-ill : judge F p ≡ gives (decoded F p) → operandsOk (definitionsOf (decoded F p) F) is vs (v ∷ []) ≡ false
+      → refuses 7 ≡ onPack F p (coerced is vs f v)
   unfolding coerced
-  coerce-ill j e = sym (pack-passed p (coerced is vs f v) j ∙ rw e)
+  coerce-ill j e = sym (pack-passed F p (coerced is vs f v) j ∙ rw e)
 
-  pub coerce-goes : judge format1 p ≡ gives (decoded format1 p) → operandsOk (definitionsOf (decoded format1 p) format1) is vs (v ∷ []) ≡ true
-      → f (valOf is vs v) ≡ onPack format1 p (coerced is vs f v)
+  pub coerce-goes : judge F p ≡ gives (decoded F p) → operandsOk (definitionsOf (decoded F p) F) is vs (v ∷ []) ≡ true
+      → f (valOf is vs v) ≡ onPack F p (coerced is vs f v)
   unfolding coerced
-  coerce-goes j e = sym (pack-passed p (coerced is vs f v) j ∙ rw e)
+  coerce-goes j e = sym (pack-passed F p (coerced is vs f v) j ∙ rw e)

@@ -13,7 +13,7 @@ use Rattle.ink_value.specs.Convert.{cast}
 use Rattle.ink_value.specs.Value.{valOf, allFormed}
 use Rattle.ink_value.specs.declared.Value.{Value}
 use Rattle.native_function_call.specs.Apply.{call}
-use Rattle.pack.specs.Format.{format1, definitionLimit}
+use Rattle.pack.specs.Format.{definitionLimit}
 use Rattle.pack.specs.Judge.{judge}
 use Rattle.pack.specs.Read.{definitionsOf}
 use Rattle.pack.specs.declared.format.Format.{Format}
@@ -43,8 +43,8 @@ module _ (is : List ℕ) (vs : List ℤ) where
 abbrev pub onPack : Format → List ℕ → (ListDefinitions → Answer Val) → Answer Val
 onPack F p f = andThen (judge F p) (λ d. f (definitionsOf d F))
 
--- tables of a pack of format 1
-pub record PackLists (ends : List ℕ) (defined : List ℤ) : Type 0 where
+-- tables of a pack whose items are at most a limit
+pub record PackLists (limit : ℕ) (ends : List ℕ) (defined : List ℤ) : Type 0 where
   pub tables : Tables ends defined
   pub few : length ends ≤ definitionLimit
-  pub within : length defined ≤ format1 .limit
+  pub within : length defined ≤ limit

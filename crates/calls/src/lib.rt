@@ -2,13 +2,18 @@
 use ink_value::Outcome;
 use ink_value::Value;
 use pack::Checked;
+use pack::bytes::byte_at;
+use pack::format::Format;
 use pack_check::format::DEFINITION_LIMIT;
+use pack_check::format::FORMAT1;
+use pack_lists::definitions::total_items;
 ghost use mathlib.Core.Path.{_≡_};
 ghost use mathlib.Core.Bool.{true, cond};
 ghost use mathlib.Core.List.{[], _∷_};
-ghost use Prim.Native.Nat.{_≤_};
+ghost use Prim.Native.Nat.{_≤_, _<_};
 ghost use lib.Dec.{leb};
 ghost use lib.ListN.{length, take};
+ghost use Rattle.ink_list.specs.Entries.{itemNumbers};
 ghost use Rattle.ink_list.specs.Every.{_and_};
 ghost use denote.Ref.{now};
 ghost use Rattle.native_function_call.specs.Lists.{definitions, definitionsIn};
@@ -18,12 +23,9 @@ ghost use Rattle.ink_value.specs.Value.{placed, allFormed};
 ghost use Rattle.ink_value.specs.Slices.{Gives};
 ghost use Rattle.ink_value.specs.declared.Value.the-variants as Is;
 ghost use Rattle.pack.specs.Bodies.{decoded};
-ghost use Rattle.pack.specs.Format.{format1};
+ghost use Rattle.pack.specs.Format.{format1, Runnable};
 ghost use Rattle.pack.specs.Judge.{Sound};
 ghost use Rattle.calls.specs.Call.{operandsOk, called, castTo, coerced, onPack, PackLists};
-
-// The most items of a pack, and so the entries that a result may have.
-const ITEM_LIMIT: usize = pack_check::format::FORMAT1.limit;
 
 // Question 7 of a value, with its two slices equally long.
 fn one_formed(v: Value, items: &[u16], values: &[i32], total: usize, definitions: usize) -> bool
@@ -90,7 +92,7 @@ fn used_formed(
     )
 }
 
-// Question 7 of the first `count` of three operands and of result slices of these lengths.
+// Question 7 of the first `count` of three operands and of result slices of these lengths, which `limit` entries must fit.
 pub fn lent_well(
     count: usize,
     a: Value,
@@ -100,15 +102,16 @@ pub fn lent_well(
     values: &[i32],
     total: usize,
     definitions: usize,
+    limit: usize,
     result_items: usize,
     result_values: usize,
 ) -> bool
-    ensures { λ r. ⌜ r ≡ (allFormed total definitions (now (items .entry)) (now (values .entry)) (take count (a ∷ b ∷ c ∷ [])) and (leb (format1 .limit) «result_items» and leb (format1 .limit) «result_values»)) ⌝ }
+    ensures { λ r. ⌜ r ≡ (allFormed total definitions (now (items .entry)) (now (values .entry)) (take count (a ∷ b ∷ c ∷ [])) and (leb limit «result_items» and leb limit «result_values»)) ⌝ }
 {
-    if result_items < ITEM_LIMIT {
+    if result_items < limit {
         return false;
     }
-    if result_values < ITEM_LIMIT {
+    if result_values < limit {
         return false;
     }
     used_formed(count, a, b, c, items, values, total, definitions)
@@ -125,13 +128,14 @@ pub fn call_formed(
     values: &[i32],
     ends: &[u16],
     defined: &[i32],
+    limit: usize,
     oi: &mut [u16],
     ov: &mut [i32],
 ) -> Outcome
-    requires { ⌜ PackLists (now ends) (now defined) ⌝ }
-    requires { ⌜ operandsOk (definitions (now ends) (now defined) (format1 .limit)) (now items) (now values) (take count (a ∷ b ∷ c ∷ [])) ≡ true ⌝ }
-    requires { ⌜ (format1 .limit ≤ length (now oi)) × (format1 .limit ≤ length (now ov)) ⌝ }
-    ensures { λ r. ⌜ Gives (called (now (items .entry)) (now (values .entry)) (now (oi .entry)) (now (ov .entry)) op count (a ∷ b ∷ c ∷ []) (definitionsIn ends defined (format1 .limit))) r oi ov ⌝ }
+    requires { ⌜ PackLists limit (now ends) (now defined) ⌝ }
+    requires { ⌜ operandsOk (definitions (now ends) (now defined) limit) (now items) (now values) (take count (a ∷ b ∷ c ∷ [])) ≡ true ⌝ }
+    requires { ⌜ (limit ≤ length (now oi)) × (limit ≤ length (now ov)) × (1 ≤ limit) × (limit < itemNumbers) ⌝ }
+    ensures { λ r. ⌜ Gives (called (now (items .entry)) (now (values .entry)) (now (oi .entry)) (now (ov .entry)) op count (a ∷ b ∷ c ∷ []) (definitionsIn ends defined limit)) r oi ov ⌝ }
 {
     native_function_call::apply(
         op,
@@ -143,7 +147,7 @@ pub fn call_formed(
         values,
         ends,
         defined,
-        ITEM_LIMIT,
+        limit,
         oi,
         ov,
     )
@@ -160,11 +164,12 @@ pub fn call_with(
     values: &[i32],
     ends: &[u16],
     defined: &[i32],
+    limit: usize,
     oi: &mut [u16],
     ov: &mut [i32],
 ) -> Outcome
-    requires { ⌜ PackLists (now ends) (now defined) ⌝ }
-    ensures { λ r. ⌜ Gives (called (now (items .entry)) (now (values .entry)) (now (oi .entry)) (now (ov .entry)) op count (a ∷ b ∷ c ∷ []) (definitionsIn ends defined (format1 .limit))) r oi ov ⌝ }
+    requires { ⌜ PackLists limit (now ends) (now defined) × (1 ≤ limit) × (limit < itemNumbers) ⌝ }
+    ensures { λ r. ⌜ Gives (called (now (items .entry)) (now (values .entry)) (now (oi .entry)) (now (ov .entry)) op count (a ∷ b ∷ c ∷ []) (definitionsIn ends defined limit)) r oi ov ⌝ }
 {
     if !lent_well(
         count,
@@ -175,15 +180,29 @@ pub fn call_with(
         values,
         defined.len(),
         ends.len(),
+        limit,
         oi.len(),
         ov.len(),
     ) {
         return Outcome::Refused(7);
     }
-    call_formed(op, count, a, b, c, items, values, ends, defined, oi, ov)
+    call_formed(
+        op,
+        count,
+        a,
+        b,
+        c,
+        items,
+        values,
+        ends,
+        defined,
+        limit,
+        oi,
+        ov,
+    )
 }
 
-// A call on a pack that has passed.
+// A call on a pack that has passed. Its definitions' values are read into a slice that is lent for it.
 fn call_checked(
     pack: &[u8],
     op: u8,
@@ -193,15 +212,16 @@ fn call_checked(
     c: Value,
     items: &[u16],
     values: &[i32],
+    format: Format,
+    defined: &mut [i32],
     oi: &mut [u16],
     ov: &mut [i32],
 ) -> Outcome
-    requires { ⌜ Sound format1 (now pack) ⌝ }
-    ensures { λ r. ⌜ Gives (called (now (items .entry)) (now (values .entry)) (now (oi .entry)) (now (ov .entry)) op count (a ∷ b ∷ c ∷ []) (definitionsOf (decoded format1 (now (pack .entry))) format1)) r oi ov ⌝ }
+    requires { ⌜ Sound format (now pack) × Runnable format × (format .limit ≤ length (now defined)) ⌝ }
+    ensures { λ r. ⌜ Gives (called (now (items .entry)) (now (values .entry)) (now (oi .entry)) (now (ov .entry)) op count (a ∷ b ∷ c ∷ []) (definitionsOf (decoded format (now (pack .entry))) format)) r oi ov ⌝ }
 {
     let mut ends = [0u16; DEFINITION_LIMIT];
-    let mut defined = [0i32; ITEM_LIMIT];
-    let read = pack_read::read_definitions(pack, &mut ends, &mut defined);
+    let read = pack_read::read_definitions(pack, &mut ends, defined, format);
     let n = read.definitions;
     let total = read.items;
     call_with(
@@ -214,6 +234,7 @@ fn call_checked(
         values,
         &ends[..n],
         &defined[..total],
+        format.limit,
         oi,
         ov,
     )
@@ -236,31 +257,33 @@ pub fn call(
 {
     match pack_check::check(pack) {
         Checked::Refused(number) => Outcome::Refused(number),
-        Checked::Passed => call_checked(
-            pack,
-            op,
-            count,
-            a,
-            b,
-            c,
-            items,
-            values,
-            result_items,
-            result_values,
-        ),
+        Checked::Passed => {
+            let mut defined = [0i32; FORMAT1.limit];
+            call_checked(
+                pack,
+                op,
+                count,
+                a,
+                b,
+                c,
+                items,
+                values,
+                FORMAT1,
+                &mut defined,
+                result_items,
+                result_values,
+            )
+        }
     }
 }
 
 // Question 7 of the operand of a conversion, with a pack that has passed.
-fn operand_formed(pack: &[u8], v: Value, items: &[u16], values: &[i32]) -> bool
-    requires { ⌜ Sound format1 (now pack) ⌝ }
-    ensures { λ r. ⌜ r ≡ operandsOk (definitionsOf (decoded format1 (now (pack .entry))) format1) (now (items .entry)) (now (values .entry)) (v ∷ []) ⌝ }
+fn operand_formed(pack: &[u8], v: Value, items: &[u16], values: &[i32], format: Format) -> bool
+    requires { ⌜ Sound format (now pack) × Runnable format ⌝ }
+    ensures { λ r. ⌜ r ≡ operandsOk (definitionsOf (decoded format (now (pack .entry))) format) (now (items .entry)) (now (values .entry)) (v ∷ []) ⌝ }
 {
-    let mut ends = [0u16; DEFINITION_LIMIT];
-    let mut defined = [0i32; ITEM_LIMIT];
-    let counts = pack_read::read_definitions(pack, &mut ends, &mut defined);
-    let n = counts.definitions;
-    let total = counts.items;
+    let n = byte_at(pack, 1);
+    let total = total_items(pack, format);
     one_formed(v, items, values, total, n)
 }
 
@@ -271,19 +294,20 @@ fn cast_checked(
     v: Value,
     items: &[u16],
     values: &[i32],
+    format: Format,
     oi: &mut [u16],
     ov: &mut [i32],
 ) -> Outcome
-    requires { ⌜ Sound format1 (now pack) ⌝ }
-    ensures { λ r. ⌜ Gives (castTo (now (items .entry)) (now (values .entry)) (now (oi .entry)) (now (ov .entry)) to v (definitionsOf (decoded format1 (now (pack .entry))) format1)) r oi ov ⌝ }
+    requires { ⌜ Sound format (now pack) × Runnable format ⌝ }
+    ensures { λ r. ⌜ Gives (castTo (now (items .entry)) (now (values .entry)) (now (oi .entry)) (now (ov .entry)) to v (definitionsOf (decoded format (now (pack .entry))) format)) r oi ov ⌝ }
 {
-    if !operand_formed(pack, v, items, values) {
+    if !operand_formed(pack, v, items, values, format) {
         return Outcome::Refused(7);
     }
-    if oi.len() < ITEM_LIMIT {
+    if oi.len() < format.limit {
         return Outcome::Refused(7);
     }
-    if ov.len() < ITEM_LIMIT {
+    if ov.len() < format.limit {
         return Outcome::Refused(7);
     }
     ink_value::cast(to, v, items, values, oi, ov)
@@ -303,7 +327,16 @@ pub fn cast(
 {
     match pack_check::check(pack) {
         Checked::Refused(number) => Outcome::Refused(number),
-        Checked::Passed => cast_checked(pack, to, v, items, values, result_items, result_values),
+        Checked::Passed => cast_checked(
+            pack,
+            to,
+            v,
+            items,
+            values,
+            FORMAT1,
+            result_items,
+            result_values,
+        ),
     }
 }
 
@@ -314,7 +347,7 @@ pub fn coerce_to_bool(pack: &[u8], v: Value, items: &[u16], values: &[i32]) -> O
     match pack_check::check(pack) {
         Checked::Refused(number) => Outcome::Refused(number),
         Checked::Passed => {
-            if !operand_formed(pack, v, items, values) {
+            if !operand_formed(pack, v, items, values, FORMAT1) {
                 return Outcome::Refused(7);
             }
             ink_value::coerce_to_bool(v)
@@ -329,7 +362,7 @@ pub fn coerce_to_int(pack: &[u8], v: Value, items: &[u16], values: &[i32]) -> Ou
     match pack_check::check(pack) {
         Checked::Refused(number) => Outcome::Refused(number),
         Checked::Passed => {
-            if !operand_formed(pack, v, items, values) {
+            if !operand_formed(pack, v, items, values, FORMAT1) {
                 return Outcome::Refused(7);
             }
             ink_value::coerce_to_int(v)
@@ -344,7 +377,7 @@ pub fn coerce_to_float(pack: &[u8], v: Value, items: &[u16], values: &[i32]) -> 
     match pack_check::check(pack) {
         Checked::Refused(number) => Outcome::Refused(number),
         Checked::Passed => {
-            if !operand_formed(pack, v, items, values) {
+            if !operand_formed(pack, v, items, values, FORMAT1) {
                 return Outcome::Refused(7);
             }
             ink_value::coerce_to_float(v)

@@ -1,12 +1,14 @@
 -- `calls::call` meets its contract: questions 1 to 5, and then the call on the pack's tables. Assumes nothing.
 use mathlib.Core.Path.{refl, sym, ap, _∙_}
 use mathlib.Core.List.{[], _∷_}
+use native.Mathlib.Omega.{arith}
 use Rattle.ink_number.specs.Answer.{refuses}
 use Rattle.ink_value.proofs.Given.{gave-is, gave-plain}
 use Rattle.pack.specs.Bodies.{decoded}
 use Rattle.pack.specs.Format.{format1}
 use Rattle.pack.specs.Judge.{checked}
 use Rattle.pack.specs.declared.Checked.{Checked}
+use Rattle.pack.proofs.Formats.{runnable1}
 use Rattle.pack.proofs.Judged.{passed, turned}
 use Rattle.calls.specs.Call.{called}
 use Rattle.calls.proofs.Forms.{pack-refused, pack-passed}
@@ -23,15 +25,18 @@ enum-known-number c = search needs
 enum-told : tie.Need-enum-told
 enum-told c = search needs
 
+slice-aggregate-call-checked : tie.Need-slice-aggregate-call-checked
+slice-aggregate-call-checked c = search needs
+
 call-checked-requires : tie.Need-call-checked-requires
 call-checked-requires c κs =
-    passed format1 (c .before .before .before .before .before .before .before .before .args .pack .now) (c .before .before .before .before .check .result) (c .before .before .enum-told .given .1) (c .before .before .before .before .check .ensures)
+    (passed format1 (c .before .before .before .before .before .before .before .before .before .args .pack .now) (c .before .before .before .before .before .check .result) (c .before .before .before .enum-told .given .1) (c .before .before .before .before .before .check .ensures), runnable1, omega arith)
 
 returns : tie.Need-returns
 returns c =
     let s = c .before .before .before .before .before .before .before in
     let p = s .args .pack .now in
-    gave-is (pack-refused p (c .before .number .given .0 .0) (called (s .args .items .now) (s .args .values .now) (s .args .result-items .now) (s .args .result-values .now) (s .args .op) (s .args .count) (s .args .a ∷ s .args .b ∷ s .args .c ∷ [])) (turned format1 p (c .before .before .before .check .result) (c .before .number .given .0 .0) (c .before .number .given .1) (c .before .before .before .check .ensures))) (gave-plain (refuses (c .before .number .given .0 .0)) _ _ _ refl refl)
+    gave-is (pack-refused format1 p (c .before .number .given .0 .0) (called (s .args .items .now) (s .args .values .now) (s .args .result-items .now) (s .args .result-values .now) (s .args .op) (s .args .count) (s .args .a ∷ s .args .b ∷ s .args .c ∷ [])) (turned format1 p (c .before .before .before .check .result) (c .before .number .given .0 .0) (c .before .number .given .1) (c .before .before .before .check .ensures))) (gave-plain (refuses (c .before .number .given .0 .0)) _ _ _ refl refl)
 
 same-length : tie.Need-same-length
 same-length c = search needs
@@ -41,9 +46,9 @@ same-length-2 c = search needs
 
 returns-2 : tie.Need-returns-2
 returns-2 c =
-    let s = c .before .before .before .before .before .before .before .before .before .before .before .before in
+    let s = c .before .before .before .before .before .before .before .before .before .before .before .before .before .before in
     let p = s .args .pack .now in
-    gave-is (pack-passed p (called (s .args .items .now) (s .args .values .now) (s .args .result-items .now) (s .args .result-values .now) (s .args .op) (s .args .count) (s .args .a ∷ s .args .b ∷ s .args .c ∷ [])) (sym (c .before .before .before .before .before .before .before .before .check .ensures) ∙ ap (λ (r : Checked). checked r (decoded format1 p)) (c .before .before .before .before .before .before .enum-told .given .1))) (c .before .before .before .call-checked .ensures)
+    gave-is (pack-passed format1 p (called (s .args .items .now) (s .args .values .now) (s .args .result-items .now) (s .args .result-values .now) (s .args .op) (s .args .count) (s .args .a ∷ s .args .b ∷ s .args .c ∷ [])) (sym (c .before .before .before .before .before .before .before .before .before .before .check .ensures) ∙ ap (λ (r : Checked). checked r (decoded format1 p)) (c .before .before .before .before .before .before .before .before .enum-told .given .1))) (c .before .before .before .before .call-checked .ensures)
 
 pub call-spec : {M : Type 1} → statement M
 call-spec =
@@ -52,6 +57,7 @@ call-spec =
     check-requires
     enum-known-number
     enum-told
+    slice-aggregate-call-checked
     call-checked-requires
     returns
     same-length

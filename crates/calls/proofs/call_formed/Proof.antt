@@ -9,7 +9,6 @@ use Rattle.ink_value.specs.Value.{valOf}
 use Rattle.ink_value.proofs.Given.{gave-is}
 use Rattle.native_function_call.specs.Apply.{call}
 use Rattle.native_function_call.specs.Lists.{definitions}
-use Rattle.pack.specs.Format.{format1}
 use Rattle.calls.proofs.Forms.{first-of, goes-on, map-take}
 use borrow.Author.Needs.{needs}
 use Rattle.calls.proofs.call_formed.Statement.{statement}
@@ -20,8 +19,8 @@ apply-requires c κs =
     let s = c .before .before .before .before .before in
     let p = s .pre .0 in
     let q = s .pre .1 .1 in (
-      record { tables = p .tables; few = p .few; within = p .within; some = omega arith; small = omega arith; items-room = q .0; values-room = q .1 },
-      first-of (length (s .args .defined .now)) (length (s .args .ends .now)) (s .args .items .now) (s .args .values .now) (format1 .limit) (s .args .count) (s .args .a) (s .args .b) (s .args .c) (p .within) (s .pre .1 .0),
+      record { tables = p .tables; few = p .few; within = p .within; some = q .2; small = q .3; items-room = q .0; values-room = q .1 },
+      first-of (length (s .args .defined .now)) (length (s .args .ends .now)) (s .args .items .now) (s .args .values .now) (s .args .limit) (s .args .count) (s .args .a) (s .args .b) (s .args .c) (p .within) (s .pre .1 .0),
     )
 
 same-length : tie.Need-same-length
@@ -38,8 +37,8 @@ returns c =
     let oi = s .args .oi .now in
     let ov = s .args .ov .now in
     let l = s .args .a ∷ s .args .b ∷ s .args .c ∷ [] in
-    let u = definitions (s .args .ends .now) (s .args .defined .now) (format1 .limit) in
-    gave-is (goes-on is vs oi ov (s .args .op) (s .args .count) l u (s .pre .1 .0) (and-both _ _ (le-leb (format1 .limit) (length oi) (s .pre .1 .1 .0)) (le-leb (format1 .limit) (length ov) (s .pre .1 .1 .1)))
+    let u = definitions (s .args .ends .now) (s .args .defined .now) (s .args .limit) in
+    gave-is (goes-on is vs oi ov (s .args .op) (s .args .count) l u (s .pre .1 .0) (and-both _ _ (le-leb (s .args .limit) (length oi) (s .pre .1 .1 .0)) (le-leb (s .args .limit) (length ov) (s .pre .1 .1 .1)))
     ∙ ap (call u (s .args .op) (s .args .count)) (map-take (valOf is vs) (s .args .count) l)) (c .before .before .before .apply .ensures)
 
 pub call-formed-spec : {M : Type 1} → statement M

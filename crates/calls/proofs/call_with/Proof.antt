@@ -9,7 +9,6 @@ use Rattle.ink_list.specs.Every.{_and_}
 use Rattle.ink_list.proofs.Every.{and-left, and-right}
 use Rattle.ink_value.proofs.Given.{gave-is, gave-plain}
 use Rattle.native_function_call.specs.Lists.{definitions}
-use Rattle.pack.specs.Format.{format1}
 use Rattle.calls.specs.Call.{operandsOk, resultsOk}
 use Rattle.calls.proofs.Forms.{ill-lent}
 use borrow.Author.Needs.{needs}
@@ -24,15 +23,15 @@ returns c =
     let s = c .before .before .before .before .before in
     let oi = s .args .oi .now in
     let ov = s .args .ov .now in
-    gave-is (ill-lent (s .args .items .now) (s .args .values .now) oi ov (s .args .op) (s .args .count) (s .args .a ∷ s .args .b ∷ s .args .c ∷ []) (definitions (s .args .ends .now) (s .args .defined .now) (format1 .limit)) (sym (c .before .lent-well .ensures) ∙ not-true _ (c .if1 .taken))) (gave-plain (refuses 7) _ oi ov refl refl)
+    gave-is (ill-lent (s .args .items .now) (s .args .values .now) oi ov (s .args .op) (s .args .count) (s .args .a ∷ s .args .b ∷ s .args .c ∷ []) (definitions (s .args .ends .now) (s .args .defined .now) (s .args .limit)) (sym (c .before .lent-well .ensures) ∙ not-true _ (c .if1 .taken))) (gave-plain (refuses 7) _ oi ov refl refl)
 
 call-formed-requires : tie.Need-call-formed-requires
 call-formed-requires c κs =
     let s = c .before .before .before .before .before .before .before in
-    let u = definitions (s .args .ends .now) (s .args .defined .now) (format1 .limit) in
+    let u = definitions (s .args .ends .now) (s .args .defined .now) (s .args .limit) in
     let e : (operandsOk u (s .args .items .now) (s .args .values .now) (take (s .args .count) (s .args .a ∷ s .args .b ∷ s .args .c ∷ [])) and resultsOk u (s .args .oi .now) (s .args .ov .now)) ≡ true = sym (c .before .before .before .lent-well .ensures) ∙ not-false _ (c .before .before .if1 .left) in
     let r = and-right _ _ e in
-    (s .pre, (and-left _ _ e, (leb-true (format1 .limit) (length (s .args .oi .now)) (and-left _ _ r), leb-true (format1 .limit) (length (s .args .ov .now)) (and-right _ _ r))))
+    (s .pre .0, (and-left _ _ e, (leb-true (s .args .limit) (length (s .args .oi .now)) (and-left _ _ r), leb-true (s .args .limit) (length (s .args .ov .now)) (and-right _ _ r), s .pre .1, s .pre .2)))
 
 same-length : tie.Need-same-length
 same-length c = search needs

@@ -7,6 +7,7 @@ use Rattle.pack.specs.Bodies.{decoded}
 use Rattle.pack.specs.Format.{format1}
 use Rattle.pack.specs.Judge.{checked}
 use Rattle.pack.specs.declared.Checked.{Checked}
+use Rattle.pack.proofs.Formats.{runnable1}
 use Rattle.pack.proofs.Judged.{passed, turned}
 use Rattle.calls.proofs.Forms.{coerce-ill, coerce-refused, coerce-goes}
 use borrow.Author.Needs.{needs}
@@ -24,13 +25,13 @@ enum-told c = search needs
 
 operand-formed-requires : tie.Need-operand-formed-requires
 operand-formed-requires c κs =
-    passed format1 (c .before .before .before .before .before .args .pack .now) (c .before .before .check .result) (c .enum-told .given .1) (c .before .before .check .ensures)
+    (passed format1 (c .before .before .before .before .before .args .pack .now) (c .before .before .check .result) (c .enum-told .given .1) (c .before .before .check .ensures), runnable1)
 
 returns : tie.Need-returns
 returns c =
     let s = c .before .before .before .before .before .before .before in
     let p = s .args .pack .now in
-    ap placed (coerce-ill p (s .args .items .now) (s .args .values .now) coerceInt (s .args .v) (sym (c .before .before .before .before .check .ensures) ∙ ap (λ (r : Checked). checked r (decoded format1 p)) (c .before .before .enum-told .given .1)) (sym (c .before .operand-formed .ensures) ∙ not-true _ (c .if1 .taken)))
+    ap placed (coerce-ill format1 p (s .args .items .now) (s .args .values .now) coerceInt (s .args .v) (sym (c .before .before .before .before .check .ensures) ∙ ap (λ (r : Checked). checked r (decoded format1 p)) (c .before .before .enum-told .given .1)) (sym (c .before .operand-formed .ensures) ∙ not-true _ (c .if1 .taken)))
 
 coerce-to-int-requires : tie.Need-coerce-to-int-requires
 coerce-to-int-requires c κs = search needs
@@ -39,13 +40,13 @@ returns-2 : tie.Need-returns-2
 returns-2 c =
     let s = c .before .before .before .before .before .before in
     let p = s .args .pack .now in
-    ap placed (coerce-refused p (s .args .items .now) (s .args .values .now) coerceInt (s .args .v) (c .before .number .given .0 .0) (turned format1 p (c .before .before .before .check .result) (c .before .number .given .0 .0) (c .before .number .given .1) (c .before .before .before .check .ensures)))
+    ap placed (coerce-refused format1 p (s .args .items .now) (s .args .values .now) coerceInt (s .args .v) (c .before .number .given .0 .0) (turned format1 p (c .before .before .before .check .result) (c .before .number .given .0 .0) (c .before .number .given .1) (c .before .before .before .check .ensures)))
 
 returns-3 : tie.Need-returns-3
 returns-3 c =
     let s = c .before .before .before .before .before .before .before .before in
     let p = s .args .pack .now in
-    c .coerce-to-int .ensures (s .args .items .now) (s .args .values .now) ∙ ap placed (coerce-goes p (s .args .items .now) (s .args .values .now) coerceInt (s .args .v) (sym (c .before .before .before .before .before .check .ensures) ∙ ap (λ (r : Checked). checked r (decoded format1 p)) (c .before .before .before .enum-told .given .1)) (sym (c .before .before .operand-formed .ensures) ∙ not-false _ (c .before .if1 .left)))
+    c .coerce-to-int .ensures (s .args .items .now) (s .args .values .now) ∙ ap placed (coerce-goes format1 p (s .args .items .now) (s .args .values .now) coerceInt (s .args .v) (sym (c .before .before .before .before .before .check .ensures) ∙ ap (λ (r : Checked). checked r (decoded format1 p)) (c .before .before .before .enum-told .given .1)) (sym (c .before .before .operand-formed .ensures) ∙ not-false _ (c .before .if1 .left)))
 
 pub coerce-to-int-spec : {M : Type 1} → statement M
 coerce-to-int-spec =

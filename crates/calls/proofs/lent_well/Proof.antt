@@ -2,7 +2,6 @@
 use mathlib.Core.Path.{sym, _∙_}
 use borrow.Author.Tests.{lt-leb}
 use Rattle.ink_list.proofs.Every.{and-no-left, and-no-right}
-use Rattle.pack.specs.Format.{format1}
 use Rattle.calls.proofs.Forms.{rooms}
 use borrow.Author.Needs.{needs}
 use Rattle.calls.proofs.lent_well.Statement.{statement}
@@ -11,12 +10,12 @@ use Rattle.calls.proofs.lent_well.Tie as tie
 returns : tie.Need-returns
 returns c =
     let s = c .before .before in
-    sym (and-no-right _ _ (and-no-left _ _ (lt-leb (format1 .limit) (s .args .result-items) (c .if1 .taken))))
+    sym (and-no-right _ _ (and-no-left _ _ (lt-leb (s .args .limit) (s .args .result-items) (c .if1 .taken))))
 
 returns-2 : tie.Need-returns-2
 returns-2 c =
     let s = c .before .before .before in
-    sym (and-no-right _ _ (and-no-right _ _ (lt-leb (format1 .limit) (s .args .result-values) (c .if2 .taken))))
+    sym (and-no-right _ _ (and-no-right _ _ (lt-leb (s .args .limit) (s .args .result-values) (c .if2 .taken))))
 
 used-formed-requires : tie.Need-used-formed-requires
 used-formed-requires c κs = search needs
@@ -24,7 +23,7 @@ used-formed-requires c κs = search needs
 returns-3 : tie.Need-returns-3
 returns-3 c =
     let s = c .before .before .before .before in
-    c .used-formed .ensures ∙ sym (rooms _ (s .args .result-items) (s .args .result-values) (format1 .limit) (c .before .before .if1 .left) (c .before .if2 .left))
+    c .used-formed .ensures ∙ sym (rooms _ (s .args .result-items) (s .args .result-values) (s .args .limit) (c .before .before .if1 .left) (c .before .if2 .left))
 
 pub lent-well-spec : {M : Type 1} → statement M
 lent-well-spec = tie.close (tie.spec returns returns-2 used-formed-requires returns-3)
