@@ -1,17 +1,18 @@
 // Running a sheet of any bytes: questions 1 to 7, the work slices cleared, and then the run.
 use ink_value::Value;
 use pack::Checked;
+use pack::format::Format;
 use pack_check::format::DEFINITION_LIMIT;
+use pack_check::format::FORMAT1;
 use pack_sheets::SLOT_LIMIT;
 use running::Ran;
 use running::run_checked;
 use running::zero_items;
 use running::zero_values;
 use sheet::STACK_LIMIT;
-use stepping::ITEM_LIMIT;
 ghost use mathlib.Core.Path.{_≡_};
 ghost use mathlib.Core.List.{map};
-ghost use Prim.Native.Nat.{_<_};
+ghost use Prim.Native.Nat.{_<_, _≤_};
 ghost use lib.Dec.{ltb};
 ghost use lib.ListN.{length};
 ghost use Rattle.ink_number.specs.Answer.{gives, ask};
@@ -19,14 +20,11 @@ ghost use Rattle.ink_value.specs.Slices.{valIn};
 ghost use Rattle.ink_value.specs.Value.{allFormed};
 ghost use Rattle.pack.specs.Bodies.{decoded};
 ghost use Rattle.pack.specs.Contents.{sheetCount};
-ghost use Rattle.pack.specs.Format.{format1};
+ghost use Rattle.pack.specs.Format.{format1, Runnable};
 ghost use Rattle.pack.specs.Judge.{Sound};
 ghost use Rattle.pack.specs.Read.{endsOf, definedOf};
 ghost use Rattle.sheet.specs.Whole.{opened};
 ghost use Rattle.running.specs.Run.{longEnough, memory, Runs};
-
-// The places of the work slices: the entries of the list at each place of the stack.
-pub const WORK_LIMIT: usize = STACK_LIMIT * ITEM_LIMIT;
 
 // Question 7 of the slots.
 pub fn all_formed(
@@ -58,19 +56,23 @@ pub fn long_enough(
     work_values: &[i32],
     result_items: &[u16],
     result_values: &[i32],
+    format: Format,
 ) -> bool
-    ensures { λ r. ⌜ r ≡ longEnough format1 (now («work_items» .entry)) (now («work_values» .entry)) (now («result_items» .entry)) (now («result_values» .entry)) ⌝ }
+    requires { ⌜ Runnable format ⌝ }
+    ensures { λ r. ⌜ r ≡ longEnough format (now («work_items» .entry)) (now («work_values» .entry)) (now («result_items» .entry)) (now («result_values» .entry)) ⌝ }
 {
-    if result_items.len() < ITEM_LIMIT {
+    let limit = format.limit;
+    let places = STACK_LIMIT * format.limit;
+    if result_items.len() < limit {
         return false;
     }
-    if result_values.len() < ITEM_LIMIT {
+    if result_values.len() < limit {
         return false;
     }
-    if work_items.len() < WORK_LIMIT {
+    if work_items.len() < places {
         return false;
     }
-    WORK_LIMIT <= work_values.len()
+    places <= work_values.len()
 }
 
 // Question 7, and then the run, with the definitions at hand.
@@ -82,13 +84,14 @@ fn run_sheet(
     slots: [Value; 16],
     slot_items: &[u16],
     slot_values: &[i32],
+    format: Format,
     work_items: &mut [u16],
     work_values: &mut [i32],
     result_items: &mut [u16],
     result_values: &mut [i32],
 ) -> Ran
-    requires { ⌜ Sound format1 (now pack) × (sheet < sheetCount (now pack)) × (now ends ≡ endsOf (decoded format1 (now pack))) × (now defined ≡ definedOf (decoded format1 (now pack))) ⌝ }
-    ensures { λ r. ⌜ Runs (ask 7 (memory format1 slots (now («slot_items» .entry)) (now («slot_values» .entry)) (now («work_items» .entry)) (now («work_values» .entry)) (now («result_items» .entry)) (now («result_values» .entry)) (decoded format1 (now (pack .entry)))) (gives (decoded format1 (now (pack .entry)))))
+    requires { ⌜ Sound format (now pack) × (sheet < sheetCount (now pack)) × (now ends ≡ endsOf (decoded format (now pack))) × (now defined ≡ definedOf (decoded format (now pack))) × Runnable format ⌝ }
+    ensures { λ r. ⌜ Runs format (ask 7 (memory format slots (now («slot_items» .entry)) (now («slot_values» .entry)) (now («work_items» .entry)) (now («work_values» .entry)) (now («result_items» .entry)) (now («result_values» .entry)) (decoded format (now (pack .entry)))) (gives (decoded format (now (pack .entry)))))
         sheet (map (valIn «slot_items» «slot_values») slots) r (now («work_items» .entry)) (now («work_items» .exit)) (now («work_values» .entry)) (now («work_values» .exit))
         (now («result_items» .entry)) (now («result_items» .exit)) (now («result_values» .entry)) (now («result_values» .exit)) ⌝ }
 {
@@ -103,14 +106,16 @@ fn run_sheet(
         &work_values[..],
         &result_items[..],
         &result_values[..],
+        format,
     ) {
         return Ran::Stopped {
             number: 7,
             index: 0,
         };
     }
-    zero_items(work_items, 0, WORK_LIMIT);
-    zero_values(work_values, 0, WORK_LIMIT);
+    let places = STACK_LIMIT * format.limit;
+    zero_items(work_items, 0, places);
+    zero_values(work_values, 0, places);
     run_checked(
         pack,
         ends,
@@ -119,6 +124,7 @@ fn run_sheet(
         slots,
         slot_items,
         slot_values,
+        format,
         work_items,
         work_values,
         result_items,
@@ -126,20 +132,22 @@ fn run_sheet(
     )
 }
 
-// Question 6, and on, with a pack that has passed.
+// Question 6, and on, with a pack that has passed. Its definitions' values are read into a slice that is lent for it.
 fn run_passed(
     pack: &[u8],
     sheet: usize,
     slots: [Value; 16],
     slot_items: &[u16],
     slot_values: &[i32],
+    format: Format,
+    defined: &mut [i32],
     work_items: &mut [u16],
     work_values: &mut [i32],
     result_items: &mut [u16],
     result_values: &mut [i32],
 ) -> Ran
-    requires { ⌜ Sound format1 (now pack) ⌝ }
-    ensures { λ r. ⌜ Runs (ask 6 (ltb sheet (length (decoded format1 (now (pack .entry)) .sheets))) (ask 7 (memory format1 slots (now («slot_items» .entry)) (now («slot_values» .entry)) (now («work_items» .entry)) (now («work_values» .entry)) (now («result_items» .entry)) (now («result_values» .entry)) (decoded format1 (now (pack .entry)))) (gives (decoded format1 (now (pack .entry))))))
+    requires { ⌜ Sound format (now pack) × Runnable format × (format .limit ≤ length (now defined)) ⌝ }
+    ensures { λ r. ⌜ Runs format (ask 6 (ltb sheet (length (decoded format (now (pack .entry)) .sheets))) (ask 7 (memory format slots (now («slot_items» .entry)) (now («slot_values» .entry)) (now («work_items» .entry)) (now («work_values» .entry)) (now («result_items» .entry)) (now («result_values» .entry)) (decoded format (now (pack .entry)))) (gives (decoded format (now (pack .entry))))))
         sheet (map (valIn «slot_items» «slot_values») slots) r (now («work_items» .entry)) (now («work_items» .exit)) (now («work_values» .entry)) (now («work_values» .exit))
         (now («result_items» .entry)) (now («result_items» .exit)) (now («result_values» .entry)) (now («result_values» .exit)) ⌝ }
 {
@@ -150,8 +158,7 @@ fn run_passed(
         };
     }
     let mut ends = [0u16; DEFINITION_LIMIT];
-    let mut defined = [0i32; ITEM_LIMIT];
-    let read = pack_read::read_definitions(pack, &mut ends, &mut defined);
+    let read = pack_read::read_definitions(pack, &mut ends, defined, format);
     let definitions = read.definitions;
     let total = read.items;
     run_sheet(
@@ -162,6 +169,7 @@ fn run_passed(
         slots,
         slot_items,
         slot_values,
+        format,
         work_items,
         work_values,
         result_items,
@@ -181,23 +189,28 @@ pub fn run(
     result_items: &mut [u16],
     result_values: &mut [i32],
 ) -> Ran
-    ensures { λ r. ⌜ Runs (opened format1 (now (pack .entry)) sheet (memory format1 slots (now («slot_items» .entry)) (now («slot_values» .entry)) (now («work_items» .entry)) (now («work_values» .entry)) (now («result_items» .entry)) (now («result_values» .entry))))
+    ensures { λ r. ⌜ Runs format1 (opened format1 (now (pack .entry)) sheet (memory format1 slots (now («slot_items» .entry)) (now («slot_values» .entry)) (now («work_items» .entry)) (now («work_values» .entry)) (now («result_items» .entry)) (now («result_values» .entry))))
         sheet (map (valIn «slot_items» «slot_values») slots) r (now («work_items» .entry)) (now («work_items» .exit)) (now («work_values» .entry)) (now («work_values» .exit))
         (now («result_items» .entry)) (now («result_items» .exit)) (now («result_values» .entry)) (now («result_values» .exit)) ⌝ }
 {
     let checked = pack_check::check(pack);
     match checked {
-        Checked::Passed => run_passed(
-            pack,
-            sheet,
-            slots,
-            slot_items,
-            slot_values,
-            work_items,
-            work_values,
-            result_items,
-            result_values,
-        ),
+        Checked::Passed => {
+            let mut defined = [0i32; FORMAT1.limit];
+            run_passed(
+                pack,
+                sheet,
+                slots,
+                slot_items,
+                slot_values,
+                FORMAT1,
+                &mut defined,
+                work_items,
+                work_values,
+                result_items,
+                result_values,
+            )
+        }
         Checked::Refused(number) => Ran::Stopped { number, index: 0 },
     }
 }

@@ -1,8 +1,12 @@
 -- `run_any::long_enough` meets its contract. Assumes nothing.
+use native.Mathlib.Omega.{arith}
 use borrow.Author.Tests.{lt-leb, le-leb}
 use Rattle.ink_list.specs.Every.{_and_}
 use Rattle.run_any.proofs.long_enough.Statement.{statement}
 use Rattle.run_any.proofs.long_enough.Tie as tie
+
+mul-places : tie.Need-mul-places
+mul-places c = let s = c .before in omega (arith, s .pre .few)
 
 returns : tie.Need-returns
 unfolding _and_
@@ -25,4 +29,4 @@ returns-4 c =
     rw (le-leb _ _ (c .before .before .if1 .left), le-leb _ _ (c .before .if2 .left), le-leb _ _ (c .if3 .left))
 
 pub long-enough-spec : {M : Type 1} → statement M
-long-enough-spec = tie.close (tie.spec returns returns-2 returns-3 returns-4)
+long-enough-spec = tie.close (tie.spec mul-places returns returns-2 returns-3 returns-4)

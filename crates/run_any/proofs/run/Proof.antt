@@ -1,9 +1,11 @@
 -- `run_any::run` meets its contract: questions 1 to 5, and then the run of a pack that has passed. Assumes nothing.
 use mathlib.Core.Path.{sym, ap, _∙_}
+use native.Mathlib.Omega.{arith}
 use Rattle.pack.specs.Bodies.{decoded}
 use Rattle.pack.specs.Format.{format1}
 use Rattle.pack.specs.Judge.{checked}
 use Rattle.pack.specs.declared.Checked.{Checked}
+use Rattle.pack.proofs.Formats.{runnable1}
 use Rattle.pack.proofs.Judged.{passed, turned}
 use Rattle.running.proofs.Opening.{runs-stopped, runs-is, opened-no, opened-yes}
 use borrow.Author.Needs.{needs}
@@ -16,10 +18,13 @@ check-requires c κs = search needs
 enum-told : tie.Need-enum-told
 enum-told c = search needs
 
+slice-aggregate-run-passed : tie.Need-slice-aggregate-run-passed
+slice-aggregate-run-passed c = search needs
+
 run-passed-requires : tie.Need-run-passed-requires
 run-passed-requires c κs =
-    let s = c .before .before .before .before .before .before .before .before .before .before .before in
-    passed format1 (s .args .pack .now) (c .before .before .before .before .before .before .check .result) (c .before .before .before .before .enum-told .given .1) (c .before .before .before .before .before .before .check .ensures)
+    let s = c .before .before .before .before .before .before .before .before .before .before .before .before in
+    (passed format1 (s .args .pack .now) (c .before .before .before .before .before .before .before .check .result) (c .before .before .before .before .before .enum-told .given .1) (c .before .before .before .before .before .before .before .check .ensures), runnable1, omega arith)
 
 enum-known-checked : tie.Need-enum-known-checked
 enum-known-checked c = search needs
@@ -38,13 +43,13 @@ same-length-4 c = search needs
 
 returns : tie.Need-returns
 returns c =
-    let s = c .before .before .before .before .before .before .before .before .before .before .before .before .before .before .before .before .before .before in
-    runs-is _ _ _ _ _ _ _ _ _ _ _ _ _ (opened-yes (s .args .pack .now) (s .args .sheet) _ (sym (c .before .before .before .before .before .before .before .before .before .before .before .before .before .check .ensures) ∙ ap (λ (x : Checked). checked x (decoded format1 (s .args .pack .now))) (c .before .before .before .before .before .before .before .before .before .before .before .enum-told .given .1))) (c .before .before .before .before .before .before .run-passed .ensures)
+    let s = c .before .before .before .before .before .before .before .before .before .before .before .before .before .before .before .before .before .before .before .before in
+    runs-is _ _ _ _ _ _ _ _ _ _ _ _ _ (opened-yes format1 (s .args .pack .now) (s .args .sheet) _ (sym (c .before .before .before .before .before .before .before .before .before .before .before .before .before .before .before .check .ensures) ∙ ap (λ (x : Checked). checked x (decoded format1 (s .args .pack .now))) (c .before .before .before .before .before .before .before .before .before .before .before .before .before .enum-told .given .1))) (c .before .before .before .before .before .before .before .run-passed .ensures)
 
 returns-2 : tie.Need-returns-2
 returns-2 c =
     let s = c .before .before .before .before .before .before .before .before in
-    runs-stopped _ _ _ _ _ _ _ _ (opened-no (s .args .pack .now) (s .args .sheet) _ _ (turned format1 (s .args .pack .now) (c .before .before .before .check .result) _ (c .before .checked .given .1) (c .before .before .before .check .ensures)))
+    runs-stopped _ _ _ _ _ _ _ _ (opened-no format1 (s .args .pack .now) (s .args .sheet) _ _ (turned format1 (s .args .pack .now) (c .before .before .before .check .result) _ (c .before .checked .given .1) (c .before .before .before .check .ensures)))
 
 pub run-spec : {M : Type 1} → statement M
 run-spec =
@@ -52,6 +57,7 @@ run-spec =
     (tie.spec
     check-requires
     enum-told
+    slice-aggregate-run-passed
     run-passed-requires
     enum-known-checked
     same-length

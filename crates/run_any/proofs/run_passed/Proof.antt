@@ -8,24 +8,21 @@ use Rattle.run_any.proofs.run_passed.Statement.{statement}
 use Rattle.run_any.proofs.run_passed.Tie as tie
 
 sheet-count-requires : tie.Need-sheet-count-requires
-sheet-count-requires c κs = search needs
+sheet-count-requires c κs = let s = c .before .before .before .before in s .pre .0 .contents .frame
 
 returns : tie.Need-returns
 returns c =
     let s = c .before .before .before .before .before .before in
-    runs-stopped _ 6 _ _ _ _ _ _ (sheet-no (s .args .pack .now) (s .args .sheet) _ (omega (arith, c .before .sheet-count .ensures, c .if1 .taken)))
+    runs-stopped _ 6 _ _ _ _ _ _ (sheet-no (s .args .format) (s .args .pack .now) (s .args .sheet) _ (omega (arith, c .before .sheet-count .ensures, c .if1 .taken, sheets-long (s .args .format) (s .args .pack .now))))
 
 slice-aggregate-read-definitions : tie.Need-slice-aggregate-read-definitions
 slice-aggregate-read-definitions c = search needs
 
-slice-aggregate-read-definitions-2 : tie.Need-slice-aggregate-read-definitions-2
-slice-aggregate-read-definitions-2 c = search needs
-
 read-definitions-requires : tie.Need-read-definitions-requires
 read-definitions-requires c κs =
     let s = c .before .before .before .before .before .before .before .before in
-    let t = pack-tables (s .args .pack .now) (s .pre) in
-    (s .pre, (t .ends-few, t .defined-few))
+    let t = pack-tables (s .args .format) (s .args .pack .now) (s .pre .1 .narrow) (s .pre .0) in
+    (s .pre .1 .narrow, (s .pre .0, (t .ends-few, omega (arith, t .defined-few, s .pre .2))))
 
 array-share-prefix-ends : tie.Need-array-share-prefix-ends
 array-share-prefix-ends c =
@@ -35,8 +32,8 @@ slice-aggregate-run-sheet : tie.Need-slice-aggregate-run-sheet
 slice-aggregate-run-sheet c =
     ends-count (c .before .before .before .read-definitions .ensures)
 
-array-share-prefix-defined : tie.Need-array-share-prefix-defined
-array-share-prefix-defined c =
+slice-reshare-prefix-run-sheet : tie.Need-slice-reshare-prefix-run-sheet
+slice-reshare-prefix-run-sheet c =
     defined-fit (c .before .before .before .read-definitions .ensures)
 
 slice-aggregate-run-sheet-2 : tie.Need-slice-aggregate-run-sheet-2
@@ -48,7 +45,7 @@ run-sheet-requires c κs =
     let s = c .before .before .before .before .before .before .before .before .before .before .before .before .before .before .before .before .before in
     let p = s .args .pack .now in
     let t = c .before .before .before .before .before .before .before .before .read-definitions .ensures in
-    (s .pre, omega (arith, c .before .before .before .before .before .before .before .before .before .before .before .before .sheet-count .ensures, c .before .before .before .before .before .before .before .before .before .before .before .if1 .left, sheets-long p), ends-front t, defined-front t)
+    (s .pre .0, omega (arith, c .before .before .before .before .before .before .before .before .before .before .before .before .sheet-count .ensures, c .before .before .before .before .before .before .before .before .before .before .before .if1 .left, sheets-long (s .args .format) p), ends-front t, defined-front t, s .pre .1)
 
 same-length : tie.Need-same-length
 same-length c = search needs
@@ -62,11 +59,14 @@ same-length-3 c = search needs
 same-length-4 : tie.Need-same-length-4
 same-length-4 c = search needs
 
+same-length-5 : tie.Need-same-length-5
+same-length-5 c = search needs
+
 returns-2 : tie.Need-returns-2
 returns-2 c =
     let s = c .before .before .before .before .before .before .before .before .before .before .before .before .before .before .before .before .before .before .before .before .before .before .before .before in
     let p = s .args .pack .now in
-    runs-is _ _ _ _ _ _ _ _ _ _ _ _ _ (sheet-yes p (s .args .sheet) _ (omega (arith, c .before .before .before .before .before .before .before .before .before .before .before .before .before .before .before .before .before .before .before .sheet-count .ensures, c .before .before .before .before .before .before .before .before .before .before .before .before .before .before .before .before .before .before .if1 .left))) (c .before .before .before .before .before .before .run-sheet .ensures)
+    runs-is _ _ _ _ _ _ _ _ _ _ _ _ _ (sheet-yes (s .args .format) p (s .args .sheet) _ (omega (arith, c .before .before .before .before .before .before .before .before .before .before .before .before .before .before .before .before .before .before .before .sheet-count .ensures, c .before .before .before .before .before .before .before .before .before .before .before .before .before .before .before .before .before .before .if1 .left, sheets-long (s .args .format) (s .args .pack .now)))) (c .before .before .before .before .before .before .run-sheet .ensures)
 
 pub run-passed-spec : {M : Type 1} → statement M
 run-passed-spec =
@@ -75,15 +75,15 @@ run-passed-spec =
     sheet-count-requires
     returns
     slice-aggregate-read-definitions
-    slice-aggregate-read-definitions-2
     read-definitions-requires
     array-share-prefix-ends
     slice-aggregate-run-sheet
-    array-share-prefix-defined
+    slice-reshare-prefix-run-sheet
     slice-aggregate-run-sheet-2
     run-sheet-requires
     same-length
     same-length-2
     same-length-3
     same-length-4
+    same-length-5
     returns-2)

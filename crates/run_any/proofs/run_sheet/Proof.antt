@@ -13,7 +13,7 @@ all-formed-requires c κs = search needs
 returns : tie.Need-returns
 returns c =
     let s = c .before .before .before .before .before .before .before in
-    runs-stopped _ 7 _ _ _ _ _ _ (slots-no (s .args .pack .now) (s .args .ends .now) (s .args .defined .now) (s .args .slots) (s .args .slot-items .now) (s .args .slot-values .now) (s .args .work-items .now) (s .args .work-values .now) (s .args .result-items .now) (s .args .result-values .now) (s .pre .2) (s .pre .3) (sym (c .before .all-formed .ensures) ∙ not-true _ (c .if1 .taken)))
+    runs-stopped _ 7 _ _ _ _ _ _ (slots-no (s .args .format) (s .args .pack .now) (s .args .ends .now) (s .args .defined .now) (s .args .slots) (s .args .slot-items .now) (s .args .slot-values .now) (s .args .work-items .now) (s .args .work-values .now) (s .args .result-items .now) (s .args .result-values .now) (s .pre .2) (s .pre .3) (sym (c .before .all-formed .ensures) ∙ not-true _ (c .if1 .taken)))
 
 long-enough-requires : tie.Need-long-enough-requires
 long-enough-requires c κs = search needs
@@ -33,24 +33,27 @@ same-length-4 c = search needs
 returns-2 : tie.Need-returns-2
 returns-2 c =
     let s = c .before .before .before .before .before .before .before .before .before .before .before .before .before in
-    runs-stopped _ 7 _ _ _ _ _ _ (room-no (s .args .pack .now) (s .args .ends .now) (s .args .defined .now) (s .args .slots) (s .args .slot-items .now) (s .args .slot-values .now) (s .args .work-items .now) (s .args .work-values .now) (s .args .result-items .now) (s .args .result-values .now) (s .pre .2) (s .pre .3) (sym (c .before .long-enough .ensures) ∙ not-true _ (c .if2 .taken)))
+    runs-stopped _ 7 _ _ _ _ _ _ (room-no (s .args .format) (s .args .pack .now) (s .args .ends .now) (s .args .defined .now) (s .args .slots) (s .args .slot-items .now) (s .args .slot-values .now) (s .args .work-items .now) (s .args .work-values .now) (s .args .result-items .now) (s .args .result-values .now) (s .pre .2) (s .pre .3) (sym (c .before .long-enough .ensures) ∙ not-true _ (c .if2 .taken)))
+
+mul-places : tie.Need-mul-places
+mul-places c = let s = c .before .before .before .before .before .before .before .before .before .before .before .before .before .before in omega (arith, s .pre .4 .few)
 
 zero-items-requires : tie.Need-zero-items-requires
 zero-items-requires c κs =
-    let s = c .before .before .before .before .before .before .before .before .before .before .before .before .before .before in
-    let g = long-yes (s .args .work-items .now) (s .args .work-values .now) (s .args .result-items .now) (s .args .result-values .now) (sym (c .before .before .long-enough .ensures) ∙ not-false _ (c .before .if2 .left)) in
+    let s = c .before .before .before .before .before .before .before .before .before .before .before .before .before .before .before in
+    let g = long-yes (s .args .format) (s .args .work-items .now) (s .args .work-values .now) (s .args .result-items .now) (s .args .result-values .now) (sym (c .before .before .before .long-enough .ensures) ∙ not-false _ (c .before .before .if2 .left)) in
     omega (arith, g .work-items)
 
 zero-values-requires : tie.Need-zero-values-requires
 zero-values-requires c κs =
-    let s = c .before .before .before .before .before .before .before .before .before .before .before .before .before .before .before .before .before .before in
-    let g = long-yes (s .args .work-items .now) (s .args .work-values .now) (s .args .result-items .now) (s .args .result-values .now) (sym (c .before .before .before .before .before .before .long-enough .ensures) ∙ not-false _ (c .before .before .before .before .before .if2 .left)) in
+    let s = c .before .before .before .before .before .before .before .before .before .before .before .before .before .before .before .before .before .before .before in
+    let g = long-yes (s .args .format) (s .args .work-items .now) (s .args .work-values .now) (s .args .result-items .now) (s .args .result-values .now) (sym (c .before .before .before .before .before .before .before .long-enough .ensures) ∙ not-false _ (c .before .before .before .before .before .before .if2 .left)) in
     omega (arith, g .work-values)
 
 run-checked-requires : tie.Need-run-checked-requires
 run-checked-requires c κs =
-    let s = c .before .before .before .before .before .before .before .before .before .before .before .before .before .before .before .before .before .before .before .before .before .before .before .before in
-    ((inputs (s .args .pack .now) (s .args .ends .now) (s .args .defined .now) (s .args .slots) (s .args .slot-items .now) (s .args .slot-values .now) (s .args .work-items .now) (s .args .work-values .now) (s .args .result-items .now) (s .args .result-values .now) (s .pre .2) (s .pre .3) (s .pre .0) (sym (c .before .before .before .before .before .before .before .before .before .before .before .before .before .before .before .before .before .before .all-formed .ensures) ∙ not-false _ (c .before .before .before .before .before .before .before .before .before .before .before .before .before .before .before .before .before .if1 .left)), s .pre .1), zeroed-memory _ _ _ _ _ _ (long-yes (s .args .work-items .now) (s .args .work-values .now) (s .args .result-items .now) (s .args .result-values .now) (sym (c .before .before .before .before .before .before .before .before .before .before .before .before .long-enough .ensures) ∙ not-false _ (c .before .before .before .before .before .before .before .before .before .before .before .if2 .left))) (c .before .before .before .before .before .before .before .before .before .zero-items .ensures) (c .before .before .before .before .before .zero-values .ensures))
+    let s = c .before .before .before .before .before .before .before .before .before .before .before .before .before .before .before .before .before .before .before .before .before .before .before .before .before in
+    ((inputs (s .args .format) (s .args .pack .now) (s .args .ends .now) (s .args .defined .now) (s .args .slots) (s .args .slot-items .now) (s .args .slot-values .now) (s .args .work-items .now) (s .args .work-values .now) (s .args .result-items .now) (s .args .result-values .now) (s .pre .2) (s .pre .3) (s .pre .4 .narrow) (s .pre .0) (sym (c .before .before .before .before .before .before .before .before .before .before .before .before .before .before .before .before .before .before .before .all-formed .ensures) ∙ not-false _ (c .before .before .before .before .before .before .before .before .before .before .before .before .before .before .before .before .before .before .if1 .left)), s .pre .1), zeroed-memory (s .args .format) (s .pre .4) _ _ _ _ _ _ (long-yes (s .args .format) (s .args .work-items .now) (s .args .work-values .now) (s .args .result-items .now) (s .args .result-values .now) (sym (c .before .before .before .before .before .before .before .before .before .before .before .before .before .long-enough .ensures) ∙ not-false _ (c .before .before .before .before .before .before .before .before .before .before .before .before .if2 .left))) (c .before .before .before .before .before .before .before .before .before .zero-items .ensures) (c .before .before .before .before .before .zero-values .ensures))
 
 same-length-5 : tie.Need-same-length-5
 same-length-5 c = search needs
@@ -66,8 +69,8 @@ same-length-8 c = search needs
 
 returns-3 : tie.Need-returns-3
 returns-3 c =
-    let s = c .before .before .before .before .before .before .before .before .before .before .before .before .before .before .before .before .before .before .before .before .before .before .before .before .before .before .before .before .before .before .before in
-    runs-given _ (s .args .pack .now) _ _ _ _ _ _ _ _ _ _ _ (memory-yes (s .args .pack .now) (s .args .ends .now) (s .args .defined .now) (s .args .slots) (s .args .slot-items .now) (s .args .slot-values .now) (s .args .work-items .now) (s .args .work-values .now) (s .args .result-items .now) (s .args .result-values .now) (s .pre .2) (s .pre .3) (sym (c .before .before .before .before .before .before .before .before .before .before .before .before .before .before .before .before .before .before .before .before .before .before .before .before .before .all-formed .ensures) ∙ not-false _ (c .before .before .before .before .before .before .before .before .before .before .before .before .before .before .before .before .before .before .before .before .before .before .before .before .if1 .left)) (sym (c .before .before .before .before .before .before .before .before .before .before .before .before .before .before .before .before .before .before .before .long-enough .ensures) ∙ not-false _ (c .before .before .before .before .before .before .before .before .before .before .before .before .before .before .before .before .before .before .if2 .left))) (c .before .before .before .before .before .before .run-checked .ensures .0) (c .before .before .before .before .before .before .run-checked .ensures .1 .0 ∙ c .before .before .before .before .before .before .before .before .before .before .before .before .before .before .before .before .zero-items .ensures) (c .before .before .before .before .before .before .run-checked .ensures .1 .1 ∙ c .before .before .before .before .before .before .before .before .before .before .before .before .zero-values .ensures)
+    let s = c .before .before .before .before .before .before .before .before .before .before .before .before .before .before .before .before .before .before .before .before .before .before .before .before .before .before .before .before .before .before .before .before in
+    runs-given _ (s .args .pack .now) _ _ _ _ _ _ _ _ _ _ _ (memory-yes (s .args .format) (s .args .pack .now) (s .args .ends .now) (s .args .defined .now) (s .args .slots) (s .args .slot-items .now) (s .args .slot-values .now) (s .args .work-items .now) (s .args .work-values .now) (s .args .result-items .now) (s .args .result-values .now) (s .pre .2) (s .pre .3) (sym (c .before .before .before .before .before .before .before .before .before .before .before .before .before .before .before .before .before .before .before .before .before .before .before .before .before .before .all-formed .ensures) ∙ not-false _ (c .before .before .before .before .before .before .before .before .before .before .before .before .before .before .before .before .before .before .before .before .before .before .before .before .before .if1 .left)) (sym (c .before .before .before .before .before .before .before .before .before .before .before .before .before .before .before .before .before .before .before .before .long-enough .ensures) ∙ not-false _ (c .before .before .before .before .before .before .before .before .before .before .before .before .before .before .before .before .before .before .before .if2 .left))) (c .before .before .before .before .before .before .run-checked .ensures .0) (c .before .before .before .before .before .before .run-checked .ensures .1 .0 ∙ c .before .before .before .before .before .before .before .before .before .before .before .before .before .before .before .before .zero-items .ensures) (c .before .before .before .before .before .before .run-checked .ensures .1 .1 ∙ c .before .before .before .before .before .before .before .before .before .before .before .before .zero-values .ensures)
 
 pub run-sheet-spec : {M : Type 1} → statement M
 run-sheet-spec =
@@ -81,6 +84,7 @@ run-sheet-spec =
     same-length-3
     same-length-4
     returns-2
+    mul-places
     zero-items-requires
     zero-values-requires
     run-checked-requires
