@@ -5,7 +5,6 @@ use ink_value::Value;
 use native_function_call::real;
 use native_function_call::test;
 use native_function_call::whole;
-use pack_check::format::FORMAT1;
 use value_words::answers;
 use value_words::words;
 ghost use mathlib.Core.Path.{_≡_};
@@ -24,7 +23,6 @@ ghost use Rattle.ink_value.specs.Value.{valOf, Formed, FirstFormed};
 ghost use Rattle.ink_value.specs.Slices.{valIn};
 ghost use Rattle.native_function_call.specs.Apply.{ofInt, compute};
 ghost use Rattle.native_function_call.specs.Lists.{Room, definitions, definitionsIn};
-ghost use Rattle.pack.specs.Format.{format1};
 ghost use Rattle.calls.specs.Call.{operandsOk, called, PackLists};
 ghost use Rattle.value_words.specs.Words.{valueAt};
 ghost use Rattle.value_words.specs.Calls.{operandsIn, Says, Calls};
@@ -214,13 +212,14 @@ fn list(
     values: &[i32],
     ends: &[u16],
     defined: &[i32],
+    limit: usize,
     result_items: &mut [u16],
     result_values: &mut [i32],
     answer: &mut [u64; 3],
 ) -> u32
-    requires { ⌜ Room (definitions (now ends) (now defined) (format1 .limit)) (now «result_items») (now «result_values») × (1 ≤ count) × (count ≤ 3) ⌝ }
-    requires { ⌜ FirstIn (format1 .limit) (now items) (now values) count (now operands) ⌝ }
-    ensures { λ r. ⌜ Calls (compute (definitionsIn ends defined (format1 .limit)) op (take count (valsAt (now (items .entry)) (now (values .entry)) (now (operands .entry)))) listK)
+    requires { ⌜ Room (definitions (now ends) (now defined) limit) (now «result_items») (now «result_values») × (1 ≤ count) × (count ≤ 3) ⌝ }
+    requires { ⌜ FirstIn limit (now items) (now values) count (now operands) ⌝ }
+    ensures { λ r. ⌜ Calls (compute (definitionsIn ends defined limit) op (take count (valsAt (now (items .entry)) (now (values .entry)) (now (operands .entry)))) listK)
         r (now (answer .exit)) (now («result_items» .entry)) (now («result_items» .exit)) (now («result_values» .entry)) (now («result_values» .exit)) ⌝ }
 {
     let a = words::operand_at(operands, 0);
@@ -236,7 +235,7 @@ fn list(
         values,
         ends,
         defined,
-        FORMAT1.limit,
+        limit,
         result_items,
         result_values,
     );
@@ -252,14 +251,15 @@ pub fn apply(
     values: &[i32],
     ends: &[u16],
     defined: &[i32],
+    limit: usize,
     result_items: &mut [u16],
     result_values: &mut [i32],
     answer: &mut [u64; 3],
 ) -> u32
-    requires { ⌜ PackLists (now ends) (now defined) ⌝ }
-    requires { ⌜ operandsOk (definitions (now ends) (now defined) (format1 .limit)) (now items) (now values) (take count (operandsIn (now operands))) ≡ true ⌝ }
-    requires { ⌜ (format1 .limit ≤ length (now «result_items»)) × (format1 .limit ≤ length (now «result_values»)) ⌝ }
-    ensures { λ r. ⌜ Calls (called (now (items .entry)) (now (values .entry)) (now («result_items» .entry)) (now («result_values» .entry)) op count (operandsIn (now (operands .entry))) (definitionsIn ends defined (format1 .limit)))
+    requires { ⌜ PackLists limit (now ends) (now defined) ⌝ }
+    requires { ⌜ operandsOk (definitions (now ends) (now defined) limit) (now items) (now values) (take count (operandsIn (now operands))) ≡ true ⌝ }
+    requires { ⌜ (limit ≤ length (now «result_items»)) × (limit ≤ length (now «result_values»)) × (1 ≤ limit) × (limit < itemNumbers) ⌝ }
+    ensures { λ r. ⌜ Calls (called (now (items .entry)) (now (values .entry)) (now («result_items» .entry)) (now («result_values» .entry)) op count (operandsIn (now (operands .entry))) (definitionsIn ends defined limit))
         r (now (answer .exit)) (now («result_items» .entry)) (now («result_items» .exit)) (now («result_values» .entry)) (now («result_values» .exit)) ⌝ }
 {
     let kind = native_function_call::kinds(
@@ -282,6 +282,7 @@ pub fn apply(
             values,
             ends,
             defined,
+            limit,
             result_items,
             result_values,
             answer,

@@ -7,7 +7,6 @@ use Rattle.ink_value.specs.Val.{kindAt}
 use Rattle.kind_table.specs.Kinds.{kindCall}
 use Rattle.native_function_call.specs.Lists.{definitions}
 use Rattle.native_function_call.specs.Apply.{compute}
-use Rattle.pack.specs.Format.{format1}
 use Rattle.value_words.specs.Words.{valueAt}
 use Rattle.value_words.proofs.Saying.{refused-calls, calls-is}
 use Rattle.word_operators.specs.Operands.{valsAt}
@@ -51,8 +50,8 @@ returns c =
     let is = s .args .items .now in
     let vs = s .args .values .now in
     let ws = s .args .operands .now in
-    let g = ap (kindCall (s .args .op) (s .args .count)) (kinds-at is vs ws (s .args .count) (held (s .args .ends .now) (s .args .defined .now) is vs (s .args .result-items .now) (s .args .result-values .now) ws (s .args .op) (s .args .count) (s .pre .0) (s .pre .1 .0) (search needs))) ∙ sym (rw (c .before .before .before .before .before .before .before .before .before .code-in .ensures .0, c .before .before .before .before .before .before .before .code-in2 .ensures .0, c .before .before .before .before .before .code-in3 .ensures .0) at (c .before .before .before .before .kinds .ensures .answered)) in
-    refused-calls _ (c .before .before .before .before .kinds .result) _ _ _ _ (called-no (s .args .ends .now) (s .args .defined .now) is vs (s .args .result-items .now) (s .args .result-values .now) (valueAt ws 0) (valueAt ws 1) (valueAt ws 2) (s .args .op) (s .args .count) (s .pre .0) (s .pre .1 .0) (s .pre .1 .1 .0) (s .pre .1 .1 .1) (c .before .before .before .before .kinds .result) g (c .before .before .before .if1 .taken)) (c .number .ensures) (c .before .put-index .ensures)
+    let g = ap (kindCall (s .args .op) (s .args .count)) (kinds-at is vs ws (s .args .count) (held (s .args .limit) (s .pre .1 .1 .2) (s .pre .1 .1 .3) (s .args .ends .now) (s .args .defined .now) is vs (s .args .result-items .now) (s .args .result-values .now) ws (s .args .op) (s .args .count) (s .pre .0) (s .pre .1 .0) (search needs))) ∙ sym (rw (c .before .before .before .before .before .before .before .before .before .code-in .ensures .0, c .before .before .before .before .before .before .before .code-in2 .ensures .0, c .before .before .before .before .before .code-in3 .ensures .0) at (c .before .before .before .before .kinds .ensures .answered)) in
+    refused-calls _ (c .before .before .before .before .kinds .result) _ _ _ _ (called-no (s .args .limit) (s .pre .1 .1 .2) (s .pre .1 .1 .3) (s .args .ends .now) (s .args .defined .now) is vs (s .args .result-items .now) (s .args .result-values .now) (valueAt ws 0) (valueAt ws 1) (valueAt ws 2) (s .args .op) (s .args .count) (s .pre .0) (s .pre .1 .0) (s .pre .1 .1 .0) (s .pre .1 .1 .1) (c .before .before .before .before .kinds .result) g (c .before .before .before .if1 .taken)) (c .number .ensures) (c .before .put-index .ensures)
 
 list-requires : tie.Need-list-requires
 list-requires c κs =
@@ -61,7 +60,7 @@ list-requires c κs =
     let vs = s .args .values .now in
     let ws = s .args .operands .now in
     let q = c .before .before .before .before .before .kinds .ensures .counted (omega (arith, c .before .before .before .before .if1 .left)) in
-    ((room (s .args .ends .now) (s .args .defined .now) is vs (s .args .result-items .now) (s .args .result-values .now) (valueAt ws 0) (valueAt ws 1) (valueAt ws 2) (s .args .op) (s .args .count) (s .pre .0) (s .pre .1 .0) (s .pre .1 .1 .0) (s .pre .1 .1 .1), q .0, q .1), first (s .args .ends .now) (s .args .defined .now) is vs (s .args .result-items .now) (s .args .result-values .now) (valueAt ws 0) (valueAt ws 1) (valueAt ws 2) (s .args .op) (s .args .count) (s .pre .0) (s .pre .1 .0) (s .pre .1 .1 .0) (s .pre .1 .1 .1))
+    ((room (s .args .limit) (s .pre .1 .1 .2) (s .pre .1 .1 .3) (s .args .ends .now) (s .args .defined .now) is vs (s .args .result-items .now) (s .args .result-values .now) (valueAt ws 0) (valueAt ws 1) (valueAt ws 2) (s .args .op) (s .args .count) (s .pre .0) (s .pre .1 .0) (s .pre .1 .1 .0) (s .pre .1 .1 .1), q .0, q .1), first (s .args .limit) (s .pre .1 .1 .2) (s .pre .1 .1 .3) (s .args .ends .now) (s .args .defined .now) is vs (s .args .result-items .now) (s .args .result-values .now) (valueAt ws 0) (valueAt ws 1) (valueAt ws 2) (s .args .op) (s .args .count) (s .pre .0) (s .pre .1 .0) (s .pre .1 .1 .0) (s .pre .1 .1 .1))
 
 same-length : tie.Need-same-length
 same-length c = search needs
@@ -75,9 +74,9 @@ returns-2 c =
     let is = s .args .items .now in
     let vs = s .args .values .now in
     let ws = s .args .operands .now in
-    let g = ap (kindCall (s .args .op) (s .args .count)) (kinds-at is vs ws (s .args .count) (held (s .args .ends .now) (s .args .defined .now) is vs (s .args .result-items .now) (s .args .result-values .now) ws (s .args .op) (s .args .count) (s .pre .0) (s .pre .1 .0) (search needs))) ∙ sym (rw (c .before .before .before .before .before .before .before .before .before .before .before .before .before .before .code-in .ensures .0, c .before .before .before .before .before .before .before .before .before .before .before .before .code-in2 .ensures .0, c .before .before .before .before .before .before .before .before .before .before .code-in3 .ensures .0) at (c .before .before .before .before .before .before .before .before .before .kinds .ensures .answered)) in
-    let u = definitions (s .args .ends .now) (s .args .defined .now) (format1 .limit) in
-    calls-is (called-yes (s .args .ends .now) (s .args .defined .now) is vs (s .args .result-items .now) (s .args .result-values .now) (valueAt ws 0) (valueAt ws 1) (valueAt ws 2) (s .args .op) (s .args .count) (s .pre .0) (s .pre .1 .0) (s .pre .1 .1 .0) (s .pre .1 .1 .1) (c .before .before .before .before .before .before .before .before .before .kinds .result) g (omega (arith, c .before .before .before .before .before .before .before .before .if1 .left))
+    let g = ap (kindCall (s .args .op) (s .args .count)) (kinds-at is vs ws (s .args .count) (held (s .args .limit) (s .pre .1 .1 .2) (s .pre .1 .1 .3) (s .args .ends .now) (s .args .defined .now) is vs (s .args .result-items .now) (s .args .result-values .now) ws (s .args .op) (s .args .count) (s .pre .0) (s .pre .1 .0) (search needs))) ∙ sym (rw (c .before .before .before .before .before .before .before .before .before .before .before .before .before .before .code-in .ensures .0, c .before .before .before .before .before .before .before .before .before .before .before .before .code-in2 .ensures .0, c .before .before .before .before .before .before .before .before .before .before .code-in3 .ensures .0) at (c .before .before .before .before .before .before .before .before .before .kinds .ensures .answered)) in
+    let u = definitions (s .args .ends .now) (s .args .defined .now) (s .args .limit) in
+    calls-is (called-yes (s .args .limit) (s .pre .1 .1 .2) (s .pre .1 .1 .3) (s .args .ends .now) (s .args .defined .now) is vs (s .args .result-items .now) (s .args .result-values .now) (valueAt ws 0) (valueAt ws 1) (valueAt ws 2) (s .args .op) (s .args .count) (s .pre .0) (s .pre .1 .0) (s .pre .1 .1 .0) (s .pre .1 .1 .1) (c .before .before .before .before .before .before .before .before .before .kinds .result) g (omega (arith, c .before .before .before .before .before .before .before .before .if1 .left))
     ∙ ap (λ (j : ℕ). compute u (s .args .op) (take (s .args .count) (valsAt is vs ws)) (kindAt j)) (c .before .before .before .before .before .before .before .if2 .taken)) (c .before .before .before .list .ensures)
 
 scalar-requires : tie.Need-scalar-requires
@@ -89,7 +88,7 @@ scalar-requires c κs =
     let q = c .before .before .before .kinds .ensures .counted (omega (arith, c .before .before .if1 .left)) in
     let n3 : s .args .count ≡ 3 → ⊥ = λ e. c .before .if2 .left (q .2 e) in (
       (omega (arith, c .before .before .if1 .left), c .before .if2 .left, q .0, omega (arith, n3, q .1)),
-      (held (s .args .ends .now) (s .args .defined .now) is vs (s .args .result-items .now) (s .args .result-values .now) ws (s .args .op) (s .args .count) (s .pre .0) (s .pre .1 .0) (search needs), first-in (s .args .ends .now) (s .args .defined .now) is vs (s .args .result-items .now) (s .args .result-values .now) ws (s .args .op) (s .args .count) (s .pre .0) (s .pre .1 .0)),
+      (held (s .args .limit) (s .pre .1 .1 .2) (s .pre .1 .1 .3) (s .args .ends .now) (s .args .defined .now) is vs (s .args .result-items .now) (s .args .result-values .now) ws (s .args .op) (s .args .count) (s .pre .0) (s .pre .1 .0) (search needs), first-in (s .args .limit) (s .pre .1 .1 .2) (s .pre .1 .1 .3) (s .args .ends .now) (s .args .defined .now) is vs (s .args .result-items .now) (s .args .result-values .now) ws (s .args .op) (s .args .count) (s .pre .0) (s .pre .1 .0)),
     )
 
 returns-3 : tie.Need-returns-3
@@ -98,11 +97,11 @@ returns-3 c =
     let is = s .args .items .now in
     let vs = s .args .values .now in
     let ws = s .args .operands .now in
-    let g = ap (kindCall (s .args .op) (s .args .count)) (kinds-at is vs ws (s .args .count) (held (s .args .ends .now) (s .args .defined .now) is vs (s .args .result-items .now) (s .args .result-values .now) ws (s .args .op) (s .args .count) (s .pre .0) (s .pre .1 .0) (search needs))) ∙ sym (rw (c .before .before .before .before .before .before .before .before .before .code-in .ensures .0, c .before .before .before .before .before .before .before .code-in2 .ensures .0, c .before .before .before .before .before .code-in3 .ensures .0) at (c .before .before .before .before .kinds .ensures .answered)) in
+    let g = ap (kindCall (s .args .op) (s .args .count)) (kinds-at is vs ws (s .args .count) (held (s .args .limit) (s .pre .1 .1 .2) (s .pre .1 .1 .3) (s .args .ends .now) (s .args .defined .now) is vs (s .args .result-items .now) (s .args .result-values .now) ws (s .args .op) (s .args .count) (s .pre .0) (s .pre .1 .0) (search needs))) ∙ sym (rw (c .before .before .before .before .before .before .before .before .before .code-in .ensures .0, c .before .before .before .before .before .before .before .code-in2 .ensures .0, c .before .before .before .before .before .code-in3 .ensures .0) at (c .before .before .before .before .kinds .ensures .answered)) in
     let q = c .before .before .before .before .kinds .ensures .counted (omega (arith, c .before .before .before .if1 .left)) in
     let n3 : s .args .count ≡ 3 → ⊥ = λ e. c .before .before .if2 .left (q .2 e) in
-    let u = definitions (s .args .ends .now) (s .args .defined .now) (format1 .limit) in
-    calls-is (called-two (s .args .ends .now) (s .args .defined .now) is vs (s .args .result-items .now) (s .args .result-values .now) (valueAt ws 0) (valueAt ws 1) (valueAt ws 2) (s .args .op) (s .args .count) (s .pre .0) (s .pre .1 .0) (s .pre .1 .1 .0) (s .pre .1 .1 .1) (c .before .before .before .before .kinds .result) g (omega (arith, c .before .before .before .if1 .left)) (q .0) (omega (arith, n3, q .1)))
+    let u = definitions (s .args .ends .now) (s .args .defined .now) (s .args .limit) in
+    calls-is (called-two (s .args .limit) (s .pre .1 .1 .2) (s .pre .1 .1 .3) (s .args .ends .now) (s .args .defined .now) is vs (s .args .result-items .now) (s .args .result-values .now) (valueAt ws 0) (valueAt ws 1) (valueAt ws 2) (s .args .op) (s .args .count) (s .pre .0) (s .pre .1 .0) (s .pre .1 .1 .0) (s .pre .1 .1 .1) (c .before .before .before .before .kinds .result) g (omega (arith, c .before .before .before .if1 .left)) (q .0) (omega (arith, n3, q .1)))
     (said-calls u (s .args .op) _ (c .before .before .before .before .kinds .result) (c .before .before .if2 .left) _ _ _ _ (c .scalar .ensures u))
 
 pub apply-spec : {M : Type 1} → statement M

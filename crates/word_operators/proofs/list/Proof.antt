@@ -7,7 +7,6 @@ use Rattle.ink_value.proofs.Results.{first-wf}
 use Rattle.native_function_call.specs.Lists.{definitions}
 use Rattle.native_function_call.specs.Apply.{compute}
 use Rattle.native_function_call.proofs.Results.{compute-fine}
-use Rattle.pack.specs.Format.{format1}
 use Rattle.value_words.specs.Words.{valueAt}
 use Rattle.value_words.proofs.Saying.{calls}
 use Rattle.value_words.proofs.Few.{small-outcome}
@@ -36,10 +35,10 @@ outcome-requires c κs =
     let is = s .args .items .now in
     let vs = s .args .values .now in
     let ws = s .args .operands .now in
-    let u = definitions (s .args .ends .now) (s .args .defined .now) (format1 .limit) in
+    let u = definitions (s .args .ends .now) (s .args .defined .now) (s .args .limit) in
     let l = take (s .args .count) (valsAt is vs ws) in
-    small-outcome (compute u (s .args .op) l listK) _ (rw (c .before .before .before .before .before .before .before .before .before .operand-at .ensures, c .before .before .before .before .before .before .before .before .operand-at2 .ensures, c .before .before .before .before .before .before .before .operand-at3 .ensures) at (c .before .before .before .before .list .ensures .answered))
-    (compute-fine u (omega arith) (s .pre .0 .0 .within) (s .args .op) l listK (first-wf (format1 .limit) is vs (s .args .count) (valueAt ws 0) (valueAt ws 1) (valueAt ws 2) (s .pre .1)) .few)
+    small-outcome (s .args .limit) (s .pre .0 .0 .small) (compute u (s .args .op) l listK) _ (rw (c .before .before .before .before .before .before .before .before .before .operand-at .ensures, c .before .before .before .before .before .before .before .before .operand-at2 .ensures, c .before .before .before .before .before .before .before .operand-at3 .ensures) at (c .before .before .before .before .list .ensures .answered))
+    (compute-fine u (s .pre .0 .0 .some) (s .pre .0 .0 .within) (s .args .op) l listK (first-wf (s .args .limit) is vs (s .args .count) (valueAt ws 0) (valueAt ws 1) (valueAt ws 2) (s .pre .1)) .few)
 
 same-length : tie.Need-same-length
 same-length c = search needs
