@@ -8,7 +8,7 @@ use lib.ListN.{length, getD}
 use Rattle.ink_value.specs.Val.{Val, bool, int, float, list, void, kindOf, codeOf}
 use Rattle.ink_value.specs.Value.{valOf, placedVal, codeOfValue}
 use Rattle.ink_value.specs.declared.Value.{Value}
-use Rattle.pack.specs.Format.{format1}
+use Rattle.pack.specs.declared.format.Format.{Format}
 use Rattle.sheet.specs.Foretold.{StopsByValue, Foretold}
 use Rattle.sheet.specs.Machine.{End, ended, stopped, Run}
 use Rattle.sheet.specs.Whole.{opened, countOf, sheetRun}
@@ -46,17 +46,17 @@ answered (Vet.Passed m) n f b r c a g =
     subst (λ (k : ℕ). ForetoldAnswer (Vet.Passed k) f r) (sym c) (ends (b .end) r a f n m (length (b .stacks) ≡ n) (g .1))
 answered (Vet.Refused q k) n f b r c a g = stops (b .end) r a f q k g
 
-pub both : (p : List ℕ) (s : ℕ) (codes : List ℕ) (slots : List Value) (si : List ℕ) (sv : List ℤ) (b : VettedRun) (f f′ wi wi′ : List ℕ) (wv wv′ : List ℤ) (ri ri′ : List ℕ) (rv rv′ : List ℤ)
-    → Answers format1 p s codes (b .vetted) f f′
-    → Runs (opened format1 p s (memory format1 slots si sv wi wv ri rv)) s (map (valOf si sv) slots) (b .ran) wi wi′ wv wv′ ri ri′ rv rv′
-    → Both p s codes slots si sv b f f′ wi wi′ wv wv′ ri ri′ rv rv′
-both p s codes slots si sv b f f′ wi wi′ wv wv′ ri ri′ rv rv′ a w =
-    let ready = memory format1 slots si sv wi wv ri rv in
+pub both : {F : Format} (p : List ℕ) (s : ℕ) (codes : List ℕ) (slots : List Value) (si : List ℕ) (sv : List ℤ) (b : VettedRun) (f f′ wi wi′ : List ℕ) (wv wv′ : List ℤ) (ri ri′ : List ℕ) (rv rv′ : List ℤ)
+    → Answers F p s codes (b .vetted) f f′
+    → Runs F (opened F p s (memory F slots si sv wi wv ri rv)) s (map (valOf si sv) slots) (b .ran) wi wi′ wv wv′ ri ri′ rv rv′
+    → Both F p s codes slots si sv b f f′ wi wi′ wv wv′ ri ri′ rv rv′
+both {F} p s codes slots si sv b f f′ wi wi′ wv wv′ ri ri′ rv rv′ a w =
+    let ready = memory F slots si sv wi wv ri rv in
     let vs = map (valOf si sv) slots in
     record {
       vetted = a;
       ran = w;
       foretold = λ m n k.
           let g = a .foretold ready vs m n k in
-          (g, answered (b .vetted) (countOf (opened format1 p s (vettingMemory codes f)) s) f′ (sheetRun format1 p s ready vs) (b .ran) (a .counted) (w .ran .answered) g);
+          (g, answered (b .vetted) (countOf (opened F p s (vettingMemory codes f)) s) f′ (sheetRun F p s ready vs) (b .ran) (a .counted) (w .ran .answered) g);
     }

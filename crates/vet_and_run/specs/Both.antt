@@ -11,7 +11,7 @@ use Rattle.ink_value.specs.Val.{kindOf, kindAt}
 use Rattle.ink_value.specs.Value.{valOf, codeOfValue}
 use Rattle.ink_value.specs.declared.Value.{Value}
 use Rattle.pack.specs.Bodies.{Pack}
-use Rattle.pack.specs.Format.{format1}
+use Rattle.pack.specs.declared.format.Format.{Format}
 use Rattle.pack.specs.Judge.{judge}
 use Rattle.sheet.specs.Foretold.{ByValue, Foretold}
 use Rattle.sheet.specs.Whole.{opened, countOf, sheetRun}
@@ -34,18 +34,18 @@ ForetoldAnswer (Vet.Passed n) f r = ((v : Value) × (r ≡ Rn.Ended v) × (codeO
 ForetoldAnswer (Vet.Refused q k) f r = StoppedByValue (λ i. i < k) r ⊎ (r ≡ Rn.Stopped q k)
 
 -- question 7 is answered yes where the pack passed
-abbrev pub Ready : List ℕ → (Pack → Bool) → Type 0
-Ready p m = (d : Pack) → judge format1 p ≡ gives d → m d ≡ true
+abbrev pub Ready : Format → List ℕ → (Pack → Bool) → Type 0
+Ready F p m = (d : Pack) → judge F p ≡ gives d → m d ≡ true
 
-module _ (p : List ℕ) (s : ℕ) (codes : List ℕ) (slots : List Value) (si : List ℕ) (sv : List ℤ) (b : VettedRun) (f f′ wi wi′ : List ℕ) (wv wv′ : List ℤ) (ri ri′ : List ℕ) (rv rv′ : List ℤ) where
+module _ (F : Format) (p : List ℕ) (s : ℕ) (codes : List ℕ) (slots : List Value) (si : List ℕ) (sv : List ℤ) (b : VettedRun) (f f′ wi wi′ : List ℕ) (wv wv′ : List ℤ) (ri ri′ : List ℕ) (rv rv′ : List ℤ) where
   -- question 7 of the run
   abbrev pub runMemory : Pack → Bool
-  runMemory = memory format1 slots si sv wi wv ri rv
+  runMemory = memory F slots si sv wi wv ri rv
 
   pub record Both : Type 0 where
-    pub vetted : Answers format1 p s codes (b .vetted) f f′
-    pub ran : Runs (opened format1 p s runMemory) s (map (valOf si sv) slots) (b .ran) wi wi′ wv wv′ ri ri′ rv rv′
+    pub vetted : Answers F p s codes (b .vetted) f f′
+    pub ran : Runs F (opened F p s runMemory) s (map (valOf si sv) slots) (b .ran) wi wi′ wv wv′ ri ri′ rv rv′
     -- demand 3, of the two answers and the forecast's bytes as the calls leave them: "memory long enough", slots of those kinds
-    pub foretold : Ready p (vettingMemory codes f) → Ready p runMemory → map kindOf (map (valOf si sv) slots) ≡ map kindAt codes
-        → Foretold (countOf (opened format1 p s (vettingMemory codes f)) s) (verdictOf (b .vetted)) f′ (sheetRun format1 p s runMemory (map (valOf si sv) slots))
+    pub foretold : Ready F p (vettingMemory codes f) → Ready F p runMemory → map kindOf (map (valOf si sv) slots) ≡ map kindAt codes
+        → Foretold (countOf (opened F p s (vettingMemory codes f)) s) (verdictOf (b .vetted)) f′ (sheetRun F p s runMemory (map (valOf si sv) slots))
         × ForetoldAnswer (b .vetted) f′ (b .ran)
