@@ -10,7 +10,8 @@ use Rattle.ink_number.specs.Answer.{Answer, gives}
 use Rattle.ink_list.specs.Filled.{over}
 use Rattle.ink_value.specs.Val.{Val}
 use Rattle.pack.specs.Bodies.{Pack, decoded}
-use Rattle.pack.specs.Format.{format1}
+use Rattle.pack.specs.Format.{Runnable}
+use Rattle.pack.specs.declared.format.Format.{Format}
 use Rattle.stepping.specs.Steps.{workLimit}
 use Rattle.running.specs.Run.{RanTo, Memory, runOf, Runs}
 use Rattle.running.specs.declared.Ran.{Ran}
@@ -25,9 +26,10 @@ stays {A} d n l h z =
     (λ i q. getD-take n l i d (omega (arith, long)) ∙ z i (omega (arith, long)) ∙ sym (getD-replicate n i d d (omega (arith, long)))) in
     ap (λ (m : ℕ). replicate n d ++ drop m l) (length-replicate n d) ∙ ap (λ (r : List A). r ++ drop n l) (sym t) ∙ take-append-drop n l
 
-pub clear-memory : (wi : List ℕ) (wv : List ℤ) (ri : List ℕ) (rv : List ℤ) → Clear wi wv → Long wi wv ri rv → Memory wi wv ri rv
-clear-memory wi wv ri rv z l =
+pub clear-memory : (F : Format) → Runnable F → (wi : List ℕ) (wv : List ℤ) (ri : List ℕ) (rv : List ℤ) → Clear F wi wv → Long F wi wv ri rv → Memory F wi wv ri rv
+clear-memory F f wi wv ri rv z l =
     record {
+      format = f;
       items-room = l .work-items;
       values-room = l .work-values;
       items-zero = z .items-clear;
@@ -36,13 +38,13 @@ clear-memory wi wv ri rv z l =
       result-values = l .result-values;
     }
 
-pub runs-clear : (a : Answer Pack) (p : List ℕ) (s : ℕ) (slots : List Val) (r : Ran) (wi wi′ : List ℕ) (wv wv′ : List ℤ) (ri ri′ : List ℕ) (rv rv′ : List ℤ)
-    → Clear wi wv → Long wi wv ri rv → a ≡ gives (decoded format1 p) → RanTo (runOf p s slots) r ri ri′ rv rv′ → wi′ ≡ wi → wv′ ≡ wv
-    → Runs a s slots r wi wi′ wv wv′ ri ri′ rv rv′
-runs-clear a p s slots r wi wi′ wv wv′ ri ri′ rv rv′ z l e w hi hv =
-    subst (λ (x : Answer Pack). Runs x s slots r wi wi′ wv wv′ ri ri′ rv rv′) (sym e)
+pub runs-clear : {F : Format} (a : Answer Pack) (p : List ℕ) (s : ℕ) (slots : List Val) (r : Ran) (wi wi′ : List ℕ) (wv wv′ : List ℤ) (ri ri′ : List ℕ) (rv rv′ : List ℤ)
+    → Clear F wi wv → Long F wi wv ri rv → a ≡ gives (decoded F p) → RanTo (runOf F p s slots) r ri ri′ rv rv′ → wi′ ≡ wi → wv′ ≡ wv
+    → Runs F a s slots r wi wi′ wv wv′ ri ri′ rv rv′
+runs-clear {F} a p s slots r wi wi′ wv wv′ ri ri′ rv rv′ z l e w hi hv =
+    subst (λ (x : Answer Pack). Runs F x s slots r wi wi′ wv wv′ ri ri′ rv rv′) (sym e)
     (record {
       ran = w;
-      items-left = hi ∙ sym (stays 0 (workLimit format1) wi (l .work-items) (z .items-clear));
-      values-left = hv ∙ sym (stays (pos 0) (workLimit format1) wv (l .work-values) (z .values-clear));
+      items-left = hi ∙ sym (stays 0 (workLimit F) wi (l .work-items) (z .items-clear));
+      values-left = hv ∙ sym (stays (pos 0) (workLimit F) wv (l .work-values) (z .values-clear));
     })

@@ -8,7 +8,8 @@ use Rattle.ink_number.specs.Answer.{Answer, gives}
 use Rattle.ink_list.specs.Filled.{over}
 use Rattle.ink_value.specs.Val.{Val}
 use Rattle.pack.specs.Bodies.{Pack, decoded}
-use Rattle.pack.specs.Format.{format1, definitionLimit}
+use Rattle.pack.specs.Format.{definitionLimit}
+use Rattle.pack.specs.declared.format.Format.{Format}
 use Rattle.pack.specs.Judge.{judge}
 use Rattle.pack.specs.Read.{endsOf, definedOf}
 use Rattle.stepping.specs.Steps.{workLimit}
@@ -36,10 +37,10 @@ SmallRan (Rn.Ended v) = Small v
 SmallRan (Rn.Stopped r k) = Unit {0}
 
 -- the end is answered, and the slices are left as `Runs` says
-pub record RunSays (a : Answer Pack) (s : ℕ) (slots : List Val) (n : ℕ) (ws wi wi′ : List ℕ) (wv wv′ : List ℤ) (ri ri′ : List ℕ) (rv rv′ : List ℤ) : Type 0 where
-  pub number : n ≡ ranNumber (ranTo (endAfter s slots a))
-  pub words : ws ≡ ranWords (ranTo (endAfter s slots a))
-  pub leaves : Runs a s slots (ranTo (endAfter s slots a)) wi wi′ wv wv′ ri ri′ rv rv′
+pub record RunSays (F : Format) (a : Answer Pack) (s : ℕ) (slots : List Val) (n : ℕ) (ws wi wi′ : List ℕ) (wv wv′ : List ℤ) (ri ri′ : List ℕ) (rv rv′ : List ℤ) : Type 0 where
+  pub number : n ≡ ranNumber (ranTo (endAfter F s slots a))
+  pub words : ws ≡ ranWords (ranTo (endAfter F s slots a))
+  pub leaves : Runs F a s slots (ranTo (endAfter F s slots a)) wi wi′ wv wv′ ri ri′ rv rv′
 
 -- ---- vetting
 
@@ -52,30 +53,30 @@ abbrev pub vettedIndex : Vetted → ℕ
 vettedIndex (Vet.Passed n) = n
 vettedIndex (Vet.Refused r k) = k
 
-pub record VetSays (p : List ℕ) (s : ℕ) (codes : List ℕ) (n index : ℕ) (old new : List ℕ) : Type 0 where
+pub record VetSays (F : Format) (p : List ℕ) (s : ℕ) (codes : List ℕ) (n index : ℕ) (old new : List ℕ) : Type 0 where
   pub vetted : Vetted
-  pub answers : Answers format1 p s codes vetted old new
+  pub answers : Answers F p s codes vetted old new
   pub number : n ≡ vettedNumber vetted
   pub index-is : index ≡ vettedIndex vetted
 
 -- ---- a pack that has passed, and its definitions read
 
 -- questions 1 to 5 said yes
-abbrev pub Passed : List ℕ → Type 0
-Passed p = judge format1 p ≡ gives (decoded format1 p)
+abbrev pub Passed : Format → List ℕ → Type 0
+Passed F p = judge F p ≡ gives (decoded F p)
 
 -- the two tables and their lengths, and 0 in the places that they leave
-pub record Reads (d : Pack) (ends : List ℕ) (defined : List ℤ) (counts : List ℕ) : Type 0 where
+pub record Reads (F : Format) (d : Pack) (ends : List ℕ) (defined : List ℤ) (counts : List ℕ) : Type 0 where
   pub ends-in : ends ≡ over (endsOf d) (replicate definitionLimit 0)
-  pub defined-in : defined ≡ over (definedOf d) (replicate (format1 .limit) (pos 0))
+  pub defined-in : defined ≡ over (definedOf d) (replicate (F .limit) (pos 0))
   pub counted : counts ≡ length (endsOf d) ∷ length (definedOf d) ∷ []
 
-pub record Ready (p ends : List ℕ) (defined : List ℤ) : Type 0 where
-  pub passed : Passed p
-  pub ends-are : ends ≡ endsOf (decoded format1 p)
-  pub defined-are : defined ≡ definedOf (decoded format1 p)
+pub record Ready (F : Format) (p ends : List ℕ) (defined : List ℤ) : Type 0 where
+  pub passed : Passed F p
+  pub ends-are : ends ≡ endsOf (decoded F p)
+  pub defined-are : defined ≡ definedOf (decoded F p)
 
--- the first 16,384 places are zero, as far as the slices reach
-pub record Clear (wi : List ℕ) (wv : List ℤ) : Type 0 where
-  pub items-clear : (j : ℕ) → j < workLimit format1 → getD wi j 0 ≡ 0
-  pub values-clear : (j : ℕ) → j < workLimit format1 → getD wv j (pos 0) ≡ pos 0
+-- the places of the stack's lists, 16,384 in format 1, are zero, as far as the slices reach
+pub record Clear (F : Format) (wi : List ℕ) (wv : List ℤ) : Type 0 where
+  pub items-clear : (j : ℕ) → j < workLimit F → getD wi j 0 ≡ 0
+  pub values-clear : (j : ℕ) → j < workLimit F → getD wv j (pos 0) ≡ pos 0

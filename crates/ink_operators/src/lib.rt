@@ -46,7 +46,7 @@ pub extern "C" fn ink_vet(
     forecast: &mut [u8],
     index: &mut u64,
 ) -> u32
-    ensures { λ r. ⌜ VetSays (now (pack .entry)) sheet (now (kinds .entry)) r (now (index .exit)) (now (forecast .entry)) (now (forecast .exit)) ⌝ }
+    ensures { λ r. ⌜ VetSays format1 (now (pack .entry)) sheet (now (kinds .entry)) r (now (index .exit)) (now (forecast .entry)) (now (forecast .exit)) ⌝ }
 {
     let codes = *kinds;
     let vetted = vetting::vet(pack, sheet, codes, forecast);
@@ -67,7 +67,7 @@ pub extern "C" fn ink_run(
     result_values: &mut [i32],
     answer: &mut [u64; 3],
 ) -> u32
-    ensures { λ r. ⌜ RunSays (opened format1 (now (pack .entry)) sheet (memory format1 (slotsIn (now (slots .entry))) (now («slot_items» .entry)) (now («slot_values» .entry)) (now («work_items» .entry)) (now («work_values» .entry)) (now («result_items» .entry)) (now («result_values» .entry))))
+    ensures { λ r. ⌜ RunSays format1 (opened format1 (now (pack .entry)) sheet (memory format1 (slotsIn (now (slots .entry))) (now («slot_items» .entry)) (now («slot_values» .entry)) (now («work_items» .entry)) (now («work_values» .entry)) (now («result_items» .entry)) (now («result_values» .entry))))
         sheet (map (valIn «slot_items» «slot_values») (slotsIn (now (slots .entry)))) r (now (answer .exit))
         (now («work_items» .entry)) (now («work_items» .exit)) (now («work_values» .entry)) (now («work_values» .exit))
         (now («result_items» .entry)) (now («result_items» .exit)) (now («result_values» .entry)) (now («result_values» .exit)) ⌝ }
@@ -195,12 +195,12 @@ pub extern "C" fn ink_definitions(
     defined: &mut [i32; 256],
     counts: &mut [u64; 2],
 )
-    requires { ⌜ Passed (now pack) ⌝ }
-    ensures { λ _. ⌜ Reads (decoded format1 (now (pack .entry))) (now (ends .exit)) (now (defined .exit)) (now (counts .exit)) ⌝ }
+    requires { ⌜ Passed format1 (now pack) ⌝ }
+    ensures { λ _. ⌜ Reads format1 (decoded format1 (now (pack .entry))) (now (ends .exit)) (now (defined .exit)) (now (counts .exit)) ⌝ }
 {
     let mut e = [0u16; DEFINITION_LIMIT];
     let mut d = [0i32; FORMAT1.limit];
-    let read = pack_read::read_definitions(pack, &mut e, &mut d);
+    let read = pack_read::read_definitions(pack, &mut e, &mut d, FORMAT1);
     *ends = e;
     *defined = d;
     *counts = [read.definitions as u64, read.items as u64];
@@ -222,8 +222,8 @@ pub extern "C" fn ink_run_checked(
     result_values: &mut [i32],
     answer: &mut [u64; 3],
 ) -> u32
-    requires { ⌜ Ready (now pack) (now ends) (now defined) × Clear (now «work_items») (now «work_values») ⌝ }
-    ensures { λ r. ⌜ RunSays (opened format1 (now (pack .entry)) sheet (memory format1 (slotsIn (now (slots .entry))) (now («slot_items» .entry)) (now («slot_values» .entry)) (now («work_items» .entry)) (now («work_values» .entry)) (now («result_items» .entry)) (now («result_values» .entry))))
+    requires { ⌜ Ready format1 (now pack) (now ends) (now defined) × Clear format1 (now «work_items») (now «work_values») ⌝ }
+    ensures { λ r. ⌜ RunSays format1 (opened format1 (now (pack .entry)) sheet (memory format1 (slotsIn (now (slots .entry))) (now («slot_items» .entry)) (now («slot_values» .entry)) (now («work_items» .entry)) (now («work_values» .entry)) (now («result_items» .entry)) (now («result_values» .entry))))
         sheet (map (valIn «slot_items» «slot_values») (slotsIn (now (slots .entry)))) r (now (answer .exit))
         (now («work_items» .entry)) (now («work_items» .exit)) (now («work_values» .entry)) (now («work_values» .exit))
         (now («result_items» .entry)) (now («result_items» .exit)) (now («result_values» .entry)) (now («result_values» .exit)) ⌝ }
@@ -238,6 +238,7 @@ pub extern "C" fn ink_run_checked(
         values,
         slot_items,
         slot_values,
+        FORMAT1,
         work_items,
         work_values,
         result_items,
@@ -260,7 +261,7 @@ pub extern "C" fn ink_call_checked(
     result_values: &mut [i32],
     answer: &mut [u64; 3],
 ) -> u32
-    requires { ⌜ PackLists (now ends) (now defined) ⌝ }
+    requires { ⌜ PackLists (format1 .limit) (now ends) (now defined) ⌝ }
     ensures { λ r. ⌜ Calls (called (now (items .entry)) (now (values .entry)) (now («result_items» .entry)) (now («result_values» .entry)) op count (operandsIn (now (operands .entry))) (definitionsIn ends defined (format1 .limit)))
         r (now (answer .exit)) (now («result_items» .entry)) (now («result_items» .exit)) (now («result_values» .entry)) (now («result_values» .exit)) ⌝ }
 {
@@ -276,6 +277,7 @@ pub extern "C" fn ink_call_checked(
         values,
         defined.len(),
         ends.len(),
+        FORMAT1.limit,
         result_items.len(),
         result_values.len(),
     ) {
@@ -294,6 +296,7 @@ pub extern "C" fn ink_call_checked(
         &values[..],
         &ends[..],
         &defined[..],
+        FORMAT1.limit,
         result_items,
         result_values,
         answer,
@@ -314,7 +317,7 @@ pub extern "C" fn ink_apply(
     result_values: &mut [i32],
     answer: &mut [u64; 3],
 ) -> u32
-    requires { ⌜ PackLists (now ends) (now defined) ⌝ }
+    requires { ⌜ PackLists (format1 .limit) (now ends) (now defined) ⌝ }
     requires { ⌜ operandsOk (definitions (now ends) (now defined) (format1 .limit)) (now items) (now values) (take count (operandsIn (now operands))) ≡ true ⌝ }
     requires { ⌜ (format1 .limit ≤ length (now «result_items»)) × (format1 .limit ≤ length (now «result_values»)) ⌝ }
     ensures { λ r. ⌜ Calls (called (now (items .entry)) (now (values .entry)) (now («result_items» .entry)) (now («result_values» .entry)) op count (operandsIn (now (operands .entry))) (definitionsIn ends defined (format1 .limit)))
@@ -332,6 +335,7 @@ pub extern "C" fn ink_apply(
         &values[..],
         &ends[..],
         &defined[..],
+        FORMAT1.limit,
         result_items,
         result_values,
         answer,

@@ -1,11 +1,12 @@
 // A run of a pack that has passed: questions 6 and 7, and then the run.
 use ink_value::Value;
+use pack::format::Format;
 use running::Ran;
 ghost use mathlib.Core.Path.{_≡_};
 ghost use mathlib.Core.List.{map};
 ghost use denote.Ref.{now};
 ghost use Rattle.ink_value.specs.Slices.{valIn};
-ghost use Rattle.pack.specs.Format.{format1};
+ghost use Rattle.pack.specs.Format.{Runnable};
 ghost use Rattle.sheet.specs.Whole.{opened};
 ghost use Rattle.running.specs.Run.{memory, Runs};
 ghost use Rattle.ink_operators.specs.Answers.{Ready, Clear};
@@ -18,13 +19,14 @@ pub fn run_ready(
     slots: [Value; 16],
     slot_items: &[u16],
     slot_values: &[i32],
+    format: Format,
     work_items: &mut [u16],
     work_values: &mut [i32],
     result_items: &mut [u16],
     result_values: &mut [i32],
 ) -> Ran
-    requires { ⌜ Ready (now pack) (now ends) (now defined) × Clear (now «work_items») (now «work_values») ⌝ }
-    ensures { λ r. ⌜ Runs (opened format1 (now (pack .entry)) sheet (memory format1 slots (now («slot_items» .entry)) (now («slot_values» .entry)) (now («work_items» .entry)) (now («work_values» .entry)) (now («result_items» .entry)) (now («result_values» .entry))))
+    requires { ⌜ Ready format (now pack) (now ends) (now defined) × Clear format (now «work_items») (now «work_values») × Runnable format ⌝ }
+    ensures { λ r. ⌜ Runs format (opened format (now (pack .entry)) sheet (memory format slots (now («slot_items» .entry)) (now («slot_values» .entry)) (now («work_items» .entry)) (now («work_values» .entry)) (now («result_items» .entry)) (now («result_values» .entry))))
         sheet (map (valIn «slot_items» «slot_values») slots) r (now («work_items» .entry)) (now («work_items» .exit)) (now («work_values» .entry)) (now («work_values» .exit))
         (now («result_items» .entry)) (now («result_items» .exit)) (now («result_values» .entry)) (now («result_values» .exit)) ⌝ }
     ensures { λ _. ⌜ (now («work_items» .exit) ≡ now («work_items» .entry)) × (now («work_values» .exit) ≡ now («work_values» .entry)) ⌝ }
@@ -46,6 +48,7 @@ pub fn run_ready(
         &work_values[..],
         &result_items[..],
         &result_values[..],
+        format,
     ) {
         return Ran::Stopped {
             number: 7,
@@ -60,6 +63,7 @@ pub fn run_ready(
         slots,
         slot_items,
         slot_values,
+        format,
         work_items,
         work_values,
         result_items,

@@ -1,5 +1,7 @@
 -- `ink_operators::ink_apply` meets its contract: numbers by their words, and else the operator on values. Assumes nothing.
+use native.Mathlib.Omega.{arith}
 use Rattle.word_operators.proofs.Called.{held, called-numbers}
+use Rattle.pack.specs.Format.{format1}
 use borrow.Author.Needs.{needs}
 use Rattle.ink_operators.proofs.ink_apply.Statement.{statement}
 use Rattle.ink_operators.proofs.ink_apply.Tie as tie
@@ -7,7 +9,7 @@ use Rattle.ink_operators.proofs.ink_apply.Tie as tie
 number-kind-requires : tie.Need-number-kind-requires
 number-kind-requires c κs =
     let s = c .before .before .before in
-    held (s .args .ends .now) (s .args .defined .now) (s .args .items .now) (s .args .values .now) (s .args .result-items .now) (s .args .result-values .now) (s .args .operands .now) (s .args .op) (s .args .count) (s .pre .0) (s .pre .1 .0) (search needs)
+    held (format1 .limit) (omega arith) (omega arith) (s .args .ends .now) (s .args .defined .now) (s .args .items .now) (s .args .values .now) (s .args .result-items .now) (s .args .result-values .now) (s .args .operands .now) (s .args .op) (s .args .count) (s .pre .0) (s .pre .1 .0) (search needs)
 
 number-requires : tie.Need-number-requires
 number-requires c κs = c .before .before .number-kind .ensures .yes (c .before .if1 .taken)
@@ -15,10 +17,12 @@ number-requires c κs = c .before .before .number-kind .ensures .yes (c .before 
 returns : tie.Need-returns
 returns c =
     let s = c .before .before .before .before .before .before .before in
-    called-numbers (s .args .ends .now) (s .args .defined .now) (s .args .items .now) (s .args .values .now) (s .args .result-items .now) (s .args .result-values .now) (s .args .operands .now) (s .args .op) (s .args .count) (s .pre .0) (s .pre .1 .0) (s .pre .1 .1 .0) (s .pre .1 .1 .1) (c .before .before .before .number-kind .result) _ _ (c .before .before .before .number-kind .ensures .yes (c .before .before .if1 .taken)) (c .number .ensures)
+    called-numbers (format1 .limit) (omega arith) (omega arith) (s .args .ends .now) (s .args .defined .now) (s .args .items .now) (s .args .values .now) (s .args .result-items .now) (s .args .result-values .now) (s .args .operands .now) (s .args .op) (s .args .count) (s .pre .0) (s .pre .1 .0) (s .pre .1 .1 .0) (s .pre .1 .1 .1) (c .before .before .before .number-kind .result) _ _ (c .before .before .before .number-kind .ensures .yes (c .before .before .if1 .taken)) (c .number .ensures)
 
 apply-requires : tie.Need-apply-requires
-apply-requires c κs = search needs
+apply-requires c κs =
+    let s = c .before .before .before .before .before .before .before .before in
+    (s .pre .0, (s .pre .1 .0, (s .pre .1 .1 .0, s .pre .1 .1 .1, omega arith, omega arith)))
 
 same-length : tie.Need-same-length
 same-length c = search needs

@@ -1,8 +1,10 @@
 -- `ink_operators::ink_call` meets its contract: the answer of `calls::call` on the operands that the words hold. Assumes nothing.
 use mathlib.Core.List.{List, [], _∷_}
+use native.Mathlib.Omega.{arith}
 use Rattle.ink_value.specs.declared.Value.{Value}
 use Rattle.calls.specs.Call.{called, onPack}
 use Rattle.pack.specs.Format.{format1}
+use Rattle.pack.proofs.Formats.{runnable1}
 use Rattle.value_words.proofs.Saying.{calls, operands}
 use Rattle.value_words.proofs.Few.{small-outcome, pack-few, called-few}
 use borrow.Author.Needs.{needs}
@@ -26,7 +28,7 @@ outcome-requires c κs =
     let s = c .before .before .before .before .before .before .before .before .before .before .before .before .before in
     let l = c .before .before .before .before .before .before .before .before .before .operand-at .result ∷ c .before .before .before .before .before .before .before .before .operand-at2 .result ∷ c .before .before .before .before .before .before .before .operand-at3 .result ∷ [] in
     let f = called (s .args .items .now) (s .args .values .now) (s .args .result-items .now) (s .args .result-values .now) (s .args .op) (s .args .count) l in
-    small-outcome (onPack format1 (s .args .pack .now) f) _ (c .before .before .before .before .call .ensures .answered) (pack-few (s .args .pack .now) f (λ ends defined within. called-few ends defined within (s .args .items .now) (s .args .values .now) (s .args .result-items .now) (s .args .result-values .now) (s .args .op) (s .args .count) l))
+    small-outcome (format1 .limit) (omega arith) (onPack format1 (s .args .pack .now) f) _ (c .before .before .before .before .call .ensures .answered) (pack-few format1 (runnable1 .narrow) (s .args .pack .now) f (λ ends defined within. called-few (format1 .limit) (omega arith) ends defined within (s .args .items .now) (s .args .values .now) (s .args .result-items .now) (s .args .result-values .now) (s .args .op) (s .args .count) l))
 
 same-length : tie.Need-same-length
 same-length c = search needs

@@ -6,6 +6,7 @@ use Prim.Native.Nat.{ℕ, _≤_}
 use lib.IntN.{ℤ}
 use lib.ListN.{length, take}
 use borrow.Author.Tests.{not-true, not-false, leb-true}
+use native.Mathlib.Omega.{arith}
 use Rattle.ink_list.specs.Every.{_and_}
 use Rattle.ink_list.proofs.Every.{and-left, and-right}
 use Rattle.ink_value.specs.declared.Value.{Value}
@@ -73,7 +74,7 @@ number-kind-requires c κs =
     let s = c .before .before .before .before .before .before .before .before in
     let u = definitions (s .args .ends .now) (s .args .defined .now) (format1 .limit) in
     let l = lent u (s .args .items .now) (s .args .values .now) (s .args .result-items .now) (s .args .result-values .now) (s .args .count) (s .args .operands .now) (c .before .before .before .before .operand-at .ensures) (c .before .before .before .operand-at2 .ensures) (c .before .before .operand-at3 .ensures) (c .before .lent-well .ensures) (not-false _ (c .if1 .left)) in
-    held (s .args .ends .now) (s .args .defined .now) (s .args .items .now) (s .args .values .now) (s .args .result-items .now) (s .args .result-values .now) (s .args .operands .now) (s .args .op) (s .args .count) (s .pre) (l .formed) (search needs)
+    held (format1 .limit) (omega arith) (omega arith) (s .args .ends .now) (s .args .defined .now) (s .args .items .now) (s .args .values .now) (s .args .result-items .now) (s .args .result-values .now) (s .args .operands .now) (s .args .op) (s .args .count) (s .pre) (l .formed) (search needs)
 
 number-requires : tie.Need-number-requires
 number-requires c κs = c .before .before .number-kind .ensures .yes (c .before .if2 .taken)
@@ -83,14 +84,14 @@ returns-2 c =
     let s = c .before .before .before .before .before .before .before .before .before .before .before .before in
     let u = definitions (s .args .ends .now) (s .args .defined .now) (format1 .limit) in
     let l = lent u (s .args .items .now) (s .args .values .now) (s .args .result-items .now) (s .args .result-values .now) (s .args .count) (s .args .operands .now) (c .before .before .before .before .before .before .before .before .operand-at .ensures) (c .before .before .before .before .before .before .before .operand-at2 .ensures) (c .before .before .before .before .before .before .operand-at3 .ensures) (c .before .before .before .before .before .lent-well .ensures) (not-false _ (c .before .before .before .before .if1 .left)) in
-    called-numbers (s .args .ends .now) (s .args .defined .now) (s .args .items .now) (s .args .values .now) (s .args .result-items .now) (s .args .result-values .now) (s .args .operands .now) (s .args .op) (s .args .count) (s .pre) (l .formed) (l .items-room) (l .values-room) (c .before .before .before .number-kind .result) _ _ (c .before .before .before .number-kind .ensures .yes (c .before .before .if2 .taken)) (c .number .ensures)
+    called-numbers (format1 .limit) (omega arith) (omega arith) (s .args .ends .now) (s .args .defined .now) (s .args .items .now) (s .args .values .now) (s .args .result-items .now) (s .args .result-values .now) (s .args .operands .now) (s .args .op) (s .args .count) (s .pre) (l .formed) (l .items-room) (l .values-room) (c .before .before .before .number-kind .result) _ _ (c .before .before .before .number-kind .ensures .yes (c .before .before .if2 .taken)) (c .number .ensures)
 
 apply-requires : tie.Need-apply-requires
 apply-requires c κs =
     let s = c .before .before .before .before .before .before .before .before .before .before .before .before .before in
     let u = definitions (s .args .ends .now) (s .args .defined .now) (format1 .limit) in
     let l = lent u (s .args .items .now) (s .args .values .now) (s .args .result-items .now) (s .args .result-values .now) (s .args .count) (s .args .operands .now) (c .before .before .before .before .before .before .before .before .before .operand-at .ensures) (c .before .before .before .before .before .before .before .before .operand-at2 .ensures) (c .before .before .before .before .before .before .before .operand-at3 .ensures) (c .before .before .before .before .before .before .lent-well .ensures) (not-false _ (c .before .before .before .before .before .if1 .left)) in
-    (s .pre, (l .formed, (l .items-room, l .values-room)))
+    (s .pre, (l .formed, (l .items-room, l .values-room, omega arith, omega arith)))
 
 same-length : tie.Need-same-length
 same-length c = search needs

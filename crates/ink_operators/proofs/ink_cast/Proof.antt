@@ -1,8 +1,10 @@
 -- `ink_operators::ink_cast` meets its contract: the answer of `calls::cast` on the operand that the words hold. Assumes nothing.
 use mathlib.Core.Path.{ap}
+use native.Mathlib.Omega.{arith}
 use Rattle.ink_value.specs.declared.Value.{Value}
 use Rattle.calls.specs.Call.{castTo, onPack}
 use Rattle.pack.specs.Format.{format1}
+use Rattle.pack.proofs.Formats.{runnable1}
 use Rattle.value_words.proofs.Saying.{calls}
 use Rattle.value_words.proofs.Few.{small-outcome, pack-few, cast-to-few}
 use borrow.Author.Needs.{needs}
@@ -19,7 +21,7 @@ outcome-requires : tie.Need-outcome-requires
 outcome-requires c κs =
     let s = c .before .before .before .before .before .before .before .before .before .before .before in
     let f = castTo (s .args .items .now) (s .args .values .now) (s .args .result-items .now) (s .args .result-values .now) (s .args .code) (c .before .before .before .before .before .before .before .value-in .result) in
-    small-outcome (onPack format1 (s .args .pack .now) f) _ (c .before .before .before .before .cast .ensures .answered) (pack-few (s .args .pack .now) f (λ ends defined within. cast-to-few ends defined within (s .args .items .now) (s .args .values .now) (c .before .before .before .before .before .before .before .value-in .result) (s .args .result-items .now) (s .args .result-values .now) (s .args .code)))
+    small-outcome (format1 .limit) (omega arith) (onPack format1 (s .args .pack .now) f) _ (c .before .before .before .before .cast .ensures .answered) (pack-few format1 (runnable1 .narrow) (s .args .pack .now) f (λ ends defined within. cast-to-few (format1 .limit) ends defined within (s .args .items .now) (s .args .values .now) (c .before .before .before .before .before .before .before .value-in .result) (s .args .result-items .now) (s .args .result-values .now) (s .args .code)))
 
 same-length : tie.Need-same-length
 same-length c = search needs

@@ -1,6 +1,7 @@
 -- `ink_operators::ink_definitions` meets its contract: the tables that the pack's reader writes. Assumes nothing.
 use Rattle.pack.specs.Bodies.{decoded}
 use Rattle.pack.specs.Format.{format1}
+use Rattle.pack.proofs.Formats.{runnable1}
 use Rattle.pack.proofs.Judged.{judged}
 use Rattle.pack.proofs.Values.{pack-tables}
 use borrow.Author.Needs.{needs}
@@ -18,8 +19,8 @@ read-definitions-requires c κs =
     let s = c .before .before .before in
     let p = s .args .pack .now in
     let sound = judged format1 p (decoded format1 p) (s .pre) .0 in
-    let t = pack-tables p sound in
-    (sound, (t .ends-few, t .defined-few))
+    let t = pack-tables format1 p (runnable1 .narrow) sound in
+    (runnable1 .narrow, (sound, (t .ends-few, t .defined-few)))
 
 returns : tie.Need-returns
 returns c = search needs

@@ -4,7 +4,6 @@ use mathlib.Core.Path.{refl, sym, _∙_}
 use native.Mathlib.Omega.{arith}
 use borrow.Author.Tests.{not-true, not-false}
 use Rattle.pack.specs.Bodies.{decoded}
-use Rattle.pack.specs.Format.{format1}
 use Rattle.pack.proofs.Judged.{judged}
 use Rattle.running.proofs.Opening.{runs-stopped, opened-yes, sheet-no, sheet-yes, slots-no, room-no, memory-yes, inputs, long-yes, sheets-long}
 use Rattle.ink_operators.proofs.Clearing.{clear-memory, runs-clear}
@@ -14,14 +13,15 @@ use Rattle.ink_operators.proofs.ready.run_ready.Tie as tie
 
 sheet-count-requires : tie.Need-sheet-count-requires
 sheet-count-requires c κs =
-    judged format1 (c .before .before .before .before .before .args .pack .now) (decoded format1 (c .before .before .before .before .before .args .pack .now)) (c .before .before .before .before .before .pre .0 .passed) .0
+    let s = c .before .before .before .before .before in
+    judged (s .args .format) (s .args .pack .now) (decoded (s .args .format) (s .args .pack .now)) (s .pre .0 .passed) .0 .contents .frame
 
 returns : tie.Need-returns
 returns c =
     let s = c .before .before .before .before .before .before .before in
     let p = s .args .pack .now in
     let r = s .pre .0 in
-    (runs-stopped _ 6 _ _ _ _ _ _ (opened-yes p (s .args .sheet) _ (r .passed) ∙ sheet-no p (s .args .sheet) _ (omega (arith, c .before .sheet-count .ensures, c .if1 .taken))), (refl, refl))
+    (runs-stopped _ 6 _ _ _ _ _ _ (opened-yes (s .args .format) p (s .args .sheet) _ (r .passed) ∙ sheet-no (s .args .format) p (s .args .sheet) _ (omega (arith, c .before .sheet-count .ensures, c .if1 .taken, sheets-long (s .args .format) p))), (refl, refl))
 
 all-formed-requires : tie.Need-all-formed-requires
 all-formed-requires c κs = search needs
@@ -31,7 +31,7 @@ returns-2 c =
     let s = c .before .before .before .before .before .before .before .before .before in
     let p = s .args .pack .now in
     let r = s .pre .0 in
-    (runs-stopped _ 7 _ _ _ _ _ _ (opened-yes p (s .args .sheet) _ (r .passed) ∙ sheet-yes p (s .args .sheet) _ (omega (arith, c .before .before .before .sheet-count .ensures, c .before .before .if1 .left)) ∙ slots-no p (s .args .ends .now) (s .args .defined .now) (s .args .slots) (s .args .slot-items .now) (s .args .slot-values .now) (s .args .work-items .now) (s .args .work-values .now) (s .args .result-items .now) (s .args .result-values .now) (r .ends-are) (r .defined-are) (sym (c .before .all-formed .ensures) ∙ not-true _ (c .if2 .taken))), (refl, refl))
+    (runs-stopped _ 7 _ _ _ _ _ _ (opened-yes (s .args .format) p (s .args .sheet) _ (r .passed) ∙ sheet-yes (s .args .format) p (s .args .sheet) _ (omega (arith, c .before .before .before .sheet-count .ensures, c .before .before .if1 .left, sheets-long (s .args .format) p)) ∙ slots-no (s .args .format) p (s .args .ends .now) (s .args .defined .now) (s .args .slots) (s .args .slot-items .now) (s .args .slot-values .now) (s .args .work-items .now) (s .args .work-values .now) (s .args .result-items .now) (s .args .result-values .now) (r .ends-are) (r .defined-are) (sym (c .before .all-formed .ensures) ∙ not-true _ (c .if2 .taken))), (refl, refl))
 
 long-enough-requires : tie.Need-long-enough-requires
 long-enough-requires c κs = search needs
@@ -53,15 +53,15 @@ returns-3 c =
     let s = c .before .before .before .before .before .before .before .before .before .before .before .before .before .before .before in
     let p = s .args .pack .now in
     let r = s .pre .0 in
-    (runs-stopped _ 7 _ _ _ _ _ _ (opened-yes p (s .args .sheet) _ (r .passed) ∙ sheet-yes p (s .args .sheet) _ (omega (arith, c .before .before .before .before .before .before .before .before .before .sheet-count .ensures, c .before .before .before .before .before .before .before .before .if1 .left)) ∙ room-no p (s .args .ends .now) (s .args .defined .now) (s .args .slots) (s .args .slot-items .now) (s .args .slot-values .now) (s .args .work-items .now) (s .args .work-values .now) (s .args .result-items .now) (s .args .result-values .now) (r .ends-are) (r .defined-are) (sym (c .before .long-enough .ensures) ∙ not-true _ (c .if3 .taken))), (refl, refl))
+    (runs-stopped _ 7 _ _ _ _ _ _ (opened-yes (s .args .format) p (s .args .sheet) _ (r .passed) ∙ sheet-yes (s .args .format) p (s .args .sheet) _ (omega (arith, c .before .before .before .before .before .before .before .before .before .sheet-count .ensures, c .before .before .before .before .before .before .before .before .if1 .left, sheets-long (s .args .format) p)) ∙ room-no (s .args .format) p (s .args .ends .now) (s .args .defined .now) (s .args .slots) (s .args .slot-items .now) (s .args .slot-values .now) (s .args .work-items .now) (s .args .work-values .now) (s .args .result-items .now) (s .args .result-values .now) (r .ends-are) (r .defined-are) (sym (c .before .long-enough .ensures) ∙ not-true _ (c .if3 .taken))), (refl, refl))
 
 run-checked-requires : tie.Need-run-checked-requires
 run-checked-requires c κs =
     let s = c .before .before .before .before .before .before .before .before .before .before .before .before .before .before .before .before .before .before .before in
     let p = s .args .pack .now in
     let r = s .pre .0 in
-    let sound = judged format1 p (decoded format1 p) (r .passed) .0 in
-    ((inputs p (s .args .ends .now) (s .args .defined .now) (s .args .slots) (s .args .slot-items .now) (s .args .slot-values .now) (s .args .work-items .now) (s .args .work-values .now) (s .args .result-items .now) (s .args .result-values .now) (r .ends-are) (r .defined-are) sound (sym (c .before .before .before .before .before .before .before .before .before .before .before .all-formed .ensures) ∙ not-false _ (c .before .before .before .before .before .before .before .before .before .before .if2 .left)), omega (arith, c .before .before .before .before .before .before .before .before .before .before .before .before .before .sheet-count .ensures, c .before .before .before .before .before .before .before .before .before .before .before .before .if1 .left, sheets-long p)), clear-memory _ _ _ _ (s .pre .1) (long-yes _ _ _ _ (sym (c .before .before .before .before .before .long-enough .ensures) ∙ not-false _ (c .before .before .before .before .if3 .left))))
+    let sound = judged (s .args .format) p (decoded (s .args .format) p) (r .passed) .0 in
+    ((inputs (s .args .format) p (s .args .ends .now) (s .args .defined .now) (s .args .slots) (s .args .slot-items .now) (s .args .slot-values .now) (s .args .work-items .now) (s .args .work-values .now) (s .args .result-items .now) (s .args .result-values .now) (r .ends-are) (r .defined-are) (s .pre .2 .narrow) sound (sym (c .before .before .before .before .before .before .before .before .before .before .before .all-formed .ensures) ∙ not-false _ (c .before .before .before .before .before .before .before .before .before .before .if2 .left)), omega (arith, c .before .before .before .before .before .before .before .before .before .before .before .before .before .sheet-count .ensures, c .before .before .before .before .before .before .before .before .before .before .before .before .if1 .left, sheets-long (s .args .format) p)), clear-memory (s .args .format) (s .pre .2) _ _ _ _ (s .pre .1) (long-yes (s .args .format) _ _ _ _ (sym (c .before .before .before .before .before .long-enough .ensures) ∙ not-false _ (c .before .before .before .before .if3 .left))))
 
 same-length-5 : tie.Need-same-length-5
 same-length-5 c = search needs
@@ -80,7 +80,7 @@ returns-4 c =
     let s = c .before .before .before .before .before .before .before .before .before .before .before .before .before .before .before .before .before .before .before .before .before .before .before .before .before .before in
     let p = s .args .pack .now in
     let r = s .pre .0 in
-    (runs-clear _ p _ _ _ _ _ _ _ _ _ _ _ (s .pre .1) (long-yes _ _ _ _ (sym (c .before .before .before .before .before .before .before .before .before .before .before .before .long-enough .ensures) ∙ not-false _ (c .before .before .before .before .before .before .before .before .before .before .before .if3 .left))) (opened-yes p (s .args .sheet) _ (r .passed) ∙ sheet-yes p (s .args .sheet) _ (omega (arith, c .before .before .before .before .before .before .before .before .before .before .before .before .before .before .before .before .before .before .before .before .sheet-count .ensures, c .before .before .before .before .before .before .before .before .before .before .before .before .before .before .before .before .before .before .before .if1 .left)) ∙ memory-yes p (s .args .ends .now) (s .args .defined .now) (s .args .slots) (s .args .slot-items .now) (s .args .slot-values .now) (s .args .work-items .now) (s .args .work-values .now) (s .args .result-items .now) (s .args .result-values .now) (r .ends-are) (r .defined-are) (sym (c .before .before .before .before .before .before .before .before .before .before .before .before .before .before .before .before .before .before .all-formed .ensures) ∙ not-false _ (c .before .before .before .before .before .before .before .before .before .before .before .before .before .before .before .before .before .if2 .left)) (sym (c .before .before .before .before .before .before .before .before .before .before .before .before .long-enough .ensures) ∙ not-false _ (c .before .before .before .before .before .before .before .before .before .before .before .if3 .left))) (c .before .before .before .before .before .before .run-checked .ensures .0) (c .before .before .before .before .before .before .run-checked .ensures .1 .0) (c .before .before .before .before .before .before .run-checked .ensures .1 .1), c .before .before .before .before .before .before .run-checked .ensures .1)
+    (runs-clear _ p _ _ _ _ _ _ _ _ _ _ _ (s .pre .1) (long-yes (s .args .format) _ _ _ _ (sym (c .before .before .before .before .before .before .before .before .before .before .before .before .long-enough .ensures) ∙ not-false _ (c .before .before .before .before .before .before .before .before .before .before .before .if3 .left))) (opened-yes (s .args .format) p (s .args .sheet) _ (r .passed) ∙ sheet-yes (s .args .format) p (s .args .sheet) _ (omega (arith, c .before .before .before .before .before .before .before .before .before .before .before .before .before .before .before .before .before .before .before .before .sheet-count .ensures, c .before .before .before .before .before .before .before .before .before .before .before .before .before .before .before .before .before .before .before .if1 .left, sheets-long (s .args .format) p)) ∙ memory-yes (s .args .format) p (s .args .ends .now) (s .args .defined .now) (s .args .slots) (s .args .slot-items .now) (s .args .slot-values .now) (s .args .work-items .now) (s .args .work-values .now) (s .args .result-items .now) (s .args .result-values .now) (r .ends-are) (r .defined-are) (sym (c .before .before .before .before .before .before .before .before .before .before .before .before .before .before .before .before .before .before .all-formed .ensures) ∙ not-false _ (c .before .before .before .before .before .before .before .before .before .before .before .before .before .before .before .before .before .if2 .left)) (sym (c .before .before .before .before .before .before .before .before .before .before .before .before .long-enough .ensures) ∙ not-false _ (c .before .before .before .before .before .before .before .before .before .before .before .if3 .left))) (c .before .before .before .before .before .before .run-checked .ensures .0) (c .before .before .before .before .before .before .run-checked .ensures .1 .0) (c .before .before .before .before .before .before .run-checked .ensures .1 .1), c .before .before .before .before .before .before .run-checked .ensures .1)
 
 pub run-ready-spec : {M : Type 1} → statement M
 run-ready-spec =
