@@ -7,6 +7,7 @@ use pack::Checked;
 use pack::instruction::Instruction;
 use pack::instruction::instruction_width;
 use pack::instruction::read_instruction;
+use pack_check::format::FORMAT1;
 use pack_read::literal_count;
 use pack_read::literal_len;
 use pack_read::literal_origins;
@@ -59,7 +60,7 @@ fn show_definitions(p: &[u8])
 {
     let mut ends = [0u16; 64];
     let mut defined = [0i32; 256];
-    let d = read_definitions(p, &mut ends, &mut defined);
+    let d = read_definitions(p, &mut ends, &mut defined, FORMAT1);
     let n = d.definitions;
     io::write_all(STDOUT, b" ends");
     numbers(&ends[..n]);
@@ -91,11 +92,11 @@ fn show_literal(p: &[u8], l: usize)
     requires { ⌜ l < literalCount (now p) ⌝ }
 {
     io::write_all(STDOUT, b"; literal ");
-    io::print_hex(STDOUT, literal_origins(p, l), 1);
-    number(literal_len(p, l));
+    io::print_hex(STDOUT, literal_origins(p, l, FORMAT1), 1);
+    number(literal_len(p, l, FORMAT1));
     let mut items = [0u16; 256];
     let mut values = [0i32; 256];
-    let n = read_literal(p, l, &mut items, &mut values, 0);
+    let n = read_literal(p, l, &mut items, &mut values, 0, FORMAT1);
     show_last(&items, &values, n);
 }
 

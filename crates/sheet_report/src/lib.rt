@@ -2,15 +2,17 @@
 // Void answers, a refusal with its number and index. Of a pack that is turned back, "pack R" and the number.
 use ink_value::Value;
 use pack::Checked;
+use pack_check::format::FORMAT1;
 use printing::natural;
 use printing::text;
-use run_any::WORK_LIMIT;
 use running::Ran;
-ghost use Rattle.pack.specs.Format.{format1};
-ghost use Rattle.pack.specs.Judge.{Sound};
+use sheet::STACK_LIMIT;
+ghost use Rattle.pack.specs.Judge.{Framed};
 
-// The most entries of a list.
-const ITEM_LIMIT: usize = pack_check::format::FORMAT1.limit;
+// The most entries of a list, and the places of the work slices, in format 1.
+const ITEM_LIMIT: usize = FORMAT1.limit;
+
+const WORK_LIMIT: usize = STACK_LIMIT * ITEM_LIMIT;
 
 fn answer(r: Ran, items: &[u16], values: &[i32]) {
     match r {
@@ -50,7 +52,7 @@ fn sheet_line(pack: &[u8], sheet: usize) {
 }
 
 fn sheet_lines(pack: &[u8])
-    requires { ⌜ Sound format1 (now pack) ⌝ }
+    requires { ⌜ Framed (now pack) ⌝ }
 {
     let n = pack_read::sheet_count(pack);
     text(b"sheets ");

@@ -20,7 +20,7 @@ abbrev μ-loop : tie.MeasureT-loop
 μ-loop p s at₀ end k₀ at k = end - at
 
 sheet-span-requires : tie.Need-sheet-span-requires Inv-loop μ-loop
-sheet-span-requires c κs = search needs
+sheet-span-requires c κs = let s = c .before in ((s .pre .0 .contents, s .pre .0 .five), s .pre .1)
 
 loop-holds : tie.Need-loop-holds Inv-loop μ-loop
 loop-holds c = (c .sheet-span .ensures .starts, omega arith, omega arith)

@@ -17,7 +17,7 @@ abbrev μ-loop : tie.MeasureT-loop
 μ-loop p s at₀ end at = end - at
 
 sheet-span-requires : tie.Need-sheet-span-requires Inv-loop μ-loop
-sheet-span-requires c κs = search needs
+sheet-span-requires c κs = let s = c .before in ((s .pre .0 .contents, s .pre .0 .five), s .pre .1)
 
 loop-holds : tie.Need-loop-holds Inv-loop μ-loop
 loop-holds c = (0, c .sheet-span .ensures .starts)

@@ -1,6 +1,8 @@
 -- `pack_points::show_literal` is safe: a literal has at most as many entries as the pack's format has items. Assumes nothing.
 use native.Mathlib.Omega.{arith}
 use denote.Ref.{now}
+use Rattle.pack.specs.Format.{format1}
+use Rattle.pack.proofs.Formats.{runnable1}
 use Rattle.pack.proofs.Listed.{literal-formed}
 use borrow.Author.Needs.{needs}
 use Rattle.pack_points.proofs.show_literal.Statement.{statement}
@@ -33,8 +35,8 @@ slice-aggregate-read-literal-2 c = search needs
 read-literal-requires : tie.Need-read-literal-requires
 read-literal-requires c κs =
     let s = c .before .before .before .before .before .before .before .before .before in
-    let few = literal-formed (now (s .args .p)) (s .pre .0) (s .args .l) (s .pre .1) .few in
-    (s .pre .0, (s .pre .1, (omega arith, omega arith)))
+    let few = literal-formed format1 (now (s .args .p)) (s .pre .0) (s .args .l) (s .pre .1) .few in
+    (runnable1 .narrow, (s .pre .0, (s .pre .1, (omega arith, omega arith))))
 
 slice-aggregate-show-last : tie.Need-slice-aggregate-show-last
 slice-aggregate-show-last c = search needs

@@ -1,8 +1,6 @@
 -- `pack_points::show_literals` is safe and ends. Assumes nothing.
 use Prim.Native.Nat.{_-_, _≤_}
 use native.Mathlib.Omega.{arith}
-use denote.Ref.{now}
-use Rattle.pack.proofs.Listed.{literals-long}
 use borrow.Author.Needs.{needs}
 use Rattle.pack_points.proofs.show_literals.Statement.{statement}
 use Rattle.pack_points.proofs.show_literals.Tie as tie
@@ -21,7 +19,7 @@ loop-holds c = search needs
 
 show-literal-requires : tie.Need-show-literal-requires Inv-loop μ-loop
 show-literal-requires c κs =
-    (c .before .before .before .before .pre, omega (arith, literals-long (now (c .before .before .before .before .args .p))))
+    (c .before .before .before .before .pre, omega arith)
 
 add-l : tie.Need-add-l Inv-loop μ-loop
 add-l c = search needs

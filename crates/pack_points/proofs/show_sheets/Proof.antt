@@ -1,8 +1,6 @@
 -- `pack_points::show_sheets` is safe and ends. Assumes nothing.
 use Prim.Native.Nat.{_-_, _≤_}
 use native.Mathlib.Omega.{arith}
-use denote.Ref.{now}
-use Rattle.pack.proofs.Programs.{sheets-long}
 use borrow.Author.Needs.{needs}
 use Rattle.pack_points.proofs.show_sheets.Statement.{statement}
 use Rattle.pack_points.proofs.show_sheets.Tie as tie
@@ -20,7 +18,7 @@ loop-holds : tie.Need-loop-holds Inv-loop μ-loop
 loop-holds c = search needs
 
 show-sheet-requires : tie.Need-show-sheet-requires Inv-loop μ-loop
-show-sheet-requires c κs = (c .before .before .before .before .pre, omega (arith, sheets-long (now (c .before .before .before .before .args .p))))
+show-sheet-requires c κs = (c .before .before .before .before .pre, omega arith)
 
 add-s : tie.Need-add-s Inv-loop μ-loop
 add-s c = search needs

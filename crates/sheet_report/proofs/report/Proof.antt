@@ -13,7 +13,7 @@ enum-told c = search needs
 
 sheet-lines-requires : tie.Need-sheet-lines-requires
 sheet-lines-requires c κs =
-    passed format1 (c .before .before .before .before .args .pack .now) (c .before .before .check .result) (c .enum-told .given .1) (c .before .before .check .ensures)
+    passed format1 (c .before .before .before .before .args .pack .now) (c .before .before .check .result) (c .enum-told .given .1) (c .before .before .check .ensures) .contents .frame
 
 enum-known-number : tie.Need-enum-known-number
 enum-known-number c = search needs
