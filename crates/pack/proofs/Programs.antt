@@ -18,7 +18,7 @@ use Rattle.pack.specs.Format.{instructionLimit}
 use Rattle.pack.specs.declared.format.Format.{Format}
 use Rattle.pack.specs.Instruction.{Instr, push, pushVoid, width, instruction, instructions, onward, before, isSome, orNone}
 use Rattle.pack.specs.Judge.{question5}
-use Rattle.pack.specs.Read.{program, sheetEnd, Standing, Whole, Kth, Reads}
+use Rattle.pack.specs.Read.{sheetOf, program, sheetEnd, Standing, Whole, Kth, Reads}
 use Rattle.pack.proofs.Steps.{at-end, none-left, one-more, wide-some}
 use Rattle.pack.proofs.Tables.{getD-table}
 
@@ -77,6 +77,10 @@ dropped l r i k e =
 module _ (p : List ℕ) where
   pub sheets-long : (F : Format) → length (decoded F p .sheets) ≡ sheetCount p
   sheets-long F = length-table (sheetCount p) (λ s. orNone (sheet p (sheetBody p s)))
+
+  -- a sheet's instructions are the same in every format
+  any-format : (F : Format) (s : ℕ) → sheetOf (decoded F p) s ≡ program p s
+  any-format F s = refl
 
   pub program-is : (s : ℕ) → s < sheetCount p → program p s ≡ orNone (sheet p (sheetBody p s))
   program-is s h = getD-table (sheetCount p) (λ k. orNone (sheet p (sheetBody p k))) s [] h

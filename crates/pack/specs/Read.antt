@@ -7,12 +7,13 @@ use lib.IntN.{ℤ}
 use lib.ListN.{length, getD, drop}
 use Rattle.ink_list.specs.Entries.{Entry, items, values}
 use Rattle.list_definitions.specs.Defs.{ListDefinitions}
+use Rattle.ink_list.specs.Every.{table}
 use Rattle.ink_list.specs.Filled.{fill, over}
-use Rattle.pack.specs.Bodies.{Literal, Pack, decoded}
-use Rattle.pack.specs.Contents.{literalCount, sheetBody, offset, size}
-use Rattle.pack.specs.Format.{format1, instructionLimit}
+use Rattle.pack.specs.Bodies.{Literal, Pack, sheet}
+use Rattle.pack.specs.Contents.{literalCount, sheetCount, sheetBody, offset, size}
+use Rattle.pack.specs.Format.{instructionLimit}
 use Rattle.pack.specs.declared.format.Format.{Format}
-use Rattle.pack.specs.Instruction.{Instr, push, pushVoid, width, instruction, instructions}
+use Rattle.pack.specs.Instruction.{Instr, push, pushVoid, width, instruction, instructions, orNone}
 
 -- ---- the parts of a decoded pack
 
@@ -62,8 +63,9 @@ pub record Stored (es : List Entry) (from count : ℕ) (oi oi′ : List ℕ) (ov
 -- ---- instructions by position
 
 module _ (p : List ℕ) where
+  -- the instructions of sheet s, whatever the format: `sheetOf` of the decoded pack
   abbrev pub program : ℕ → List Instr
-  program s = sheetOf (decoded format1 p) s
+  program s = getD (table (sheetCount p) (λ k. orNone (sheet p (sheetBody p k)))) s []
 
   -- one past the last byte of sheet s
   abbrev pub sheetEnd : ℕ → ℕ

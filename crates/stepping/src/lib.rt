@@ -41,7 +41,7 @@ pub enum Step {
 }
 
 // The most entries of a list, in any format that can be run; and where only small slices are made for a list.
-pub const SCRATCH_LIMIT: usize = 1024;
+const SCRATCH_LIMIT: usize = 1024;
 
 const SHORT_LIMIT: usize = 256;
 

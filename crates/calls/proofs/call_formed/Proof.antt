@@ -1,7 +1,6 @@
 -- `calls::call_formed` meets its contract: what question 7 said yes of is what the operator asks for. Assumes nothing.
 use mathlib.Core.Path.{ap, _∙_}
 use mathlib.Core.List.{[], _∷_}
-use native.Mathlib.Omega.{arith}
 use lib.ListN.{length}
 use borrow.Author.Tests.{le-leb}
 use Rattle.ink_list.proofs.Every.{and-both}

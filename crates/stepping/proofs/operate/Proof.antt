@@ -3,12 +3,11 @@ use mathlib.Core.Path.{_≡_, refl, ap, _∙_, subst}
 use Prim.Native.Nat.{ℕ}
 use native.Mathlib.Omega.{arith}
 use Rattle.ink_number.specs.Answer.{Answer}
-use Rattle.ink_list.specs.Entries.{Rising}
+use Rattle.ink_list.specs.Entries.{Rising, itemNumbers}
 use Rattle.ink_value.specs.Val.{Val, kindAt}
 use Rattle.ink_value.specs.Value.{valOf, written}
 use Rattle.native_function_call.specs.Apply.{compute}
 use Rattle.native_function_call.specs.Lists.{definitions}
-use Rattle.ink_list.specs.Entries.{itemNumbers}
 use Rattle.ink_value.proofs.Reading.{formed-limit}
 use Rattle.stepping.proofs.Operating.{operandsOf, call-rises, call-computes, call-stops, answered-is}
 use borrow.Author.Needs.{needs}

@@ -1,6 +1,5 @@
 -- `word_operators::list` meets its contract. Assumes nothing.
 use mathlib.Core.Path.{refl}
-use native.Mathlib.Omega.{arith}
 use lib.ListN.{take}
 use Rattle.ink_value.specs.Val.{listK}
 use Rattle.ink_value.proofs.Results.{first-wf}
