@@ -66,7 +66,7 @@ pub fn decrement(
     increment(
         ai,
         av,
-        ink_number::int::wrapping_neg(by),
+        ink_number::int::wrapping_mul(by, -1),
         set,
         ends,
         defined,
