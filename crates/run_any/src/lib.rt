@@ -23,8 +23,8 @@ ghost use Rattle.pack.specs.Contents.{sheetCount};
 ghost use Rattle.pack.specs.Format.{format1, Runnable};
 ghost use Rattle.pack.specs.Judge.{Sound};
 ghost use Rattle.pack.specs.Read.{endsOf, definedOf};
-ghost use Rattle.sheet.specs.Whole.{opened};
-ghost use Rattle.running.specs.Run.{longEnough, memory, Runs};
+ghost use Rattle.running.specs.Run.{longEnough};
+ghost use Rattle.running.specs.Slices.{memoryIn, RunsIn, RunsAny};
 
 // Question 7 of the slots.
 pub fn all_formed(
@@ -91,9 +91,8 @@ fn run_sheet(
     result_values: &mut [i32],
 ) -> Ran
     requires { ⌜ Sound format (now pack) × (sheet < sheetCount (now pack)) × (now ends ≡ endsOf (decoded format (now pack))) × (now defined ≡ definedOf (decoded format (now pack))) × Runnable format ⌝ }
-    ensures { λ r. ⌜ Runs format (ask 7 (memory format slots (now («slot_items» .entry)) (now («slot_values» .entry)) (now («work_items» .entry)) (now («work_values» .entry)) (now («result_items» .entry)) (now («result_values» .entry)) (decoded format (now (pack .entry)))) (gives (decoded format (now (pack .entry)))))
-        sheet (map (valIn «slot_items» «slot_values») slots) r (now («work_items» .entry)) (now («work_items» .exit)) (now («work_values» .entry)) (now («work_values» .exit))
-        (now («result_items» .entry)) (now («result_items» .exit)) (now («result_values» .entry)) (now («result_values» .exit)) ⌝ }
+    ensures { λ r. ⌜ RunsIn format (ask 7 (memoryIn format slots «slot_items» «slot_values» «work_items» «work_values» «result_items» «result_values» (decoded format (now (pack .entry)))) (gives (decoded format (now (pack .entry)))))
+        sheet (map (valIn «slot_items» «slot_values») slots) r «work_items» «work_values» «result_items» «result_values» ⌝ }
 {
     if !all_formed(slots, slot_items, slot_values, defined.len(), ends.len()) {
         return Ran::Stopped {
@@ -147,9 +146,8 @@ fn run_passed(
     result_values: &mut [i32],
 ) -> Ran
     requires { ⌜ Sound format (now pack) × Runnable format × (format .limit ≤ length (now defined)) ⌝ }
-    ensures { λ r. ⌜ Runs format (ask 6 (ltb sheet (length (decoded format (now (pack .entry)) .sheets))) (ask 7 (memory format slots (now («slot_items» .entry)) (now («slot_values» .entry)) (now («work_items» .entry)) (now («work_values» .entry)) (now («result_items» .entry)) (now («result_values» .entry)) (decoded format (now (pack .entry)))) (gives (decoded format (now (pack .entry))))))
-        sheet (map (valIn «slot_items» «slot_values») slots) r (now («work_items» .entry)) (now («work_items» .exit)) (now («work_values» .entry)) (now («work_values» .exit))
-        (now («result_items» .entry)) (now («result_items» .exit)) (now («result_values» .entry)) (now («result_values» .exit)) ⌝ }
+    ensures { λ r. ⌜ RunsIn format (ask 6 (ltb sheet (length (decoded format (now (pack .entry)) .sheets))) (ask 7 (memoryIn format slots «slot_items» «slot_values» «work_items» «work_values» «result_items» «result_values» (decoded format (now (pack .entry)))) (gives (decoded format (now (pack .entry))))))
+        sheet (map (valIn «slot_items» «slot_values») slots) r «work_items» «work_values» «result_items» «result_values» ⌝ }
 {
     if pack_read::sheet_count(pack) <= sheet {
         return Ran::Stopped {
@@ -189,9 +187,7 @@ pub fn run(
     result_items: &mut [u16],
     result_values: &mut [i32],
 ) -> Ran
-    ensures { λ r. ⌜ Runs format1 (opened format1 (now (pack .entry)) sheet (memory format1 slots (now («slot_items» .entry)) (now («slot_values» .entry)) (now («work_items» .entry)) (now («work_values» .entry)) (now («result_items» .entry)) (now («result_values» .entry))))
-        sheet (map (valIn «slot_items» «slot_values») slots) r (now («work_items» .entry)) (now («work_items» .exit)) (now («work_values» .entry)) (now («work_values» .exit))
-        (now («result_items» .entry)) (now («result_items» .exit)) (now («result_values» .entry)) (now («result_values» .exit)) ⌝ }
+    ensures { λ r. ⌜ RunsAny format1 pack sheet slots «slot_items» «slot_values» r «work_items» «work_values» «result_items» «result_values» ⌝ }
 {
     let checked = pack_check::check(pack);
     match checked {

@@ -4,9 +4,11 @@ use mathlib.Core.Bool.{Bool, true}
 use mathlib.Core.Logic.{_⊎_}
 use mathlib.Core.List.{List, map}
 use Prim.Native.Nat.{ℕ, _*_, _-_, _<_}
+use denote.Ref.{now}
 use lib.IntN.{ℤ}
 use lib.ListN.{getD}
 use Rattle.ink_number.specs.Answer.{gives}
+use Rattle.ink_list.specs.Slices.{Slice}
 use Rattle.ink_value.specs.Val.{kindOf, kindAt}
 use Rattle.ink_value.specs.Value.{valOf, codeOfValue}
 use Rattle.ink_value.specs.declared.Value.{Value}
@@ -49,3 +51,9 @@ module _ (F : Format) (p : List ℕ) (s : ℕ) (codes : List ℕ) (slots : List 
     pub foretold : Ready F p (vettingMemory codes f) → Ready F p runMemory → map kindOf (map (valOf si sv) slots) ≡ map kindAt codes
         → Foretold (countOf (opened F p s (vettingMemory codes f)) s) (verdictOf (b .vetted)) f′ (sheetRun F p s runMemory (map (valOf si sv) slots))
         × ForetoldAnswer (b .vetted) f′ (b .ran)
+
+-- the same of the slices that are lent, each as it was at entry and as it is at exit
+abbrev pub BothIn : Format → Slice ℕ → ℕ → List ℕ → List Value → Slice ℕ → Slice ℤ → VettedRun → Slice ℕ → Slice ℕ → Slice ℤ → Slice ℕ → Slice ℤ → Type 0
+BothIn F pack sheet kinds slots si sv b f wi wv ri rv =
+    Both F (now (pack .entry)) sheet kinds slots (now (si .entry)) (now (sv .entry)) b (now (f .entry)) (now (f .exit)) (now (wi .entry)) (now (wi .exit)) (now (wv .entry)) (now (wv .exit))
+    (now (ri .entry)) (now (ri .exit)) (now (rv .entry)) (now (rv .exit))

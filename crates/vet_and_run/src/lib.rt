@@ -3,7 +3,7 @@ use ink_value::Value;
 use running::Ran;
 use vetting::Vetted;
 ghost use Rattle.pack.specs.Format.{format1};
-ghost use Rattle.vet_and_run.specs.Both.{Both};
+ghost use Rattle.vet_and_run.specs.Both.{BothIn};
 
 // The answers of the two calls.
 pub struct VettedRun {
@@ -26,9 +26,7 @@ pub fn vet_and_run(
     result_items: &mut [u16],
     result_values: &mut [i32],
 ) -> VettedRun
-    ensures { λ r. ⌜ Both format1 (now (pack .entry)) sheet kinds slots (now («slot_items» .entry)) (now («slot_values» .entry)) r
-        (now (forecast .entry)) (now (forecast .exit)) (now («work_items» .entry)) (now («work_items» .exit)) (now («work_values» .entry)) (now («work_values» .exit))
-        (now («result_items» .entry)) (now («result_items» .exit)) (now («result_values» .entry)) (now («result_values» .exit)) ⌝ }
+    ensures { λ r. ⌜ BothIn format1 pack sheet kinds slots «slot_items» «slot_values» r forecast «work_items» «work_values» «result_items» «result_values» ⌝ }
 {
     let vetted = vetting::vet(pack, sheet, kinds, forecast);
     let ran = run_any::run(
