@@ -9,22 +9,20 @@ use pack_check::format::FORMAT1;
 use value_words::words;
 ghost use mathlib.Core.Path.{_≡_};
 ghost use mathlib.Core.Bool.{true};
-ghost use mathlib.Core.List.{map};
 ghost use Prim.Native.Nat.{_≤_};
 ghost use lib.ListN.{length, take};
 ghost use denote.Ref.{now};
 ghost use Rattle.ink_value.specs.Convert.{coerceBool, coerceInt, coerceFloat};
-ghost use Rattle.ink_value.specs.Slices.{valIn};
 ghost use Rattle.native_function_call.specs.Lists.{definitions, definitionsIn};
 ghost use Rattle.pack.specs.Bodies.{decoded};
 ghost use Rattle.pack.specs.Format.{format1};
 ghost use Rattle.pack.specs.Judge.{judge};
 ghost use Rattle.calls.specs.Call.{operandsOk, called, castTo, coerced, onPack, PackLists};
-ghost use Rattle.sheet.specs.Whole.{opened};
-ghost use Rattle.running.specs.Run.{memory};
-ghost use Rattle.value_words.specs.Words.{valueAt, slotsIn};
+ghost use Rattle.running.specs.Slices.{Kept};
+ghost use Rattle.value_words.specs.Words.{valueAt};
 ghost use Rattle.value_words.specs.Calls.{numberOf, operandsIn, Says, Calls};
-ghost use Rattle.ink_operators.specs.Answers.{RunSays, VetSays, Passed, Reads, Ready, Clear};
+ghost use Rattle.ink_operators.specs.Answers.{VetSays, Passed, Reads, Ready, Clear};
+ghost use Rattle.ink_operators.specs.Slices.{RunSaysAny};
 
 // Questions 1 to 5 of a pack: 0, or the number of the first no.
 #[no_mangle]
@@ -67,10 +65,7 @@ pub extern "C" fn ink_run(
     result_values: &mut [i32],
     answer: &mut [u64; 3],
 ) -> u32
-    ensures { λ r. ⌜ RunSays format1 (opened format1 (now (pack .entry)) sheet (memory format1 (slotsIn (now (slots .entry))) (now («slot_items» .entry)) (now («slot_values» .entry)) (now («work_items» .entry)) (now («work_values» .entry)) (now («result_items» .entry)) (now («result_values» .entry))))
-        sheet (map (valIn «slot_items» «slot_values») (slotsIn (now (slots .entry)))) r (now (answer .exit))
-        (now («work_items» .entry)) (now («work_items» .exit)) (now («work_values» .entry)) (now («work_values» .exit))
-        (now («result_items» .entry)) (now («result_items» .exit)) (now («result_values» .entry)) (now («result_values» .exit)) ⌝ }
+    ensures { λ r. ⌜ RunSaysAny format1 pack sheet slots «slot_items» «slot_values» r answer «work_items» «work_values» «result_items» «result_values» ⌝ }
 {
     let values = words::slots_in(slots);
     let ran = run_any::run(
@@ -223,11 +218,8 @@ pub extern "C" fn ink_run_checked(
     answer: &mut [u64; 3],
 ) -> u32
     requires { ⌜ Ready format1 (now pack) (now ends) (now defined) × Clear format1 (now «work_items») (now «work_values») ⌝ }
-    ensures { λ r. ⌜ RunSays format1 (opened format1 (now (pack .entry)) sheet (memory format1 (slotsIn (now (slots .entry))) (now («slot_items» .entry)) (now («slot_values» .entry)) (now («work_items» .entry)) (now («work_values» .entry)) (now («result_items» .entry)) (now («result_values» .entry))))
-        sheet (map (valIn «slot_items» «slot_values») (slotsIn (now (slots .entry)))) r (now (answer .exit))
-        (now («work_items» .entry)) (now («work_items» .exit)) (now («work_values» .entry)) (now («work_values» .exit))
-        (now («result_items» .entry)) (now («result_items» .exit)) (now («result_values» .entry)) (now («result_values» .exit)) ⌝ }
-    ensures { λ _. ⌜ (now («work_items» .exit) ≡ now («work_items» .entry)) × (now («work_values» .exit) ≡ now («work_values» .entry)) ⌝ }
+    ensures { λ r. ⌜ RunSaysAny format1 pack sheet slots «slot_items» «slot_values» r answer «work_items» «work_values» «result_items» «result_values» ⌝ }
+    ensures { λ _. ⌜ Kept «work_items» «work_values» ⌝ }
 {
     let values = words::slots_in(slots);
     let ran = ready::run_ready(

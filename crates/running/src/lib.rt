@@ -23,7 +23,8 @@ ghost use Rattle.pack.specs.Instruction.{instrOf};
 ghost use Rattle.pack.specs.Read.{literalOf, program};
 ghost use Rattle.sheet.specs.Machine.{stackLimit, step, run};
 ghost use Rattle.stepping.specs.Steps.{Inputs, Put, Roomy, IfOp, IfSlot};
-ghost use Rattle.running.specs.Run.{RanTo, Memory, runOf};
+ghost use Rattle.running.specs.Run.{Memory, runOf};
+ghost use Rattle.running.specs.Slices.{RanIn, Kept};
 ghost use Rattle.running.specs.Work.{Longest, cleared, Worked};
 
 // A run's answer. A List's entries stand in the result slices, from the start.
@@ -228,9 +229,8 @@ pub fn run_checked(
 ) -> Ran
     requires { ⌜ Inputs format (now pack) (now ends) (now defined) slots (now «slot_items») (now «slot_values») × (sheet < sheetCount (now pack)) ⌝ }
     requires { ⌜ Memory format (now «work_items») (now «work_values») (now «result_items») (now «result_values») ⌝ }
-    ensures { λ r. ⌜ RanTo (runOf format (now (pack .entry)) sheet (map (valIn «slot_items» «slot_values») slots)) r
-        (now («result_items» .entry)) (now («result_items» .exit)) (now («result_values» .entry)) (now («result_values» .exit)) ⌝ }
-    ensures { λ _. ⌜ (now («work_items» .exit) ≡ now («work_items» .entry)) × (now («work_values» .exit) ≡ now («work_values» .entry)) ⌝ }
+    ensures { λ r. ⌜ RanIn (runOf format (now (pack .entry)) sheet (map (valIn «slot_items» «slot_values») slots)) r «result_items» «result_values» ⌝ }
+    ensures { λ _. ⌜ Kept «work_items» «work_values» ⌝ }
 {
     let mut used = [0usize; STACK_LIMIT];
     let ran = work(
