@@ -1,2 +1,3 @@
 -- What direct calls and conversions on a pack answer.
 pub mod Call
+pub mod Slices

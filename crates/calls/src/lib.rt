@@ -19,17 +19,18 @@ ghost use denote.Ref.{now};
 ghost use Rattle.native_function_call.specs.Lists.{definitions, definitionsIn};
 ghost use Rattle.pack.specs.Read.{definitionsOf};
 ghost use Rattle.ink_value.specs.Convert.{cast, coerceBool, coerceInt, coerceFloat};
-ghost use Rattle.ink_value.specs.Value.{placed, allFormed};
+ghost use Rattle.ink_value.specs.Value.{placed};
 ghost use Rattle.ink_value.specs.Slices.{Gives};
 ghost use Rattle.ink_value.specs.declared.Value.the-variants as Is;
 ghost use Rattle.pack.specs.Bodies.{decoded};
 ghost use Rattle.pack.specs.Format.{format1, Runnable};
 ghost use Rattle.pack.specs.Judge.{Sound};
-ghost use Rattle.calls.specs.Call.{operandsOk, called, castTo, coerced, onPack, PackLists};
+ghost use Rattle.calls.specs.Call.{operandsOk, PackLists};
+ghost use Rattle.calls.specs.Slices.{formedIn, calledIn, castIn, coercedIn, onPackIn};
 
 // Question 7 of a value, with its two slices equally long.
 fn one_formed(v: Value, items: &[u16], values: &[i32], total: usize, definitions: usize) -> bool
-    ensures { λ r. ⌜ r ≡ allFormed total definitions (now (items .entry)) (now (values .entry)) (v ∷ []) ⌝ }
+    ensures { λ r. ⌜ r ≡ formedIn total definitions items values (v ∷ []) ⌝ }
 {
     if items.len() != values.len() {
         return false;
@@ -47,7 +48,7 @@ fn three_formed(
     total: usize,
     definitions: usize,
 ) -> bool
-    ensures { λ r. ⌜ r ≡ allFormed total definitions (now (items .entry)) (now (values .entry)) (a ∷ b ∷ c ∷ []) ⌝ }
+    ensures { λ r. ⌜ r ≡ formedIn total definitions items values (a ∷ b ∷ c ∷ []) ⌝ }
 {
     if items.len() != values.len() {
         return false;
@@ -79,7 +80,7 @@ fn used_formed(
     total: usize,
     definitions: usize,
 ) -> bool
-    ensures { λ r. ⌜ r ≡ allFormed total definitions (now (items .entry)) (now (values .entry)) (take count (a ∷ b ∷ c ∷ [])) ⌝ }
+    ensures { λ r. ⌜ r ≡ formedIn total definitions items values (take count (a ∷ b ∷ c ∷ [])) ⌝ }
 {
     three_formed(
         used(0 < count, a),
@@ -106,7 +107,7 @@ pub fn lent_well(
     result_items: usize,
     result_values: usize,
 ) -> bool
-    ensures { λ r. ⌜ r ≡ (allFormed total definitions (now (items .entry)) (now (values .entry)) (take count (a ∷ b ∷ c ∷ [])) and (leb limit «result_items» and leb limit «result_values»)) ⌝ }
+    ensures { λ r. ⌜ r ≡ (formedIn total definitions items values (take count (a ∷ b ∷ c ∷ [])) and (leb limit «result_items» and leb limit «result_values»)) ⌝ }
 {
     if result_items < limit {
         return false;
@@ -135,7 +136,7 @@ pub fn call_formed(
     requires { ⌜ PackLists limit (now ends) (now defined) ⌝ }
     requires { ⌜ operandsOk (definitions (now ends) (now defined) limit) (now items) (now values) (take count (a ∷ b ∷ c ∷ [])) ≡ true ⌝ }
     requires { ⌜ (limit ≤ length (now oi)) × (limit ≤ length (now ov)) × (1 ≤ limit) × (limit < itemNumbers) ⌝ }
-    ensures { λ r. ⌜ Gives (called (now (items .entry)) (now (values .entry)) (now (oi .entry)) (now (ov .entry)) op count (a ∷ b ∷ c ∷ []) (definitionsIn ends defined limit)) r oi ov ⌝ }
+    ensures { λ r. ⌜ Gives (calledIn items values oi ov op count (a ∷ b ∷ c ∷ []) (definitionsIn ends defined limit)) r oi ov ⌝ }
 {
     native_function_call::apply(
         op,
@@ -169,7 +170,7 @@ pub fn call_with(
     ov: &mut [i32],
 ) -> Outcome
     requires { ⌜ PackLists limit (now ends) (now defined) × (1 ≤ limit) × (limit < itemNumbers) ⌝ }
-    ensures { λ r. ⌜ Gives (called (now (items .entry)) (now (values .entry)) (now (oi .entry)) (now (ov .entry)) op count (a ∷ b ∷ c ∷ []) (definitionsIn ends defined limit)) r oi ov ⌝ }
+    ensures { λ r. ⌜ Gives (calledIn items values oi ov op count (a ∷ b ∷ c ∷ []) (definitionsIn ends defined limit)) r oi ov ⌝ }
 {
     if !lent_well(
         count,
@@ -218,7 +219,7 @@ fn call_checked(
     ov: &mut [i32],
 ) -> Outcome
     requires { ⌜ Sound format (now pack) × Runnable format × (format .limit ≤ length (now defined)) ⌝ }
-    ensures { λ r. ⌜ Gives (called (now (items .entry)) (now (values .entry)) (now (oi .entry)) (now (ov .entry)) op count (a ∷ b ∷ c ∷ []) (definitionsOf (decoded format (now (pack .entry))) format)) r oi ov ⌝ }
+    ensures { λ r. ⌜ Gives (calledIn items values oi ov op count (a ∷ b ∷ c ∷ []) (definitionsOf (decoded format (now (pack .entry))) format)) r oi ov ⌝ }
 {
     let mut ends = [0u16; DEFINITION_LIMIT];
     let read = pack_read::read_definitions(pack, &mut ends, defined, format);
@@ -253,7 +254,7 @@ pub fn call(
     result_items: &mut [u16],
     result_values: &mut [i32],
 ) -> Outcome
-    ensures { λ r. ⌜ Gives (onPack format1 (now (pack .entry)) (called (now (items .entry)) (now (values .entry)) (now («result_items» .entry)) (now («result_values» .entry)) op count (a ∷ b ∷ c ∷ []))) r «result_items» «result_values» ⌝ }
+    ensures { λ r. ⌜ Gives (onPackIn format1 pack (calledIn items values «result_items» «result_values» op count (a ∷ b ∷ c ∷ []))) r «result_items» «result_values» ⌝ }
 {
     match pack_check::check(pack) {
         Checked::Refused(number) => Outcome::Refused(number),
@@ -299,7 +300,7 @@ fn cast_checked(
     ov: &mut [i32],
 ) -> Outcome
     requires { ⌜ Sound format (now pack) × Runnable format ⌝ }
-    ensures { λ r. ⌜ Gives (castTo (now (items .entry)) (now (values .entry)) (now (oi .entry)) (now (ov .entry)) to v (definitionsOf (decoded format (now (pack .entry))) format)) r oi ov ⌝ }
+    ensures { λ r. ⌜ Gives (castIn items values oi ov to v (definitionsOf (decoded format (now (pack .entry))) format)) r oi ov ⌝ }
 {
     if !operand_formed(pack, v, items, values, format) {
         return Outcome::Refused(7);
@@ -323,7 +324,7 @@ pub fn cast(
     result_items: &mut [u16],
     result_values: &mut [i32],
 ) -> Outcome
-    ensures { λ r. ⌜ Gives (onPack format1 (now (pack .entry)) (castTo (now (items .entry)) (now (values .entry)) (now («result_items» .entry)) (now («result_values» .entry)) to v)) r «result_items» «result_values» ⌝ }
+    ensures { λ r. ⌜ Gives (onPackIn format1 pack (castIn items values «result_items» «result_values» to v)) r «result_items» «result_values» ⌝ }
 {
     match pack_check::check(pack) {
         Checked::Refused(number) => Outcome::Refused(number),
@@ -342,7 +343,7 @@ pub fn cast(
 
 // `coerce_to_bool`: Bool and Int only, and only Int 1 is true.
 pub fn coerce_to_bool(pack: &[u8], v: Value, items: &[u16], values: &[i32]) -> Outcome
-    ensures { λ r. ⌜ r ≡ placed (onPack format1 (now (pack .entry)) (coerced (now (items .entry)) (now (values .entry)) coerceBool v)) ⌝ }
+    ensures { λ r. ⌜ r ≡ placed (onPackIn format1 pack (coercedIn items values coerceBool v)) ⌝ }
 {
     match pack_check::check(pack) {
         Checked::Refused(number) => Outcome::Refused(number),
@@ -357,7 +358,7 @@ pub fn coerce_to_bool(pack: &[u8], v: Value, items: &[u16], values: &[i32]) -> O
 
 // `coerce_to_int`: not List or Void.
 pub fn coerce_to_int(pack: &[u8], v: Value, items: &[u16], values: &[i32]) -> Outcome
-    ensures { λ r. ⌜ r ≡ placed (onPack format1 (now (pack .entry)) (coerced (now (items .entry)) (now (values .entry)) coerceInt v)) ⌝ }
+    ensures { λ r. ⌜ r ≡ placed (onPackIn format1 pack (coercedIn items values coerceInt v)) ⌝ }
 {
     match pack_check::check(pack) {
         Checked::Refused(number) => Outcome::Refused(number),
@@ -372,7 +373,7 @@ pub fn coerce_to_int(pack: &[u8], v: Value, items: &[u16], values: &[i32]) -> Ou
 
 // `coerce_to_float`: not List or Void.
 pub fn coerce_to_float(pack: &[u8], v: Value, items: &[u16], values: &[i32]) -> Outcome
-    ensures { λ r. ⌜ r ≡ placed (onPack format1 (now (pack .entry)) (coerced (now (items .entry)) (now (values .entry)) coerceFloat v)) ⌝ }
+    ensures { λ r. ⌜ r ≡ placed (onPackIn format1 pack (coercedIn items values coerceFloat v)) ⌝ }
 {
     match pack_check::check(pack) {
         Checked::Refused(number) => Outcome::Refused(number),

@@ -17,10 +17,12 @@ ghost use Rattle.native_function_call.specs.Lists.{definitions, definitionsIn};
 ghost use Rattle.pack.specs.Bodies.{decoded};
 ghost use Rattle.pack.specs.Format.{format1};
 ghost use Rattle.pack.specs.Judge.{judge};
-ghost use Rattle.calls.specs.Call.{operandsOk, called, castTo, coerced, onPack, PackLists};
+ghost use Rattle.calls.specs.Call.{operandsOk, PackLists};
+ghost use Rattle.calls.specs.Slices.{calledIn, castIn, coercedIn, onPackIn};
 ghost use Rattle.running.specs.Slices.{Kept};
 ghost use Rattle.value_words.specs.Words.{valueAt};
-ghost use Rattle.value_words.specs.Calls.{numberOf, operandsIn, Says, Calls};
+ghost use Rattle.value_words.specs.Calls.{numberOf, operandsIn};
+ghost use Rattle.value_words.specs.Slices.{SaysIn, CallsIn};
 ghost use Rattle.ink_operators.specs.Answers.{VetSays, Passed, Reads, Ready, Clear};
 ghost use Rattle.ink_operators.specs.Slices.{RunSaysAny};
 
@@ -95,8 +97,8 @@ pub extern "C" fn ink_call(
     result_values: &mut [i32],
     answer: &mut [u64; 3],
 ) -> u32
-    ensures { λ r. ⌜ Calls (onPack format1 (now (pack .entry)) (called (now (items .entry)) (now (values .entry)) (now («result_items» .entry)) (now («result_values» .entry)) op count (operandsIn (now (operands .entry)))))
-        r (now (answer .exit)) (now («result_items» .entry)) (now («result_items» .exit)) (now («result_values» .entry)) (now («result_values» .exit)) ⌝ }
+    ensures { λ r. ⌜ CallsIn (onPackIn format1 pack (calledIn items values «result_items» «result_values» op count (operandsIn (now (operands .entry)))))
+        r answer «result_items» «result_values» ⌝ }
 {
     let a = words::operand_at(operands, 0);
     let b = words::operand_at(operands, 1);
@@ -128,8 +130,8 @@ pub extern "C" fn ink_cast(
     result_values: &mut [i32],
     answer: &mut [u64; 3],
 ) -> u32
-    ensures { λ r. ⌜ Calls (onPack format1 (now (pack .entry)) (castTo (now (items .entry)) (now (values .entry)) (now («result_items» .entry)) (now («result_values» .entry)) code (valueAt (now (operand .entry)) 0)))
-        r (now (answer .exit)) (now («result_items» .entry)) (now («result_items» .exit)) (now («result_values» .entry)) (now («result_values» .exit)) ⌝ }
+    ensures { λ r. ⌜ CallsIn (onPackIn format1 pack (castIn items values «result_items» «result_values» code (valueAt (now (operand .entry)) 0)))
+        r answer «result_items» «result_values» ⌝ }
 {
     let v = words::value_in(operand);
     let outcome = calls::cast(pack, code, v, items, values, result_items, result_values);
@@ -145,7 +147,7 @@ pub extern "C" fn ink_coerce_to_bool(
     values: &[i32],
     answer: &mut [u64; 3],
 ) -> u32
-    ensures { λ r. ⌜ Says (onPack format1 (now (pack .entry)) (coerced (now (items .entry)) (now (values .entry)) coerceBool (valueAt (now (operand .entry)) 0))) r (now (answer .exit)) ⌝ }
+    ensures { λ r. ⌜ SaysIn (onPackIn format1 pack (coercedIn items values coerceBool (valueAt (now (operand .entry)) 0))) r answer ⌝ }
 {
     let v = words::value_in(operand);
     let outcome = calls::coerce_to_bool(pack, v, items, values);
@@ -160,7 +162,7 @@ pub extern "C" fn ink_coerce_to_int(
     values: &[i32],
     answer: &mut [u64; 3],
 ) -> u32
-    ensures { λ r. ⌜ Says (onPack format1 (now (pack .entry)) (coerced (now (items .entry)) (now (values .entry)) coerceInt (valueAt (now (operand .entry)) 0))) r (now (answer .exit)) ⌝ }
+    ensures { λ r. ⌜ SaysIn (onPackIn format1 pack (coercedIn items values coerceInt (valueAt (now (operand .entry)) 0))) r answer ⌝ }
 {
     let v = words::value_in(operand);
     let outcome = calls::coerce_to_int(pack, v, items, values);
@@ -175,7 +177,7 @@ pub extern "C" fn ink_coerce_to_float(
     values: &[i32],
     answer: &mut [u64; 3],
 ) -> u32
-    ensures { λ r. ⌜ Says (onPack format1 (now (pack .entry)) (coerced (now (items .entry)) (now (values .entry)) coerceFloat (valueAt (now (operand .entry)) 0))) r (now (answer .exit)) ⌝ }
+    ensures { λ r. ⌜ SaysIn (onPackIn format1 pack (coercedIn items values coerceFloat (valueAt (now (operand .entry)) 0))) r answer ⌝ }
 {
     let v = words::value_in(operand);
     let outcome = calls::coerce_to_float(pack, v, items, values);
@@ -254,8 +256,8 @@ pub extern "C" fn ink_call_checked(
     answer: &mut [u64; 3],
 ) -> u32
     requires { ⌜ PackLists (format1 .limit) (now ends) (now defined) ⌝ }
-    ensures { λ r. ⌜ Calls (called (now (items .entry)) (now (values .entry)) (now («result_items» .entry)) (now («result_values» .entry)) op count (operandsIn (now (operands .entry))) (definitionsIn ends defined (format1 .limit)))
-        r (now (answer .exit)) (now («result_items» .entry)) (now («result_items» .exit)) (now («result_values» .entry)) (now («result_values» .exit)) ⌝ }
+    ensures { λ r. ⌜ CallsIn (calledIn items values «result_items» «result_values» op count (operandsIn (now (operands .entry))) (definitionsIn ends defined (format1 .limit)))
+        r answer «result_items» «result_values» ⌝ }
 {
     let a = words::operand_at(operands, 0);
     let b = words::operand_at(operands, 1);
@@ -312,8 +314,8 @@ pub extern "C" fn ink_apply(
     requires { ⌜ PackLists (format1 .limit) (now ends) (now defined) ⌝ }
     requires { ⌜ operandsOk (definitions (now ends) (now defined) (format1 .limit)) (now items) (now values) (take count (operandsIn (now operands))) ≡ true ⌝ }
     requires { ⌜ (format1 .limit ≤ length (now «result_items»)) × (format1 .limit ≤ length (now «result_values»)) ⌝ }
-    ensures { λ r. ⌜ Calls (called (now (items .entry)) (now (values .entry)) (now («result_items» .entry)) (now («result_values» .entry)) op count (operandsIn (now (operands .entry))) (definitionsIn ends defined (format1 .limit)))
-        r (now (answer .exit)) (now («result_items» .entry)) (now («result_items» .exit)) (now («result_values» .entry)) (now («result_values» .exit)) ⌝ }
+    ensures { λ r. ⌜ CallsIn (calledIn items values «result_items» «result_values» op count (operandsIn (now (operands .entry))) (definitionsIn ends defined (format1 .limit)))
+        r answer «result_items» «result_values» ⌝ }
 {
     let kind = word_operators::number_kind(op, count, operands);
     if kind < 3 {

@@ -23,9 +23,11 @@ ghost use Rattle.ink_value.specs.Value.{valOf, Formed, FirstFormed};
 ghost use Rattle.ink_value.specs.Slices.{valIn};
 ghost use Rattle.native_function_call.specs.Apply.{ofInt, compute};
 ghost use Rattle.native_function_call.specs.Lists.{Room, definitions, definitionsIn};
-ghost use Rattle.calls.specs.Call.{operandsOk, called, PackLists};
+ghost use Rattle.calls.specs.Call.{operandsOk, PackLists};
+ghost use Rattle.calls.specs.Slices.{calledIn};
 ghost use Rattle.value_words.specs.Words.{valueAt};
-ghost use Rattle.value_words.specs.Calls.{operandsIn, Says, Calls};
+ghost use Rattle.value_words.specs.Calls.{operandsIn};
+ghost use Rattle.value_words.specs.Slices.{SaysIn, CallsIn};
 ghost use Rattle.word_operators.specs.Operands.{Held, OfNumbers, NumberKind, FirstIn, valsAt};
 
 // The kind code in a value's first word; 4 where it has none.
@@ -82,7 +84,7 @@ pub fn number_kind(op: u8, count: usize, operands: &[u64; 9]) -> u8
 
 // A result that is an Int.
 fn put_whole(d: Divided, answer: &mut [u64; 3]) -> u32
-    ensures { λ r. ⌜ Says (ofInt (divided d)) r (now (answer .exit)) ⌝ }
+    ensures { λ r. ⌜ SaysIn (ofInt (divided d)) r answer ⌝ }
 {
     match d {
         Divided::Value(z) => {
@@ -99,7 +101,7 @@ fn put_whole(d: Divided, answer: &mut [u64; 3]) -> u32
 // A result of one number.
 fn number1(op: u8, kind: u8, operands: &[u64; 9], answer: &mut [u64; 3]) -> u32
     requires { ⌜ OfNumbers (now operands) op 1 kind ⌝ }
-    ensures { λ r. ⌜ ((u : ListDefinitions) (is : List ℕ) (vs : List ℤ) → Says (compute u op (valOf is vs (valueAt (now (operands .entry)) 0) ∷ []) (kindAt kind)) r (now (answer .exit))) ⌝ }
+    ensures { λ r. ⌜ ((u : ListDefinitions) (is : List ℕ) (vs : List ℤ) → SaysIn (compute u op (valOf is vs (valueAt (now (operands .entry)) 0) ∷ []) (kindAt kind)) r answer) ⌝ }
 {
     let ka = code_in(operands[0]);
     let za = whole_in(operands[1]);
@@ -123,7 +125,7 @@ fn number1(op: u8, kind: u8, operands: &[u64; 9], answer: &mut [u64; 3]) -> u32
 fn number2(op: u8, kind: u8, operands: &[u64; 9], answer: &mut [u64; 3]) -> u32
     requires { ⌜ OfNumbers (now operands) op 2 kind ⌝ }
     ensures { λ r. ⌜ ((u : ListDefinitions) (is : List ℕ) (vs : List ℤ)
-        → Says (compute u op (valOf is vs (valueAt (now (operands .entry)) 0) ∷ valOf is vs (valueAt (now (operands .entry)) 1) ∷ []) (kindAt kind)) r (now (answer .exit))) ⌝ }
+        → SaysIn (compute u op (valOf is vs (valueAt (now (operands .entry)) 0) ∷ valOf is vs (valueAt (now (operands .entry)) 1) ∷ []) (kindAt kind)) r answer) ⌝ }
 {
     let ka = code_in(operands[0]);
     let za = whole_in(operands[1]);
@@ -149,7 +151,7 @@ fn number2(op: u8, kind: u8, operands: &[u64; 9], answer: &mut [u64; 3]) -> u32
 pub fn number(op: u8, kind: u8, count: usize, operands: &[u64; 9], answer: &mut [u64; 3]) -> u32
     requires { ⌜ OfNumbers (now operands) op count kind ⌝ }
     ensures { λ r. ⌜ ((u : ListDefinitions) (is : List ℕ) (vs : List ℤ)
-        → Says (compute u op (take count (valOf is vs (valueAt (now (operands .entry)) 0) ∷ valOf is vs (valueAt (now (operands .entry)) 1) ∷ [])) (kindAt kind)) r (now (answer .exit))) ⌝ }
+        → SaysIn (compute u op (take count (valOf is vs (valueAt (now (operands .entry)) 0) ∷ valOf is vs (valueAt (now (operands .entry)) 1) ∷ [])) (kindAt kind)) r answer) ⌝ }
 {
     if count == 1 {
         return number1(op, kind, operands, answer);
@@ -169,7 +171,7 @@ fn scalar(
 ) -> u32
     requires { ⌜ (kind < 5) × (kind ≡ 3 → ⊥) × (1 ≤ n) × (n ≤ 2) ⌝ }
     requires { ⌜ Held (now operands) n × FirstIn itemNumbers (now items) (now values) n (now operands) ⌝ }
-    ensures { λ r. ⌜ ((u : ListDefinitions) → Says (compute u op (take n (valIn items values (valueAt (now (operands .entry)) 0) ∷ valIn items values (valueAt (now (operands .entry)) 1) ∷ [])) (kindAt kind)) r (now (answer .exit))) ⌝ }
+    ensures { λ r. ⌜ ((u : ListDefinitions) → SaysIn (compute u op (take n (valIn items values (valueAt (now (operands .entry)) 0) ∷ valIn items values (valueAt (now (operands .entry)) 1) ∷ [])) (kindAt kind)) r answer) ⌝ }
 {
     let ka = code_in(operands[0]);
     let za = whole_in(operands[1]);
@@ -219,8 +221,8 @@ fn list(
 ) -> u32
     requires { ⌜ Room (definitions (now ends) (now defined) limit) (now «result_items») (now «result_values») × (1 ≤ count) × (count ≤ 3) ⌝ }
     requires { ⌜ FirstIn limit (now items) (now values) count (now operands) ⌝ }
-    ensures { λ r. ⌜ Calls (compute (definitionsIn ends defined limit) op (take count (valsAt (now (items .entry)) (now (values .entry)) (now (operands .entry)))) listK)
-        r (now (answer .exit)) (now («result_items» .entry)) (now («result_items» .exit)) (now («result_values» .entry)) (now («result_values» .exit)) ⌝ }
+    ensures { λ r. ⌜ CallsIn (compute (definitionsIn ends defined limit) op (take count (valsAt (now (items .entry)) (now (values .entry)) (now (operands .entry)))) listK)
+        r answer «result_items» «result_values» ⌝ }
 {
     let a = words::operand_at(operands, 0);
     let b = words::operand_at(operands, 1);
@@ -259,8 +261,8 @@ pub fn apply(
     requires { ⌜ PackLists limit (now ends) (now defined) ⌝ }
     requires { ⌜ operandsOk (definitions (now ends) (now defined) limit) (now items) (now values) (take count (operandsIn (now operands))) ≡ true ⌝ }
     requires { ⌜ (limit ≤ length (now «result_items»)) × (limit ≤ length (now «result_values»)) × (1 ≤ limit) × (limit < itemNumbers) ⌝ }
-    ensures { λ r. ⌜ Calls (called (now (items .entry)) (now (values .entry)) (now («result_items» .entry)) (now («result_values» .entry)) op count (operandsIn (now (operands .entry))) (definitionsIn ends defined limit))
-        r (now (answer .exit)) (now («result_items» .entry)) (now («result_items» .exit)) (now («result_values» .entry)) (now («result_values» .exit)) ⌝ }
+    ensures { λ r. ⌜ CallsIn (calledIn items values «result_items» «result_values» op count (operandsIn (now (operands .entry))) (definitionsIn ends defined limit))
+        r answer «result_items» «result_values» ⌝ }
 {
     let kind = native_function_call::kinds(
         op,
