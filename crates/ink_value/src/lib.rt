@@ -1,4 +1,6 @@
 // Values, what they read as, and the conversions.
+pub mod kind_code;
+
 ghost use mathlib.Core.Path.{_≡_};
 ghost use mathlib.Core.Bool.{true};
 ghost use mathlib.Core.List.{List};

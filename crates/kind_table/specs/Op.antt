@@ -49,6 +49,18 @@ opOr = 14
 abbrev pub opMin : ℕ
 opMin = 15
 
+abbrev pub opMax : ℕ
+opMax = 16
+
+abbrev pub opPow : ℕ
+opPow = 17
+
+abbrev pub opFloor : ℕ
+opFloor = 18
+
+abbrev pub opCeiling : ℕ
+opCeiling = 19
+
 abbrev pub opInt : ℕ
 opInt = 20
 
@@ -57,6 +69,12 @@ opFloat = 21
 
 abbrev pub opHas : ℕ
 opHas = 22
+
+abbrev pub opHasnt : ℕ
+opHasnt = 23
+
+abbrev pub opIntersect : ℕ
+opIntersect = 24
 
 abbrev pub opListMin : ℕ
 opListMin = 25
@@ -69,6 +87,12 @@ opAll = 27
 
 abbrev pub opCount : ℕ
 opCount = 28
+
+abbrev pub opValueOfList : ℕ
+opValueOfList = 29
+
+abbrev pub opInvert : ℕ
+opInvert = 30
 
 abbrev pub opRange : ℕ
 opRange = 31

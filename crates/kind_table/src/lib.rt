@@ -1,5 +1,7 @@
 // The operators on kinds: the table of 775 answers that vetting works from, the same answers as the operators look them up, range beside
 // them, and how many operands an operator takes.
+pub mod op;
+
 ghost use mathlib.Core.Path.{_≡_};
 ghost use Prim.Native.Nat.{_<_};
 ghost use Rattle.ink_value.specs.Val.{kindAt};
