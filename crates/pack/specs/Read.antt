@@ -1,5 +1,5 @@
 -- What the readers give of a pack that has passed, all in terms of the decoded pack.
-use Prim.Native.Nat.{ℕ, _+_, _-_, _≤_, _<_}
+use Prim.Native.Nat.{ℕ, _+_, _-_, _*_, _≤_, _<_}
 use mathlib.Core.List.{List, [], _∷_, _++_}
 use mathlib.Core.Option.{some}
 use mathlib.Core.Path.{_≡_}
@@ -10,6 +10,7 @@ use Rattle.list_definitions.specs.Defs.{ListDefinitions}
 use Rattle.ink_list.specs.Every.{table}
 use Rattle.ink_list.specs.Filled.{fill, over}
 use Rattle.pack.specs.Bodies.{Literal, Pack, sheet}
+use Rattle.pack.specs.Bytes.{number, i32}
 use Rattle.pack.specs.Contents.{literalCount, sheetCount, sheetBody, offset, size}
 use Rattle.pack.specs.Format.{instructionLimit}
 use Rattle.pack.specs.declared.format.Format.{Format}
@@ -53,6 +54,13 @@ pub record Tabled (d : Pack) (definitions items : ℕ) (oe oe′ : List ℕ) (od
   pub defined-long : items ≡ length (definedOf d)
   pub ends-in : oe′ ≡ over (endsOf d) oe
   pub defined-in : od′ ≡ over (definedOf d) od
+
+-- the item and the value of entry k, of those that stand from a position on
+abbrev pub itemFrom : ℕ → List ℕ → ℕ → ℕ → ℕ
+itemFrom wide p at k = number wide p (at + (wide + 4) * k)
+
+abbrev pub valueFrom : ℕ → List ℕ → ℕ → ℕ → ℤ
+valueFrom wide p at k = i32 p (at + (wide + 4) * k + wide)
 
 -- entries stored from a place on of two slices, which are else as they were
 pub record Stored (es : List Entry) (from count : ℕ) (oi oi′ : List ℕ) (ov ov′ : List ℤ) : Type 0 where

@@ -14,11 +14,12 @@ ghost use lib.ListN.{length};
 ghost use Rattle.ink_list.specs.Every.{table};
 ghost use Rattle.ink_list.specs.Filled.{fill};
 ghost use Rattle.pack.specs.Bodies.{itemCount, decoded};
-ghost use Rattle.pack.specs.Bytes.{i32, number};
+ghost use Rattle.pack.specs.Bytes.{i32};
 ghost use Rattle.pack.specs.Contents.{definitionCount, literalCount, sheetCount};
 ghost use Rattle.pack.specs.Format.{Narrow};
 ghost use Rattle.pack.specs.Judge.{question5, Framed, Placed, Sound};
-ghost use Rattle.pack.specs.Read.{literalOf, Tabled, Stored, SheetSpan};
+ghost use Rattle.pack.specs.Read.{literalOf, SheetSpan};
+ghost use Rattle.pack_read.specs.Slices.{Copies, TabledIn, StoredIn};
 
 // Copies n values that stand one after another from a position, into the places from an index on.
 fn copy_values(p: &[u8], at: usize, n: usize, out: &mut [i32], from: usize)
@@ -46,7 +47,7 @@ pub fn read_definitions(p: &[u8], ends: &mut [u16], defined: &mut [i32], format:
     requires { ⌜ Sound format (now p) ⌝ }
     requires { ⌜ definitionCount (now p) ≤ length (now ends) ⌝ }
     requires { ⌜ itemCount format (now p) ≤ length (now defined) ⌝ }
-    ensures { λ r. ⌜ Tabled (decoded format (now (p .entry))) (r .definitions) (r .items) (now (ends .entry)) (now (ends .exit)) (now (defined .entry)) (now (defined .exit)) ⌝ }
+    ensures { λ r. ⌜ TabledIn (decoded format (now (p .entry))) r ends defined ⌝ }
 {
     let n = byte_at(p, 1);
     let mut items = 0;
@@ -95,6 +96,33 @@ pub fn literal_len(p: &[u8], l: usize, format: Format) -> usize
 }
 
 // Copies n entries that stand one after another from a position, into the places from an index on.
+fn copy_each(
+    p: &[u8],
+    at: usize,
+    n: usize,
+    items: &mut [u16],
+    values: &mut [i32],
+    from: usize,
+    wide: usize,
+)
+    requires { ⌜ (0 < wide) × (wide ≤ 2) ⌝ }
+    requires { ⌜ at + (wide + 4) * n ≤ length (now p) ⌝ }
+    requires { ⌜ from + n ≤ length (now items) ⌝ }
+    requires { ⌜ from + n ≤ length (now values) ⌝ }
+    ensures { λ _. ⌜ Copies wide n p at from items values ⌝ }
+{
+    let mut k = 0;
+    while k < n {
+        let e = at + (wide + 4) * k;
+        let i = number_at(p, e, wide) as u16;
+        let v = i32_at(p, e + wide);
+        items[from + k] = i;
+        values[from + k] = v;
+        k += 1;
+    }
+}
+
+// The same, by a loop for each width, in which it is a constant.
 fn copy_entries(
     p: &[u8],
     at: usize,
@@ -108,18 +136,13 @@ fn copy_entries(
     requires { ⌜ at + (wide + 4) * n ≤ length (now p) ⌝ }
     requires { ⌜ from + n ≤ length (now items) ⌝ }
     requires { ⌜ from + n ≤ length (now values) ⌝ }
-    ensures { λ _. ⌜ now (items .exit) ≡ fill from (table n (λ k. number wide (now (p .entry)) (at + (wide + 4) * k))) (now (items .entry)) ⌝ }
-    ensures { λ _. ⌜ now (values .exit) ≡ fill from (table n (λ k. i32 (now (p .entry)) (at + (wide + 4) * k + wide))) (now (values .entry)) ⌝ }
+    ensures { λ _. ⌜ Copies wide n p at from items values ⌝ }
 {
-    let mut k = 0;
-    while k < n {
-        let e = at + (wide + 4) * k;
-        let i = number_at(p, e, wide) as u16;
-        let v = i32_at(p, e + wide);
-        items[from + k] = i;
-        values[from + k] = v;
-        k += 1;
+    if wide == 1 {
+        copy_each(p, at, n, items, values, from, 1);
+        return;
     }
+    copy_each(p, at, n, items, values, from, 2);
 }
 
 // Copies the entries of literal l into the places from an index on, and says how many there are.
@@ -136,7 +159,7 @@ pub fn read_literal(
     requires { ⌜ l < literalCount (now p) ⌝ }
     requires { ⌜ from + length (literalOf (decoded format (now p)) l .entries) ≤ length (now items) ⌝ }
     requires { ⌜ from + length (literalOf (decoded format (now p)) l .entries) ≤ length (now values) ⌝ }
-    ensures { λ r. ⌜ Stored (literalOf (decoded format (now (p .entry))) l .entries) from r (now (items .entry)) (now (items .exit)) (now (values .entry)) (now (values .exit)) ⌝ }
+    ensures { λ r. ⌜ StoredIn (literalOf (decoded format (now (p .entry))) l .entries) from r items values ⌝ }
 {
     let n = literal_len(p, l, format);
     let at = offset(p, byte_at(p, 1) + l) + 8;

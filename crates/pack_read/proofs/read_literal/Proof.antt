@@ -13,7 +13,7 @@ use Rattle.pack.specs.Bodies.{Literal, entryCount, item, value}
 use Rattle.pack.specs.Contents.{literalBody, offset}
 use Rattle.pack.proofs.Laid.{body}
 use Rattle.pack.proofs.Listed.{literal-listed, literal-is, entries-long}
-use Rattle.pack.proofs.Strides.{itemFrom, valueFrom}
+use Rattle.pack.specs.Read.{itemFrom, valueFrom}
 use Rattle.pack.proofs.Tables.{items-table, values-table}
 use borrow.Author.Needs.{needs}
 use Rattle.pack_read.proofs.read_literal.Statement.{statement}
