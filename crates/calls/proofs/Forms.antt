@@ -13,15 +13,16 @@ use Rattle.ink_list.specs.Every.{_and_}
 use Rattle.ink_list.specs.Entries.{bitsBelow, formed}
 use Rattle.ink_list.proofs.Every.{and-left, and-right, and-both, and-no-left, and-no-right}
 use Rattle.ink_value.specs.Val.{Val}
-use Rattle.ink_value.specs.Value.{valOf, FirstFormed, formedIn, eachFormed, allFormed}
+use Rattle.ink_value.specs.Value.{placed, valOf, FirstFormed, formedIn, eachFormed, allFormed}
 use Rattle.ink_value.specs.declared.Value.{Value}
 use Rattle.ink_value.proofs.Forming.{formed-yes}
 use Rattle.ink_number.specs.Answer.{Answer, gives, refuses}
 use Rattle.list_definitions.specs.Defs.{ListDefinitions}
 use Rattle.native_function_call.specs.Apply.{call}
-use Rattle.calls.specs.Call.{operandsOk, resultsOk, called, castTo, coerced, onPack}
+use Rattle.calls.specs.Call.{operandsOk, resultsOk, called, castTo, coerced, onPack, afterAsked}
 use Rattle.ink_value.specs.Convert.{cast}
 use Rattle.pack.specs.Bodies.{decoded}
+use Rattle.pack.specs.declared.Checked.{Checked}
 use Rattle.pack.specs.declared.format.Format.{Format}
 use Rattle.pack.specs.Judge.{judge}
 use Rattle.pack.specs.Read.{definitionsOf}
@@ -152,15 +153,19 @@ module _ (is : List ℕ) (vs : List ℤ) (oi : List ℕ) (ov : List ℤ) (to : �
   cast-goes e f = rw (and-both _ _ e f)
 
 module _ (F : Format) (p is : List ℕ) (vs : List ℤ) (f : Val → Answer Val) (v : Value) where
-  pub coerce-refused : (n : ℕ) → judge F p ≡ refuses n → refuses n ≡ onPack F p (coerced is vs f v)
-  coerce-refused n e = sym (pack-refused F p n (coerced is vs f v) e)
+  pub coerce-refused : (n : ℕ) → judge F p ≡ refuses n → onPack F p (coerced is vs f v) ≡ refuses n
+  coerce-refused n e = pack-refused F p n (coerced is vs f v) e
 
   pub coerce-ill : judge F p ≡ gives (decoded F p) → operandsOk (definitionsOf (decoded F p) F) is vs (v ∷ []) ≡ false
-      → refuses 7 ≡ onPack F p (coerced is vs f v)
+      → onPack F p (coerced is vs f v) ≡ refuses 7
   unfolding coerced
-  coerce-ill j e = sym (pack-passed F p (coerced is vs f v) j ∙ rw e)
+  coerce-ill j e = pack-passed F p (coerced is vs f v) j ∙ rw e
 
   pub coerce-goes : judge F p ≡ gives (decoded F p) → operandsOk (definitionsOf (decoded F p) F) is vs (v ∷ []) ≡ true
-      → f (valOf is vs v) ≡ onPack F p (coerced is vs f v)
+      → onPack F p (coerced is vs f v) ≡ f (valOf is vs v)
   unfolding coerced
-  coerce-goes j e = sym (pack-passed F p (coerced is vs f v) j ∙ rw e)
+  coerce-goes j e = pack-passed F p (coerced is vs f v) j ∙ rw e
+
+-- the outcome of a conversion after its questions, by what they said
+pub asked-outcome : {a : Answer Val} (b : Answer Val) (r q : Checked) → a ≡ afterAsked r b → r ≡ q → placed (afterAsked q b) ≡ placed a
+asked-outcome b r q e h = ap placed (sym (e ∙ ap (λ (x : Checked). afterAsked x b) h))

@@ -5,7 +5,7 @@ use Prim.Native.Nat.{ℕ, _≤_}
 use lib.Dec.{leb}
 use lib.IntN.{ℤ}
 use lib.ListN.{length, take}
-use Rattle.ink_number.specs.Answer.{Answer, ask, andThen}
+use Rattle.ink_number.specs.Answer.{Answer, refuses, ask, andThen}
 use Rattle.ink_list.specs.Every.{_and_}
 use Rattle.list_definitions.specs.Defs.{ListDefinitions, Tables}
 use Rattle.ink_value.specs.Val.{Val}
@@ -16,6 +16,8 @@ use Rattle.native_function_call.specs.Apply.{call}
 use Rattle.pack.specs.Format.{definitionLimit}
 use Rattle.pack.specs.Judge.{judge}
 use Rattle.pack.specs.Read.{definitionsOf}
+use Rattle.pack.specs.declared.Checked.{Checked}
+use Rattle.pack.specs.declared.Checked.the-variants.{Passed, Refused}
 use Rattle.pack.specs.declared.format.Format.{Format}
 
 -- 7, of operands: their lists are formed as literals of a pack with these definitions
@@ -42,6 +44,11 @@ module _ (is : List ℕ) (vs : List ℤ) where
 -- questions 1 to 5 first: "a direct call 1 to 5, 7, 8, 10 to 16; a conversion 1 to 5, 7, 18"
 abbrev pub onPack : Format → List ℕ → (ListDefinitions → Answer Val) → Answer Val
 onPack F p f = andThen (judge F p) (λ d. f (definitionsOf d F))
+
+-- an answer after questions of which `Checked` has the first no
+abbrev pub afterAsked : Checked → Answer Val → Answer Val
+afterAsked Passed a = a
+afterAsked (Refused n) a = refuses n
 
 -- tables of a pack whose items are at most a limit
 pub record PackLists (limit : ℕ) (ends : List ℕ) (defined : List ℤ) : Type 0 where

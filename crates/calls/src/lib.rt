@@ -26,7 +26,7 @@ ghost use Rattle.pack.specs.Bodies.{decoded};
 ghost use Rattle.pack.specs.Format.{format1, Runnable};
 ghost use Rattle.pack.specs.Judge.{Sound};
 ghost use Rattle.calls.specs.Call.{operandsOk, PackLists};
-ghost use Rattle.calls.specs.Slices.{formedIn, calledIn, castIn, coercedIn, onPackIn};
+ghost use Rattle.calls.specs.Slices.{formedIn, lentWell, calledIn, castIn, coercedIn, onPackIn, packDefinitions, operandOk, Asked};
 
 // Question 7 of a value, with its two slices equally long.
 fn one_formed(v: Value, items: &[u16], values: &[i32], total: usize, definitions: usize) -> bool
@@ -107,7 +107,7 @@ pub fn lent_well(
     result_items: usize,
     result_values: usize,
 ) -> bool
-    ensures { λ r. ⌜ r ≡ (formedIn total definitions items values (take count (a ∷ b ∷ c ∷ [])) and (leb limit «result_items» and leb limit «result_values»)) ⌝ }
+    ensures { λ r. ⌜ r ≡ lentWell total definitions items values (take count (a ∷ b ∷ c ∷ [])) limit «result_items» «result_values» ⌝ }
 {
     if result_items < limit {
         return false;
@@ -219,7 +219,7 @@ fn call_checked(
     ov: &mut [i32],
 ) -> Outcome
     requires { ⌜ Sound format (now pack) × Runnable format × (format .limit ≤ length (now defined)) ⌝ }
-    ensures { λ r. ⌜ Gives (calledIn items values oi ov op count (a ∷ b ∷ c ∷ []) (definitionsOf (decoded format (now (pack .entry))) format)) r oi ov ⌝ }
+    ensures { λ r. ⌜ Gives (calledIn items values oi ov op count (a ∷ b ∷ c ∷ []) (packDefinitions format pack)) r oi ov ⌝ }
 {
     let mut ends = [0u16; DEFINITION_LIMIT];
     let read = pack_read::read_definitions(pack, &mut ends, defined, format);
@@ -254,7 +254,8 @@ pub fn call(
     result_items: &mut [u16],
     result_values: &mut [i32],
 ) -> Outcome
-    ensures { λ r. ⌜ Gives (onPackIn format1 pack (calledIn items values «result_items» «result_values» op count (a ∷ b ∷ c ∷ []))) r «result_items» «result_values» ⌝ }
+    ensures { λ r. ⌜ Gives (onPackIn format1 pack (calledIn items values «result_items» «result_values» op count (a ∷ b ∷ c ∷ [])))
+        r «result_items» «result_values» ⌝ }
 {
     match pack_check::check(pack) {
         Checked::Refused(number) => Outcome::Refused(number),
@@ -281,7 +282,7 @@ pub fn call(
 // Question 7 of the operand of a conversion, with a pack that has passed.
 fn operand_formed(pack: &[u8], v: Value, items: &[u16], values: &[i32], format: Format) -> bool
     requires { ⌜ Sound format (now pack) × Runnable format ⌝ }
-    ensures { λ r. ⌜ r ≡ operandsOk (definitionsOf (decoded format (now (pack .entry))) format) (now (items .entry)) (now (values .entry)) (v ∷ []) ⌝ }
+    ensures { λ r. ⌜ r ≡ operandOk format pack items values v ⌝ }
 {
     let n = byte_at(pack, 1);
     let total = total_items(pack, format);
@@ -300,7 +301,7 @@ fn cast_checked(
     ov: &mut [i32],
 ) -> Outcome
     requires { ⌜ Sound format (now pack) × Runnable format ⌝ }
-    ensures { λ r. ⌜ Gives (castIn items values oi ov to v (definitionsOf (decoded format (now (pack .entry))) format)) r oi ov ⌝ }
+    ensures { λ r. ⌜ Gives (castIn items values oi ov to v (packDefinitions format pack)) r oi ov ⌝ }
 {
     if !operand_formed(pack, v, items, values, format) {
         return Outcome::Refused(7);
@@ -341,18 +342,28 @@ pub fn cast(
     }
 }
 
+// Questions 1 to 5, and 7 of the operand of a conversion that has no result slices.
+fn operand_asked(pack: &[u8], v: Value, items: &[u16], values: &[i32]) -> Checked
+    ensures { λ r. ⌜ Asked format1 pack items values v r ⌝ }
+{
+    match pack_check::check(pack) {
+        Checked::Refused(number) => Checked::Refused(number),
+        Checked::Passed => {
+            if operand_formed(pack, v, items, values, FORMAT1) {
+                return Checked::Passed;
+            }
+            Checked::Refused(7)
+        }
+    }
+}
+
 // `coerce_to_bool`: Bool and Int only, and only Int 1 is true.
 pub fn coerce_to_bool(pack: &[u8], v: Value, items: &[u16], values: &[i32]) -> Outcome
     ensures { λ r. ⌜ r ≡ placed (onPackIn format1 pack (coercedIn items values coerceBool v)) ⌝ }
 {
-    match pack_check::check(pack) {
+    match operand_asked(pack, v, items, values) {
         Checked::Refused(number) => Outcome::Refused(number),
-        Checked::Passed => {
-            if !operand_formed(pack, v, items, values, FORMAT1) {
-                return Outcome::Refused(7);
-            }
-            ink_value::coerce_to_bool(v)
-        }
+        Checked::Passed => ink_value::coerce_to_bool(v),
     }
 }
 
@@ -360,14 +371,9 @@ pub fn coerce_to_bool(pack: &[u8], v: Value, items: &[u16], values: &[i32]) -> O
 pub fn coerce_to_int(pack: &[u8], v: Value, items: &[u16], values: &[i32]) -> Outcome
     ensures { λ r. ⌜ r ≡ placed (onPackIn format1 pack (coercedIn items values coerceInt v)) ⌝ }
 {
-    match pack_check::check(pack) {
+    match operand_asked(pack, v, items, values) {
         Checked::Refused(number) => Outcome::Refused(number),
-        Checked::Passed => {
-            if !operand_formed(pack, v, items, values, FORMAT1) {
-                return Outcome::Refused(7);
-            }
-            ink_value::coerce_to_int(v)
-        }
+        Checked::Passed => ink_value::coerce_to_int(v),
     }
 }
 
@@ -375,13 +381,8 @@ pub fn coerce_to_int(pack: &[u8], v: Value, items: &[u16], values: &[i32]) -> Ou
 pub fn coerce_to_float(pack: &[u8], v: Value, items: &[u16], values: &[i32]) -> Outcome
     ensures { λ r. ⌜ r ≡ placed (onPackIn format1 pack (coercedIn items values coerceFloat v)) ⌝ }
 {
-    match pack_check::check(pack) {
+    match operand_asked(pack, v, items, values) {
         Checked::Refused(number) => Outcome::Refused(number),
-        Checked::Passed => {
-            if !operand_formed(pack, v, items, values, FORMAT1) {
-                return Outcome::Refused(7);
-            }
-            ink_value::coerce_to_float(v)
-        }
+        Checked::Passed => ink_value::coerce_to_float(v),
     }
 }

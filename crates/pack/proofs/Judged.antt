@@ -31,8 +31,11 @@ module _ (F : Format) (p : List ℕ) where
       )
 
   -- `check` passed the pack
+  pub accepted : (r : Checked) → r ≡ Passed → checked r (decoded F p) ≡ judge F p → judge F p ≡ gives (decoded F p)
+  accepted r h e = rw h at (sym e)
+
   pub passed : (r : Checked) → r ≡ Passed → checked r (decoded F p) ≡ judge F p → Sound F p
-  passed r h e = judged (decoded F p) (rw h at (sym e)) .0
+  passed r h e = judged (decoded F p) (accepted r h e) .0
 
   -- `check` refused it
   pub turned : (r : Checked) (n : ℕ) → r ≡ Refused n → checked r (decoded F p) ≡ judge F p → judge F p ≡ refuses n

@@ -1,15 +1,11 @@
 -- `calls::call` meets its contract: questions 1 to 5, and then the call on the pack's tables. Assumes nothing.
-use mathlib.Core.Path.{refl, sym, ap, _∙_}
+use mathlib.Core.Path.{refl}
 use mathlib.Core.List.{[], _∷_}
 use native.Mathlib.Omega.{arith}
 use Rattle.ink_number.specs.Answer.{refuses}
 use Rattle.ink_value.proofs.Given.{gave-is, gave-plain}
-use Rattle.pack.specs.Bodies.{decoded}
-use Rattle.pack.specs.Format.{format1}
-use Rattle.pack.specs.Judge.{checked}
-use Rattle.pack.specs.declared.Checked.{Checked}
 use Rattle.pack.proofs.Formats.{runnable1}
-use Rattle.pack.proofs.Judged.{passed, turned}
+use Rattle.pack.proofs.Judged.{accepted, passed, turned}
 use Rattle.calls.specs.Call.{called}
 use Rattle.calls.proofs.Forms.{pack-refused, pack-passed}
 use borrow.Author.Needs.{needs}
@@ -30,13 +26,13 @@ slice-aggregate-call-checked c = search needs
 
 call-checked-requires : tie.Need-call-checked-requires
 call-checked-requires c κs =
-    (passed format1 (c .before .before .before .before .before .before .before .before .before .args .pack .now) (c .before .before .before .before .before .check .result) (c .before .before .before .enum-told .given .1) (c .before .before .before .before .before .check .ensures), runnable1, omega arith)
+    (passed _ (c .before .before .before .before .before .before .before .before .before .args .pack .now) (c .before .before .before .before .before .check .result) (c .before .before .before .enum-told .given .1) (c .before .before .before .before .before .check .ensures), runnable1, omega arith)
 
 returns : tie.Need-returns
 returns c =
     let s = c .before .before .before .before .before .before .before in
     let p = s .args .pack .now in
-    gave-is (pack-refused format1 p (c .before .number .given .0 .0) (called (s .args .items .now) (s .args .values .now) (s .args .result-items .now) (s .args .result-values .now) (s .args .op) (s .args .count) (s .args .a ∷ s .args .b ∷ s .args .c ∷ [])) (turned format1 p (c .before .before .before .check .result) (c .before .number .given .0 .0) (c .before .number .given .1) (c .before .before .before .check .ensures))) (gave-plain (refuses (c .before .number .given .0 .0)) _ _ _ refl refl)
+    gave-is (pack-refused _ p (c .before .number .given .0 .0) (called (s .args .items .now) (s .args .values .now) (s .args .result-items .now) (s .args .result-values .now) (s .args .op) (s .args .count) (s .args .a ∷ s .args .b ∷ s .args .c ∷ [])) (turned _ p (c .before .before .before .check .result) (c .before .number .given .0 .0) (c .before .number .given .1) (c .before .before .before .check .ensures))) (gave-plain (refuses (c .before .number .given .0 .0)) _ _ _ refl refl)
 
 same-length : tie.Need-same-length
 same-length c = search needs
@@ -48,7 +44,7 @@ returns-2 : tie.Need-returns-2
 returns-2 c =
     let s = c .before .before .before .before .before .before .before .before .before .before .before .before .before .before in
     let p = s .args .pack .now in
-    gave-is (pack-passed format1 p (called (s .args .items .now) (s .args .values .now) (s .args .result-items .now) (s .args .result-values .now) (s .args .op) (s .args .count) (s .args .a ∷ s .args .b ∷ s .args .c ∷ [])) (sym (c .before .before .before .before .before .before .before .before .before .before .check .ensures) ∙ ap (λ (r : Checked). checked r (decoded format1 p)) (c .before .before .before .before .before .before .before .before .enum-told .given .1))) (c .before .before .before .before .call-checked .ensures)
+    gave-is (pack-passed _ p (called (s .args .items .now) (s .args .values .now) (s .args .result-items .now) (s .args .result-values .now) (s .args .op) (s .args .count) (s .args .a ∷ s .args .b ∷ s .args .c ∷ [])) (accepted _ p (c .before .before .before .before .before .before .before .before .before .before .check .result) (c .before .before .before .before .before .before .before .before .enum-told .given .1) (c .before .before .before .before .before .before .before .before .before .before .check .ensures))) (c .before .before .before .before .call-checked .ensures)
 
 pub call-spec : {M : Type 1} → statement M
 call-spec =

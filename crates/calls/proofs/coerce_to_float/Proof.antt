@@ -1,21 +1,14 @@
 -- `calls::coerce_to_float` meets its contract. Assumes nothing.
-use mathlib.Core.Path.{sym, ap, _∙_}
-use borrow.Author.Tests.{not-true, not-false}
+use mathlib.Core.Path.{_∙_}
 use Rattle.ink_value.specs.Convert.{coerceFloat}
-use Rattle.ink_value.specs.Value.{placed}
-use Rattle.pack.specs.Bodies.{decoded}
-use Rattle.pack.specs.Format.{format1}
-use Rattle.pack.specs.Judge.{checked}
-use Rattle.pack.specs.declared.Checked.{Checked}
-use Rattle.pack.proofs.Formats.{runnable1}
-use Rattle.pack.proofs.Judged.{passed, turned}
-use Rattle.calls.proofs.Forms.{coerce-ill, coerce-refused, coerce-goes}
+use Rattle.ink_value.specs.Value.{valOf}
+use Rattle.calls.proofs.Forms.{asked-outcome}
 use borrow.Author.Needs.{needs}
 use Rattle.calls.proofs.coerce_to_float.Statement.{statement}
 use Rattle.calls.proofs.coerce_to_float.Tie as tie
 
-check-requires : tie.Need-check-requires
-check-requires c κs = search needs
+operand-asked-requires : tie.Need-operand-asked-requires
+operand-asked-requires c κs = search needs
 
 enum-known-number : tie.Need-enum-known-number
 enum-known-number c = search needs
@@ -23,40 +16,26 @@ enum-known-number c = search needs
 enum-told : tie.Need-enum-told
 enum-told c = search needs
 
-operand-formed-requires : tie.Need-operand-formed-requires
-operand-formed-requires c κs =
-    (passed format1 (c .before .before .before .before .before .args .pack .now) (c .before .before .check .result) (c .enum-told .given .1) (c .before .before .check .ensures), runnable1)
+coerce-to-float-requires : tie.Need-coerce-to-float-requires
+coerce-to-float-requires c κs = search needs
 
 returns : tie.Need-returns
 returns c =
-    let s = c .before .before .before .before .before .before .before in
-    let p = s .args .pack .now in
-    ap placed (coerce-ill format1 p (s .args .items .now) (s .args .values .now) coerceFloat (s .args .v) (sym (c .before .before .before .before .check .ensures) ∙ ap (λ (r : Checked). checked r (decoded format1 p)) (c .before .before .enum-told .given .1)) (sym (c .before .operand-formed .ensures) ∙ not-true _ (c .if1 .taken)))
-
-coerce-to-float-requires : tie.Need-coerce-to-float-requires
-coerce-to-float-requires c κs = search needs
+    let s = c .before .before .before .before .before .before in
+    asked-outcome (coerceFloat (valOf (s .args .items .now) (s .args .values .now) (s .args .v))) _ _ (c .before .before .before .operand-asked .ensures coerceFloat) (c .before .number .given .1)
 
 returns-2 : tie.Need-returns-2
 returns-2 c =
     let s = c .before .before .before .before .before .before in
-    let p = s .args .pack .now in
-    ap placed (coerce-refused format1 p (s .args .items .now) (s .args .values .now) coerceFloat (s .args .v) (c .before .number .given .0 .0) (turned format1 p (c .before .before .before .check .result) (c .before .number .given .0 .0) (c .before .number .given .1) (c .before .before .before .check .ensures)))
-
-returns-3 : tie.Need-returns-3
-returns-3 c =
-    let s = c .before .before .before .before .before .before .before .before in
-    let p = s .args .pack .now in
-    c .coerce-to-float .ensures (s .args .items .now) (s .args .values .now) ∙ ap placed (coerce-goes format1 p (s .args .items .now) (s .args .values .now) coerceFloat (s .args .v) (sym (c .before .before .before .before .before .check .ensures) ∙ ap (λ (r : Checked). checked r (decoded format1 p)) (c .before .before .before .enum-told .given .1)) (sym (c .before .before .operand-formed .ensures) ∙ not-false _ (c .before .if1 .left)))
+    c .coerce-to-float .ensures (s .args .items .now) (s .args .values .now) ∙ asked-outcome (coerceFloat (valOf (s .args .items .now) (s .args .values .now) (s .args .v))) _ _ (c .before .before .before .operand-asked .ensures coerceFloat) (c .before .enum-told .given .1)
 
 pub coerce-to-float-spec : {M : Type 1} → statement M
 coerce-to-float-spec =
     tie.close
     (tie.spec
-    check-requires
+    operand-asked-requires
     enum-known-number
     enum-told
-    operand-formed-requires
-    returns
     coerce-to-float-requires
-    returns-2
-    returns-3)
+    returns
+    returns-2)
