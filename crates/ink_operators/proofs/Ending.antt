@@ -103,8 +103,13 @@ few-end {F} f (ended (list o es)) h = (omega arith, omega (arith, rising-length 
 few-end f (ended void) h = tt
 few-end f (stopped r k) h = tt
 
-pub small-ran : {F : Format} → Runnable F → (e : End Val) (r : Ran) → r ≡ ranTo e → WfEnd F e → SmallRan r
-small-ran f e r q h = subst SmallRan (sym q) (few-end f e h)
+-- so that it stands whole in its words
+pub runs-small : {F : Format} → Runnable F → (p : List ℕ) (s : ℕ) (l : List Value) (si : List ℕ) (sv : List ℤ) (r : Ran) (wi wi′ : List ℕ) (wv wv′ : List ℤ)
+    (ri ri′ : List ℕ) (rv rv′ : List ℤ)
+    → Runs F (opened F p s (memory F l si sv wi wv ri rv)) s (map (valOf si sv) l) r wi wi′ wv wv′ ri ri′ rv rv′ → SmallRan r
+runs-small {F} f p s l si sv r wi wi′ wv wv′ ri ri′ rv rv′ w =
+    let e = endAfter F s (map (valOf si sv) l) (opened F p s (memory F l si sv wi wv ri rv)) in
+    subst SmallRan (sym (w .ran .answered)) (few-end f e (end-wf F f p s l si sv wi wv ri rv))
 
 -- a run whose slots are those of the words
 pub run-says : {F : Format} (p : List ℕ) (s : ℕ) (l m : List Value) (si : List ℕ) (sv : List ℤ) (r : Ran) (n : ℕ) (ws wi wi′ : List ℕ) (wv wv′ : List ℤ)

@@ -1,18 +1,23 @@
 -- What a run and vetting return and leave at the boundary. Assumes nothing.
 use mathlib.Core.Path.{_≡_}
+use mathlib.Core.Bool.{Bool, true}
 use mathlib.Core.List.{List, [], _∷_}
-use Prim.Native.Nat.{ℕ, _<_}
+use Prim.Native.Nat.{ℕ, _<_, _≤_}
+use lib.Dec.{leb}
 use lib.IntN.{ℤ, pos}
-use lib.ListN.{length, getD, replicate}
-use Rattle.ink_number.specs.Answer.{Answer, gives}
+use lib.ListN.{length, getD, take}
+use Rattle.ink_number.specs.Answer.{Answer, gives, refuses}
+use Rattle.ink_list.specs.Every.{_and_}
 use Rattle.ink_list.specs.Filled.{over}
 use Rattle.ink_value.specs.Val.{Val}
+use Rattle.native_function_call.specs.Lists.{definitions}
 use Rattle.pack.specs.Bodies.{Pack, decoded}
 use Rattle.pack.specs.Format.{definitionLimit}
 use Rattle.pack.specs.declared.format.Format.{Format}
 use Rattle.pack.specs.Judge.{judge}
 use Rattle.pack.specs.Read.{endsOf, definedOf}
 use Rattle.stepping.specs.Steps.{workLimit}
+use Rattle.calls.specs.Call.{operandsOk, PackLists}
 use Rattle.running.specs.Run.{ranTo, endAfter, Runs}
 use Rattle.running.specs.declared.Ran.{Ran}
 use Rattle.running.specs.declared.Ran.the-variants as Rn
@@ -20,7 +25,7 @@ use Rattle.vetting.specs.Vet.{Answers}
 use Rattle.vetting.specs.declared.Vetted.{Vetted}
 use Rattle.vetting.specs.declared.Vetted.the-variants as Vet
 use Rattle.value_words.specs.Words.{wordsOf, Small}
-use Rattle.value_words.specs.Calls.{indexWords}
+use Rattle.value_words.specs.Calls.{numberOf, indexWords, operandsIn}
 
 -- ---- a run
 
@@ -65,11 +70,25 @@ pub record VetSays (F : Format) (p : List ℕ) (s : ℕ) (codes : List ℕ) (n i
 abbrev pub Passed : Format → List ℕ → Type 0
 Passed F p = judge F p ≡ gives (decoded F p)
 
--- the two tables and their lengths, and 0 in the places that they leave
-pub record Reads (F : Format) (d : Pack) (ends : List ℕ) (defined : List ℤ) (counts : List ℕ) : Type 0 where
-  pub ends-in : ends ≡ over (endsOf d) (replicate definitionLimit 0)
-  pub defined-in : defined ≡ over (definedOf d) (replicate (F .limit) (pos 0))
-  pub counted : counts ≡ length (endsOf d) ∷ length (definedOf d) ∷ []
+-- 7, of the slices for the two tables: as many places as a pack of the format may have definitions and items
+unfoldable pub tablesLong : Format → List ℕ → List ℤ → Bool
+tablesLong F ends defined = leb definitionLimit (length ends) and leb (F .limit) (length defined)
+
+-- a slice with a table from its start on, where the pack is given
+abbrev pub tableAfter {ℓ} : {A : Type ℓ} → (Pack → List A) → Answer Pack → List A → List A
+tableAfter f (gives d) old = over (f d) old
+tableAfter f (refuses r) old = old
+
+abbrev pub countsAfter : Answer Pack → List ℕ → List ℕ
+countsAfter (gives d) old = length (endsOf d) ∷ length (definedOf d) ∷ []
+countsAfter (refuses r) old = old
+
+-- the two tables, from the start of their slices, and how many places each takes; by a refusal nothing is written
+pub record Reads (a : Answer Pack) (n : ℕ) (ends ends′ : List ℕ) (defined defined′ : List ℤ) (counts counts′ : List ℕ) : Type 0 where
+  pub number : n ≡ numberOf a
+  pub ends-in : ends′ ≡ tableAfter endsOf a ends
+  pub defined-in : defined′ ≡ tableAfter definedOf a defined
+  pub counted : counts′ ≡ countsAfter a counts
 
 pub record Ready (F : Format) (p ends : List ℕ) (defined : List ℤ) : Type 0 where
   pub passed : Passed F p
@@ -80,3 +99,10 @@ pub record Ready (F : Format) (p ends : List ℕ) (defined : List ℤ) : Type 0 
 pub record Clear (F : Format) (wi : List ℕ) (wv : List ℤ) : Type 0 where
   pub items-clear : (j : ℕ) → j < workLimit F → getD wi j 0 ≡ 0
   pub values-clear : (j : ℕ) → j < workLimit F → getD wv j (pos 0) ≡ pos 0
+
+-- what `ink_apply` leaves to its caller: the tables are a pack's, and question 7 says yes of the operands and of the result slices
+pub record Applies (F : Format) (ends : List ℕ) (defined : List ℤ) (is : List ℕ) (vs : List ℤ) (n : ℕ) (ws ri : List ℕ) (rv : List ℤ) : Type 0 where
+  pub lists : PackLists (F .limit) ends defined
+  pub formed : operandsOk (definitions ends defined (F .limit)) is vs (take n (operandsIn ws)) ≡ true
+  pub items-room : F .limit ≤ length ri
+  pub values-room : F .limit ≤ length rv

@@ -1,15 +1,23 @@
--- The words of the contracts for a run at the boundary. In an `ensures` a slice is what it was at entry and what it is at exit. Assumes nothing.
+-- The words of the contracts at the boundary. In an `ensures` a slice is what it was at entry and what it is at exit. Assumes nothing.
 use mathlib.Core.List.{map}
 use Prim.Native.Nat.{ℕ}
-use denote.Ref.{now}
+use denote.Ref.{RefT, now}
+use denote.Triple.Both.{Both}
 use lib.IntN.{ℤ}
+use Rattle.ink_number.specs.Answer.{Answer, gives, ask}
 use Rattle.ink_list.specs.Slices.{Slice}
 use Rattle.ink_value.specs.Slices.{valIn}
+use Rattle.ink_value.specs.Val.{Val}
+use Rattle.native_function_call.specs.Lists.{definitionsIn}
+use Rattle.pack.specs.Bodies.{decoded}
 use Rattle.pack.specs.declared.format.Format.{Format}
 use Rattle.sheet.specs.Whole.{opened}
+use Rattle.calls.specs.Slices.{calledIn, castIn, coercedIn, onPackIn}
 use Rattle.running.specs.Slices.{memoryIn}
-use Rattle.value_words.specs.Words.{slotsIn}
-use Rattle.ink_operators.specs.Answers.{RunSays}
+use Rattle.value_words.specs.Words.{slotsIn, valueAt}
+use Rattle.value_words.specs.Calls.{operandsIn}
+use Rattle.value_words.specs.Slices.{SaysIn, CallsIn}
+use Rattle.ink_operators.specs.Answers.{RunSays, VetSays, Reads, tablesLong}
 
 -- a run of any bytes on slots that stand in words: questions 1 to 7 asked, the number n and the answer's words, and what it leaves
 abbrev pub RunSaysAny : Format → Slice ℕ → ℕ → Slice ℕ → Slice ℕ → Slice ℤ → ℕ → Slice ℕ → Slice ℕ → Slice ℤ → Slice ℕ → Slice ℤ → Type 0
@@ -17,3 +25,37 @@ RunSaysAny F pack sheet slots si sv n answer wi wv ri rv =
     RunSays F (opened F (now (pack .entry)) sheet (memoryIn F (slotsIn (now (slots .entry))) si sv wi wv ri rv))
     sheet (map (valIn si sv) (slotsIn (now (slots .entry)))) n (now (answer .exit))
     (now (wi .entry)) (now (wi .exit)) (now (wv .entry)) (now (wv .exit)) (now (ri .entry)) (now (ri .exit)) (now (rv .entry)) (now (rv .exit))
+
+-- a number that is lent, as it was at entry and as it is at exit
+abbrev pub Cell : Type 0 → Type 0
+Cell A = Both (RefT A) (RefT A)
+
+-- vetting of any bytes for kind codes: the number n, the index, and what is left in the forecast slice
+abbrev pub VetSaysAny : Format → Slice ℕ → ℕ → Slice ℕ → ℕ → Cell ℕ → Slice ℕ → Type 0
+VetSaysAny F pack sheet kinds n index f =
+    VetSays F (now (pack .entry)) sheet (now (kinds .entry)) n (now (index .exit)) (now (f .entry)) (now (f .exit))
+
+-- the definitions of a pack that passed are read: question 7 of the slices, and what is left in them
+abbrev pub ReadsAny : Format → Slice ℕ → ℕ → Slice ℕ → Slice ℤ → Slice ℕ → Type 0
+ReadsAny F pack n ends defined counts =
+    Reads (ask 7 (tablesLong F (now (ends .entry)) (now (defined .entry))) (gives (decoded F (now (pack .entry))))) n
+    (now (ends .entry)) (now (ends .exit)) (now (defined .entry)) (now (defined .exit)) (now (counts .entry)) (now (counts .exit))
+
+-- an operator on the operands that nine words hold, with a pack of any bytes: the number n and the answer's words, and what is left
+abbrev pub CallSaysAny : Format → Slice ℕ → ℕ → ℕ → Slice ℕ → Slice ℕ → Slice ℤ → ℕ → Slice ℕ → Slice ℕ → Slice ℤ → Type 0
+CallSaysAny F pack op count ws is vs n answer oi ov =
+    CallsIn (onPackIn F pack (calledIn is vs oi ov op count (operandsIn (now (ws .entry))))) n answer oi ov
+
+-- the same with the tables of a pack that passed
+abbrev pub CallSays : Format → Slice ℕ → Slice ℤ → ℕ → ℕ → Slice ℕ → Slice ℕ → Slice ℤ → ℕ → Slice ℕ → Slice ℕ → Slice ℤ → Type 0
+CallSays F ends defined op count ws is vs n answer oi ov =
+    CallsIn (calledIn is vs oi ov op count (operandsIn (now (ws .entry))) (definitionsIn ends defined (F .limit))) n answer oi ov
+
+-- `cast` of the operand that three words hold
+abbrev pub CastSaysAny : Format → Slice ℕ → ℕ → Slice ℕ → Slice ℕ → Slice ℤ → ℕ → Slice ℕ → Slice ℕ → Slice ℤ → Type 0
+CastSaysAny F pack code ws is vs n answer oi ov =
+    CallsIn (onPackIn F pack (castIn is vs oi ov code (valueAt (now (ws .entry)) 0))) n answer oi ov
+
+-- one of the three `coerce_to_`, f
+abbrev pub CoerceSaysAny : Format → Slice ℕ → (Val → Answer Val) → Slice ℕ → Slice ℕ → Slice ℤ → ℕ → Slice ℕ → Type 0
+CoerceSaysAny F pack f ws is vs n answer = SaysIn (onPackIn F pack (coercedIn is vs f (valueAt (now (ws .entry)) 0))) n answer

@@ -8,23 +8,15 @@ use pack_check::format::DEFINITION_LIMIT;
 use pack_check::format::FORMAT1;
 use value_words::words;
 ghost use mathlib.Core.Path.{_≡_};
-ghost use mathlib.Core.Bool.{true};
-ghost use Prim.Native.Nat.{_≤_};
-ghost use lib.ListN.{length, take};
 ghost use denote.Ref.{now};
 ghost use Rattle.ink_value.specs.Convert.{coerceBool, coerceInt, coerceFloat};
-ghost use Rattle.native_function_call.specs.Lists.{definitions, definitionsIn};
-ghost use Rattle.pack.specs.Bodies.{decoded};
 ghost use Rattle.pack.specs.Format.{format1};
 ghost use Rattle.pack.specs.Judge.{judge};
-ghost use Rattle.calls.specs.Call.{operandsOk, PackLists};
-ghost use Rattle.calls.specs.Slices.{calledIn, castIn, coercedIn, onPackIn};
+ghost use Rattle.calls.specs.Call.{PackLists};
 ghost use Rattle.running.specs.Slices.{Kept};
-ghost use Rattle.value_words.specs.Words.{valueAt};
-ghost use Rattle.value_words.specs.Calls.{numberOf, operandsIn};
-ghost use Rattle.value_words.specs.Slices.{SaysIn, CallsIn};
-ghost use Rattle.ink_operators.specs.Answers.{VetSays, Passed, Reads, Ready, Clear};
-ghost use Rattle.ink_operators.specs.Slices.{RunSaysAny};
+ghost use Rattle.value_words.specs.Calls.{numberOf};
+ghost use Rattle.ink_operators.specs.Answers.{Passed, Ready, Clear, Applies};
+ghost use Rattle.ink_operators.specs.Slices.{VetSaysAny, RunSaysAny, ReadsAny, CallSaysAny, CallSays, CastSaysAny, CoerceSaysAny};
 
 // Questions 1 to 5 of a pack: 0, or the number of the first no.
 #[no_mangle]
@@ -46,7 +38,7 @@ pub extern "C" fn ink_vet(
     forecast: &mut [u8],
     index: &mut u64,
 ) -> u32
-    ensures { λ r. ⌜ VetSays format1 (now (pack .entry)) sheet (now (kinds .entry)) r (now (index .exit)) (now (forecast .entry)) (now (forecast .exit)) ⌝ }
+    ensures { λ r. ⌜ VetSaysAny format1 pack sheet kinds r index forecast ⌝ }
 {
     let codes = *kinds;
     let vetted = vetting::vet(pack, sheet, codes, forecast);
@@ -67,7 +59,8 @@ pub extern "C" fn ink_run(
     result_values: &mut [i32],
     answer: &mut [u64; 3],
 ) -> u32
-    ensures { λ r. ⌜ RunSaysAny format1 pack sheet slots «slot_items» «slot_values» r answer «work_items» «work_values» «result_items» «result_values» ⌝ }
+    ensures { λ r. ⌜ RunSaysAny format1 pack sheet slots «slot_items» «slot_values»
+        r answer «work_items» «work_values» «result_items» «result_values» ⌝ }
 {
     let values = words::slots_in(slots);
     let ran = run_any::run(
@@ -97,8 +90,7 @@ pub extern "C" fn ink_call(
     result_values: &mut [i32],
     answer: &mut [u64; 3],
 ) -> u32
-    ensures { λ r. ⌜ CallsIn (onPackIn format1 pack (calledIn items values «result_items» «result_values» op count (operandsIn (now (operands .entry)))))
-        r answer «result_items» «result_values» ⌝ }
+    ensures { λ r. ⌜ CallSaysAny format1 pack op count operands items values r answer «result_items» «result_values» ⌝ }
 {
     let a = words::operand_at(operands, 0);
     let b = words::operand_at(operands, 1);
@@ -130,8 +122,7 @@ pub extern "C" fn ink_cast(
     result_values: &mut [i32],
     answer: &mut [u64; 3],
 ) -> u32
-    ensures { λ r. ⌜ CallsIn (onPackIn format1 pack (castIn items values «result_items» «result_values» code (valueAt (now (operand .entry)) 0)))
-        r answer «result_items» «result_values» ⌝ }
+    ensures { λ r. ⌜ CastSaysAny format1 pack code operand items values r answer «result_items» «result_values» ⌝ }
 {
     let v = words::value_in(operand);
     let outcome = calls::cast(pack, code, v, items, values, result_items, result_values);
@@ -147,7 +138,7 @@ pub extern "C" fn ink_coerce_to_bool(
     values: &[i32],
     answer: &mut [u64; 3],
 ) -> u32
-    ensures { λ r. ⌜ SaysIn (onPackIn format1 pack (coercedIn items values coerceBool (valueAt (now (operand .entry)) 0))) r answer ⌝ }
+    ensures { λ r. ⌜ CoerceSaysAny format1 pack coerceBool operand items values r answer ⌝ }
 {
     let v = words::value_in(operand);
     let outcome = calls::coerce_to_bool(pack, v, items, values);
@@ -162,7 +153,7 @@ pub extern "C" fn ink_coerce_to_int(
     values: &[i32],
     answer: &mut [u64; 3],
 ) -> u32
-    ensures { λ r. ⌜ SaysIn (onPackIn format1 pack (coercedIn items values coerceInt (valueAt (now (operand .entry)) 0))) r answer ⌝ }
+    ensures { λ r. ⌜ CoerceSaysAny format1 pack coerceInt operand items values r answer ⌝ }
 {
     let v = words::value_in(operand);
     let outcome = calls::coerce_to_int(pack, v, items, values);
@@ -177,30 +168,34 @@ pub extern "C" fn ink_coerce_to_float(
     values: &[i32],
     answer: &mut [u64; 3],
 ) -> u32
-    ensures { λ r. ⌜ SaysIn (onPackIn format1 pack (coercedIn items values coerceFloat (valueAt (now (operand .entry)) 0))) r answer ⌝ }
+    ensures { λ r. ⌜ CoerceSaysAny format1 pack coerceFloat operand items values r answer ⌝ }
 {
     let v = words::value_in(operand);
     let outcome = calls::coerce_to_float(pack, v, items, values);
     value_words::answers::outcome(outcome, answer)
 }
 
-// The definitions of a pack that has passed: how many, how many items, and the two tables, 0 in the places that they leave.
+// The definitions of a pack that has passed: how many, how many items, and the two tables from the start of their slices. The slices have
+// places for the most that a pack may have, or question 7 says no and nothing is written.
 #[no_mangle]
 pub extern "C" fn ink_definitions(
     pack: &[u8],
-    ends: &mut [u16; 64],
-    defined: &mut [i32; 256],
+    ends: &mut [u16],
+    defined: &mut [i32],
     counts: &mut [u64; 2],
-)
+) -> u32
     requires { ⌜ Passed format1 (now pack) ⌝ }
-    ensures { λ _. ⌜ Reads format1 (decoded format1 (now (pack .entry))) (now (ends .exit)) (now (defined .exit)) (now (counts .exit)) ⌝ }
+    ensures { λ r. ⌜ ReadsAny format1 pack r ends defined counts ⌝ }
 {
-    let mut e = [0u16; DEFINITION_LIMIT];
-    let mut d = [0i32; FORMAT1.limit];
-    let read = pack_read::read_definitions(pack, &mut e, &mut d, FORMAT1);
-    *ends = e;
-    *defined = d;
+    if ends.len() < DEFINITION_LIMIT {
+        return 7;
+    }
+    if defined.len() < FORMAT1.limit {
+        return 7;
+    }
+    let read = pack_read::read_definitions(pack, ends, defined, FORMAT1);
     *counts = [read.definitions as u64, read.items as u64];
+    0
 }
 
 // Runs a sheet of a pack that has passed, its definitions read, in work slices that are clear. It answers and leaves what `ink_run` does.
@@ -220,7 +215,8 @@ pub extern "C" fn ink_run_checked(
     answer: &mut [u64; 3],
 ) -> u32
     requires { ⌜ Ready format1 (now pack) (now ends) (now defined) × Clear format1 (now «work_items») (now «work_values») ⌝ }
-    ensures { λ r. ⌜ RunSaysAny format1 pack sheet slots «slot_items» «slot_values» r answer «work_items» «work_values» «result_items» «result_values» ⌝ }
+    ensures { λ r. ⌜ RunSaysAny format1 pack sheet slots «slot_items» «slot_values»
+        r answer «work_items» «work_values» «result_items» «result_values» ⌝ }
     ensures { λ _. ⌜ Kept «work_items» «work_values» ⌝ }
 {
     let values = words::slots_in(slots);
@@ -256,8 +252,7 @@ pub extern "C" fn ink_call_checked(
     answer: &mut [u64; 3],
 ) -> u32
     requires { ⌜ PackLists (format1 .limit) (now ends) (now defined) ⌝ }
-    ensures { λ r. ⌜ CallsIn (calledIn items values «result_items» «result_values» op count (operandsIn (now (operands .entry))) (definitionsIn ends defined (format1 .limit)))
-        r answer «result_items» «result_values» ⌝ }
+    ensures { λ r. ⌜ CallSays format1 ends defined op count operands items values r answer «result_items» «result_values» ⌝ }
 {
     let a = words::operand_at(operands, 0);
     let b = words::operand_at(operands, 1);
@@ -311,11 +306,9 @@ pub extern "C" fn ink_apply(
     result_values: &mut [i32],
     answer: &mut [u64; 3],
 ) -> u32
-    requires { ⌜ PackLists (format1 .limit) (now ends) (now defined) ⌝ }
-    requires { ⌜ operandsOk (definitions (now ends) (now defined) (format1 .limit)) (now items) (now values) (take count (operandsIn (now operands))) ≡ true ⌝ }
-    requires { ⌜ (format1 .limit ≤ length (now «result_items»)) × (format1 .limit ≤ length (now «result_values»)) ⌝ }
-    ensures { λ r. ⌜ CallsIn (calledIn items values «result_items» «result_values» op count (operandsIn (now (operands .entry))) (definitionsIn ends defined (format1 .limit)))
-        r answer «result_items» «result_values» ⌝ }
+    requires { ⌜ Applies format1 (now ends) (now defined) (now items) (now values) count (now operands)
+        (now «result_items») (now «result_values») ⌝ }
+    ensures { λ r. ⌜ CallSays format1 ends defined op count operands items values r answer «result_items» «result_values» ⌝ }
 {
     let kind = word_operators::number_kind(op, count, operands);
     if kind < 3 {

@@ -27,7 +27,7 @@ use Rattle.kind_table.specs.Kinds.{known, arity}
 use Rattle.native_function_call.specs.Lists.{definitions}
 use Rattle.native_function_call.proofs.Results.{apply-fine}
 use Rattle.pack.specs.Bodies.{Pack, decoded}
-use Rattle.pack.specs.Format.{Narrow}
+use Rattle.pack.specs.Format.{Narrow, Runnable}
 use Rattle.pack.specs.declared.format.Format.{Format}
 use Rattle.pack.specs.Judge.{judge, Sound}
 use Rattle.pack.specs.Read.{definedOf, endsOf, definitionsOf}
@@ -141,3 +141,8 @@ few-outcome L b (refuses r) h = tt
 
 pub small-outcome : (L : ℕ) → L < itemNumbers → (a : Answer Val) (o : Outcome) → o ≡ placed a → Few L a → SmallOutcome o
 small-outcome L b a o e h = subst SmallOutcome (sym e) (few-outcome L b a h)
+
+-- a call or a conversion on a pack
+pub pack-small : {F : Format} → Runnable F → (p : List ℕ) (f : ListDefinitions → Answer Val) (o : Outcome) → o ≡ placed (onPack F p f)
+    → ((ends : List ℕ) (defined : List ℤ) → length defined ≤ F .limit → Few (F .limit) (f (definitions ends defined (F .limit)))) → SmallOutcome o
+pack-small {F} w p f o e h = small-outcome (F .limit) (omega (arith, w .few)) (onPack F p f) o e (pack-few F (w .narrow) p f h)

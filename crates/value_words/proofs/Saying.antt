@@ -8,6 +8,9 @@ use Rattle.ink_value.specs.Val.{Val}
 use Rattle.ink_value.specs.Value.{placed, Gave}
 use Rattle.ink_value.specs.declared.Value.{Value}
 use Rattle.ink_value.specs.declared.Outcome.{Outcome}
+use Rattle.list_definitions.specs.Defs.{ListDefinitions}
+use Rattle.pack.specs.declared.format.Format.{Format}
+use Rattle.calls.specs.Call.{onPack}
 use Rattle.value_words.specs.Calls.{outcomeNumber, outcomeWords, indexWords, Says, Calls}
 
 -- what was written of an outcome
@@ -35,6 +38,11 @@ calls a b o n ws oi oi′ ov ov′ q g h =
 pub operands : {X : Type 0} (f : List Value → X) (a a′ b b′ c c′ : Value) → a ≡ a′ → b ≡ b′ → c ≡ c′ → f (a ∷ b ∷ c ∷ []) ≡ f (a′ ∷ b′ ∷ c′ ∷ [])
 operands f a a′ b b′ c c′ p q r =
     ap (λ (x : Value). f (x ∷ b ∷ c ∷ [])) p ∙ ap (λ (x : Value). f (a′ ∷ x ∷ c ∷ [])) q ∙ ap (λ (x : Value). f (a′ ∷ b′ ∷ x ∷ [])) r
+
+-- the same of a call on a pack
+pub pack-operands : (F : Format) (p : List ℕ) (f : List Value → ListDefinitions → Answer Val) {a a′ b b′ c c′ : Value} → a ≡ a′ → b ≡ b′ → c ≡ c′
+    → onPack F p (f (a ∷ b ∷ c ∷ [])) ≡ onPack F p (f (a′ ∷ b′ ∷ c′ ∷ []))
+pack-operands F p f q r t = operands (λ (l : List Value). onPack F p (f l)) _ _ _ _ _ _ q r t
 
 -- a refusal
 pub refused-calls : (a : Answer Val) (k n : ℕ) (ws oi : List ℕ) (ov : List ℤ) → a ≡ refuses k → n ≡ k → ws ≡ indexWords 0 → Calls a n ws oi oi ov ov

@@ -1,7 +1,6 @@
 -- `ink_operators::ink_apply` meets its contract: numbers by their words, and else the operator on values. Assumes nothing.
 use native.Mathlib.Omega.{arith}
 use Rattle.word_operators.proofs.Called.{held, called-numbers}
-use Rattle.pack.specs.Format.{format1}
 use borrow.Author.Needs.{needs}
 use Rattle.ink_operators.proofs.ink_apply.Statement.{statement}
 use Rattle.ink_operators.proofs.ink_apply.Tie as tie
@@ -9,7 +8,7 @@ use Rattle.ink_operators.proofs.ink_apply.Tie as tie
 number-kind-requires : tie.Need-number-kind-requires
 number-kind-requires c κs =
     let s = c .before .before .before in
-    held (format1 .limit) (omega arith) (omega arith) (s .args .ends .now) (s .args .defined .now) (s .args .items .now) (s .args .values .now) (s .args .result-items .now) (s .args .result-values .now) (s .args .operands .now) (s .args .op) (s .args .count) (s .pre .0) (s .pre .1 .0) (search needs)
+    held _ (omega arith) (omega arith) (s .args .ends .now) (s .args .defined .now) (s .args .items .now) (s .args .values .now) (s .args .result-items .now) (s .args .result-values .now) (s .args .operands .now) (s .args .op) (s .args .count) (s .pre .lists) (s .pre .formed) (search needs)
 
 number-requires : tie.Need-number-requires
 number-requires c κs = c .before .before .number-kind .ensures .yes (c .before .if1 .taken)
@@ -17,12 +16,12 @@ number-requires c κs = c .before .before .number-kind .ensures .yes (c .before 
 returns : tie.Need-returns
 returns c =
     let s = c .before .before .before .before .before .before .before in
-    called-numbers (format1 .limit) (omega arith) (omega arith) (s .args .ends .now) (s .args .defined .now) (s .args .items .now) (s .args .values .now) (s .args .result-items .now) (s .args .result-values .now) (s .args .operands .now) (s .args .op) (s .args .count) (s .pre .0) (s .pre .1 .0) (s .pre .1 .1 .0) (s .pre .1 .1 .1) (c .before .before .before .number-kind .result) _ _ (c .before .before .before .number-kind .ensures .yes (c .before .before .if1 .taken)) (c .number .ensures)
+    called-numbers _ (omega arith) (omega arith) (s .args .ends .now) (s .args .defined .now) (s .args .items .now) (s .args .values .now) (s .args .result-items .now) (s .args .result-values .now) (s .args .operands .now) (s .args .op) (s .args .count) (s .pre .lists) (s .pre .formed) (s .pre .items-room) (s .pre .values-room) (c .before .before .before .number-kind .result) _ _ (c .before .before .before .number-kind .ensures .yes (c .before .before .if1 .taken)) (c .number .ensures)
 
 apply-requires : tie.Need-apply-requires
 apply-requires c κs =
     let s = c .before .before .before .before .before .before .before .before in
-    (s .pre .0, (s .pre .1 .0, (s .pre .1 .1 .0, s .pre .1 .1 .1, omega arith, omega arith)))
+    (s .pre .lists, (s .pre .formed, (s .pre .items-room, s .pre .values-room, omega arith, omega arith)))
 
 same-length : tie.Need-same-length
 same-length c = search needs

@@ -1,12 +1,9 @@
 -- `ink_operators::ink_call` meets its contract: the answer of `calls::call` on the operands that the words hold. Assumes nothing.
-use mathlib.Core.List.{List, [], _∷_}
-use native.Mathlib.Omega.{arith}
-use Rattle.ink_value.specs.declared.Value.{Value}
-use Rattle.calls.specs.Call.{called, onPack}
-use Rattle.pack.specs.Format.{format1}
+use mathlib.Core.List.{[], _∷_}
+use Rattle.calls.specs.Call.{called}
 use Rattle.pack.proofs.Formats.{runnable1}
-use Rattle.value_words.proofs.Saying.{calls, operands}
-use Rattle.value_words.proofs.Few.{small-outcome, pack-few, called-few}
+use Rattle.value_words.proofs.Saying.{calls, pack-operands}
+use Rattle.value_words.proofs.Few.{pack-small, called-few}
 use borrow.Author.Needs.{needs}
 use Rattle.ink_operators.proofs.ink_call.Statement.{statement}
 use Rattle.ink_operators.proofs.ink_call.Tie as tie
@@ -28,7 +25,7 @@ outcome-requires c κs =
     let s = c .before .before .before .before .before .before .before .before .before .before .before .before .before in
     let l = c .before .before .before .before .before .before .before .before .before .operand-at .result ∷ c .before .before .before .before .before .before .before .before .operand-at2 .result ∷ c .before .before .before .before .before .before .before .operand-at3 .result ∷ [] in
     let f = called (s .args .items .now) (s .args .values .now) (s .args .result-items .now) (s .args .result-values .now) (s .args .op) (s .args .count) l in
-    small-outcome (format1 .limit) (omega arith) (onPack format1 (s .args .pack .now) f) _ (c .before .before .before .before .call .ensures .answered) (pack-few format1 (runnable1 .narrow) (s .args .pack .now) f (λ ends defined within. called-few (format1 .limit) (omega arith) ends defined within (s .args .items .now) (s .args .values .now) (s .args .result-items .now) (s .args .result-values .now) (s .args .op) (s .args .count) l))
+    pack-small runnable1 (s .args .pack .now) f _ (c .before .before .before .before .call .ensures .answered) (λ ends defined within. called-few _ (runnable1 .some) ends defined within (s .args .items .now) (s .args .values .now) (s .args .result-items .now) (s .args .result-values .now) (s .args .op) (s .args .count) l)
 
 same-length : tie.Need-same-length
 same-length c = search needs
@@ -39,7 +36,7 @@ same-length-2 c = search needs
 returns : tie.Need-returns
 returns c =
     let s = c .before .before .before .before .before .before .before .before .before .before .before .before .before .before in
-    calls _ _ _ _ _ _ _ _ _ (operands (λ (l : List Value). onPack format1 (s .args .pack .now) (called (s .args .items .now) (s .args .values .now) (s .args .result-items .now) (s .args .result-values .now) (s .args .op) (s .args .count) l)) _ _ _ _ _ _ (c .before .before .before .before .before .before .before .before .before .before .operand-at .ensures) (c .before .before .before .before .before .before .before .before .before .operand-at2 .ensures) (c .before .before .before .before .before .before .before .before .operand-at3 .ensures)) (c .before .before .before .before .before .call .ensures) (c .outcome .ensures)
+    calls _ _ _ _ _ _ _ _ _ (pack-operands _ (s .args .pack .now) (called (s .args .items .now) (s .args .values .now) (s .args .result-items .now) (s .args .result-values .now) (s .args .op) (s .args .count)) (c .before .before .before .before .before .before .before .before .before .before .operand-at .ensures) (c .before .before .before .before .before .before .before .before .before .operand-at2 .ensures) (c .before .before .before .before .before .before .before .before .operand-at3 .ensures)) (c .before .before .before .before .before .call .ensures) (c .outcome .ensures)
 
 pub ink-call-spec : {M : Type 1} → statement M
 ink-call-spec =

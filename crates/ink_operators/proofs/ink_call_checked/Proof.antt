@@ -13,7 +13,6 @@ use Rattle.ink_value.specs.declared.Value.{Value}
 use Rattle.ink_value.proofs.Reading.{ap3}
 use Rattle.list_definitions.specs.Defs.{ListDefinitions}
 use Rattle.native_function_call.specs.Lists.{definitions}
-use Rattle.pack.specs.Format.{format1}
 use Rattle.calls.specs.Call.{operandsOk, resultsOk, called}
 use Rattle.calls.proofs.Forms.{ill-lent}
 use Rattle.value_words.specs.Words.{valueAt}
@@ -64,7 +63,7 @@ returns c =
     let is = s .args .items .now in
     let vs = s .args .values .now in
     let ws = s .args .operands .now in
-    let u = definitions (s .args .ends .now) (s .args .defined .now) (format1 .limit) in
+    let u = definitions (s .args .ends .now) (s .args .defined .now) _ in
     let k : c .before .before .before .before .before .before .operand-at .result ∷ c .before .before .before .before .before .operand-at2 .result ∷ c .before .before .before .before .operand-at3 .result ∷ [] ≡ operandsIn ws = ap3 (λ (a b c : Value). a ∷ b ∷ c ∷ []) (c .before .before .before .before .before .before .operand-at .ensures) (c .before .before .before .before .before .operand-at2 .ensures) (c .before .before .before .before .operand-at3 .ensures) in
     calls-is (sym (ap (λ (l : List Value). called is vs (s .args .result-items .now) (s .args .result-values .now) (s .args .op) (s .args .count) l u) k))
     (refused-calls _ 7 _ _ _ _ (ill-lent is vs (s .args .result-items .now) (s .args .result-values .now) (s .args .op) (s .args .count) (c .before .before .before .before .before .before .operand-at .result ∷ c .before .before .before .before .before .operand-at2 .result ∷ c .before .before .before .before .operand-at3 .result ∷ []) u (sym (c .before .before .before .lent-well .ensures) ∙ not-true _ (c .before .before .if1 .taken))) refl (c .put-index .ensures))
@@ -72,9 +71,9 @@ returns c =
 number-kind-requires : tie.Need-number-kind-requires
 number-kind-requires c κs =
     let s = c .before .before .before .before .before .before .before .before in
-    let u = definitions (s .args .ends .now) (s .args .defined .now) (format1 .limit) in
+    let u = definitions (s .args .ends .now) (s .args .defined .now) _ in
     let l = lent u (s .args .items .now) (s .args .values .now) (s .args .result-items .now) (s .args .result-values .now) (s .args .count) (s .args .operands .now) (c .before .before .before .before .operand-at .ensures) (c .before .before .before .operand-at2 .ensures) (c .before .before .operand-at3 .ensures) (c .before .lent-well .ensures) (not-false _ (c .if1 .left)) in
-    held (format1 .limit) (omega arith) (omega arith) (s .args .ends .now) (s .args .defined .now) (s .args .items .now) (s .args .values .now) (s .args .result-items .now) (s .args .result-values .now) (s .args .operands .now) (s .args .op) (s .args .count) (s .pre) (l .formed) (search needs)
+    held _ (omega arith) (omega arith) (s .args .ends .now) (s .args .defined .now) (s .args .items .now) (s .args .values .now) (s .args .result-items .now) (s .args .result-values .now) (s .args .operands .now) (s .args .op) (s .args .count) (s .pre) (l .formed) (search needs)
 
 number-requires : tie.Need-number-requires
 number-requires c κs = c .before .before .number-kind .ensures .yes (c .before .if2 .taken)
@@ -82,14 +81,14 @@ number-requires c κs = c .before .before .number-kind .ensures .yes (c .before 
 returns-2 : tie.Need-returns-2
 returns-2 c =
     let s = c .before .before .before .before .before .before .before .before .before .before .before .before in
-    let u = definitions (s .args .ends .now) (s .args .defined .now) (format1 .limit) in
+    let u = definitions (s .args .ends .now) (s .args .defined .now) _ in
     let l = lent u (s .args .items .now) (s .args .values .now) (s .args .result-items .now) (s .args .result-values .now) (s .args .count) (s .args .operands .now) (c .before .before .before .before .before .before .before .before .operand-at .ensures) (c .before .before .before .before .before .before .before .operand-at2 .ensures) (c .before .before .before .before .before .before .operand-at3 .ensures) (c .before .before .before .before .before .lent-well .ensures) (not-false _ (c .before .before .before .before .if1 .left)) in
-    called-numbers (format1 .limit) (omega arith) (omega arith) (s .args .ends .now) (s .args .defined .now) (s .args .items .now) (s .args .values .now) (s .args .result-items .now) (s .args .result-values .now) (s .args .operands .now) (s .args .op) (s .args .count) (s .pre) (l .formed) (l .items-room) (l .values-room) (c .before .before .before .number-kind .result) _ _ (c .before .before .before .number-kind .ensures .yes (c .before .before .if2 .taken)) (c .number .ensures)
+    called-numbers _ (omega arith) (omega arith) (s .args .ends .now) (s .args .defined .now) (s .args .items .now) (s .args .values .now) (s .args .result-items .now) (s .args .result-values .now) (s .args .operands .now) (s .args .op) (s .args .count) (s .pre) (l .formed) (l .items-room) (l .values-room) (c .before .before .before .number-kind .result) _ _ (c .before .before .before .number-kind .ensures .yes (c .before .before .if2 .taken)) (c .number .ensures)
 
 apply-requires : tie.Need-apply-requires
 apply-requires c κs =
     let s = c .before .before .before .before .before .before .before .before .before .before .before .before .before in
-    let u = definitions (s .args .ends .now) (s .args .defined .now) (format1 .limit) in
+    let u = definitions (s .args .ends .now) (s .args .defined .now) _ in
     let l = lent u (s .args .items .now) (s .args .values .now) (s .args .result-items .now) (s .args .result-values .now) (s .args .count) (s .args .operands .now) (c .before .before .before .before .before .before .before .before .before .operand-at .ensures) (c .before .before .before .before .before .before .before .before .operand-at2 .ensures) (c .before .before .before .before .before .before .before .operand-at3 .ensures) (c .before .before .before .before .before .before .lent-well .ensures) (not-false _ (c .before .before .before .before .before .if1 .left)) in
     (s .pre, (l .formed, (l .items-room, l .values-room, omega arith, omega arith)))
 

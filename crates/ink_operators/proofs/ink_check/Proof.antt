@@ -1,10 +1,6 @@
 -- `ink_operators::ink_check` meets its contract: the number of the judge's answer. Assumes nothing.
 use mathlib.Core.Path.{sym, ap, _∙_}
-use Rattle.pack.specs.Bodies.{decoded}
-use Rattle.pack.specs.Format.{format1}
-use Rattle.pack.specs.Judge.{checked}
-use Rattle.pack.specs.declared.Checked.{Checked}
-use Rattle.pack.proofs.Judged.{turned}
+use Rattle.pack.proofs.Judged.{accepted, turned}
 use Rattle.value_words.specs.Calls.{numberOf}
 use borrow.Author.Needs.{needs}
 use Rattle.ink_operators.proofs.ink_check.Statement.{statement}
@@ -24,11 +20,11 @@ number-requires c κs = search needs
 
 returns : tie.Need-returns
 returns c =
-    sym (ap numberOf (sym (c .before .before .check .ensures) ∙ ap (λ (x : Checked). checked x (decoded format1 (c .before .before .before .before .args .pack .now))) (c .enum-told .given .1)))
+    sym (ap numberOf (accepted _ _ _ (c .enum-told .given .1) (c .before .before .check .ensures)))
 
 returns-2 : tie.Need-returns-2
 returns-2 c =
-    c .number .ensures ∙ sym (ap numberOf (turned format1 (c .before .before .before .before .before .before .args .pack .now) (c .before .before .before .before .check .result) _ (c .before .before .n .given .1) (c .before .before .before .before .check .ensures)))
+    c .number .ensures ∙ sym (ap numberOf (turned _ (c .before .before .before .before .before .before .args .pack .now) (c .before .before .before .before .check .result) _ (c .before .before .n .given .1) (c .before .before .before .before .check .ensures)))
 
 pub ink-check-spec : {M : Type 1} → statement M
 ink-check-spec =

@@ -1,35 +1,38 @@
--- `ink_operators::ink_definitions` meets its contract: the tables that the pack's reader writes. Assumes nothing.
-use Rattle.pack.specs.Bodies.{decoded}
-use Rattle.pack.specs.Format.{format1}
+-- `ink_operators::ink_definitions` meets its contract: question 7 of the slices, and then the tables that the pack's reader writes. Assumes
+-- nothing.
+use mathlib.Core.Path.{refl}
+use native.Mathlib.Omega.{arith}
 use Rattle.pack.proofs.Formats.{runnable1}
 use Rattle.pack.proofs.Judged.{judged}
 use Rattle.pack.proofs.Values.{pack-tables}
+use Rattle.ink_operators.proofs.Duties.{reads-no-ends, reads-no-defined, reads-tables}
 use borrow.Author.Needs.{needs}
 use Rattle.ink_operators.proofs.ink_definitions.Statement.{statement}
 use Rattle.ink_operators.proofs.ink_definitions.Tie as tie
 
-slice-aggregate-read-definitions : tie.Need-slice-aggregate-read-definitions
-slice-aggregate-read-definitions c = search needs
+returns : tie.Need-returns
+returns c = reads-no-ends _ (c .before .before .before .args .pack .now) (c .before .before .before .args .ends .now) (c .before .before .before .args .defined .now) _ (c .if1 .taken)
 
-slice-aggregate-read-definitions-2 : tie.Need-slice-aggregate-read-definitions-2
-slice-aggregate-read-definitions-2 c = search needs
+returns-2 : tie.Need-returns-2
+returns-2 c = reads-no-defined _ (c .before .before .before .before .before .args .pack .now) (c .before .before .before .before .before .args .ends .now) (c .before .before .before .before .before .args .defined .now) _ (c .if2 .taken)
 
 read-definitions-requires : tie.Need-read-definitions-requires
 read-definitions-requires c κs =
-    let s = c .before .before .before in
-    let p = s .args .pack .now in
-    let sound = judged format1 p (decoded format1 p) (s .pre) .0 in
-    let t = pack-tables format1 p (runnable1 .narrow) sound in
-    (runnable1 .narrow, (sound, (t .ends-few, t .defined-few)))
+    let s = c .before .before .before .before .before .before .before in
+    let sound = judged _ (s .args .pack .now) _ (s .pre) .0 in
+    let t = pack-tables _ (s .args .pack .now) (runnable1 .narrow) sound in
+    (runnable1 .narrow, (sound, (omega (arith, t .ends-few, c .before .before .before .before .if1 .left), omega (arith, t .defined-few, c .before .before .if2 .left))))
 
-returns : tie.Need-returns
-returns c = search needs
+same-length : tie.Need-same-length
+same-length c = search needs
+
+same-length-2 : tie.Need-same-length-2
+same-length-2 c = search needs
+
+returns-3 : tie.Need-returns-3
+returns-3 c = reads-tables _ (c .before .before .before .before .before .before .before .before .before .before .before .before .args .pack .now) (c .before .before .before .before .before .before .before .before .before .if1 .left) (c .before .before .before .before .before .before .before .if2 .left) (c .before .before .before .before .read-definitions .ensures) refl
 
 pub ink-definitions-spec : {M : Type 1} → statement M
 ink-definitions-spec =
     tie.close
-    (tie.spec
-    slice-aggregate-read-definitions
-    slice-aggregate-read-definitions-2
-    read-definitions-requires
-    returns)
+    (tie.spec returns returns-2 read-definitions-requires same-length same-length-2 returns-3)

@@ -1,11 +1,6 @@
 -- `ink_operators::ink_run` meets its contract: the answer of `running::run` on the slots that the words hold. Assumes nothing.
-use mathlib.Core.List.{map}
-use Rattle.ink_value.specs.Value.{valOf}
-use Rattle.pack.specs.Format.{format1}
 use Rattle.pack.proofs.Formats.{runnable1}
-use Rattle.sheet.specs.Whole.{opened}
-use Rattle.running.specs.Run.{memory, endAfter}
-use Rattle.ink_operators.proofs.Ending.{run-says, small-ran, end-wf}
+use Rattle.ink_operators.proofs.Ending.{run-says, runs-small}
 use borrow.Author.Needs.{needs}
 use Rattle.ink_operators.proofs.ink_run.Statement.{statement}
 use Rattle.ink_operators.proofs.ink_run.Tie as tie
@@ -17,10 +12,7 @@ run-requires : tie.Need-run-requires
 run-requires c κs = search needs
 
 ran-requires : tie.Need-ran-requires
-ran-requires c κs =
-    let s = c .before .before .before .before .before .before .before .before .before .before .before .before .before .before .before .before .before in
-    let l = c .before .before .before .before .before .before .before .before .before .before .before .before .slots-in .result in
-    small-ran runnable1 (endAfter format1 (s .args .sheet) (map (valOf (s .args .slot-items .now) (s .args .slot-values .now)) l) (opened format1 (s .args .pack .now) (s .args .sheet) (memory format1 l (s .args .slot-items .now) (s .args .slot-values .now) (s .args .work-items .now) (s .args .work-values .now) (s .args .result-items .now) (s .args .result-values .now)))) _ (c .before .before .before .before .before .before .before .run .ensures .ran .answered) (end-wf format1 runnable1 (s .args .pack .now) (s .args .sheet) l (s .args .slot-items .now) (s .args .slot-values .now) (s .args .work-items .now) (s .args .work-values .now) (s .args .result-items .now) (s .args .result-values .now))
+ran-requires c κs = runs-small runnable1 _ _ _ _ _ _ _ _ _ _ _ _ _ _ (c .before .before .before .before .before .before .before .run .ensures)
 
 same-length : tie.Need-same-length
 same-length c = search needs
