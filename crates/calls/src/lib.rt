@@ -11,18 +11,14 @@ ghost use mathlib.Core.Path.{_≡_};
 ghost use mathlib.Core.Bool.{true, cond};
 ghost use mathlib.Core.List.{[], _∷_};
 ghost use Prim.Native.Nat.{_≤_, _<_};
-ghost use lib.Dec.{leb};
 ghost use lib.ListN.{length, take};
 ghost use Rattle.ink_list.specs.Entries.{itemNumbers};
-ghost use Rattle.ink_list.specs.Every.{_and_};
 ghost use denote.Ref.{now};
 ghost use Rattle.native_function_call.specs.Lists.{definitions, definitionsIn};
-ghost use Rattle.pack.specs.Read.{definitionsOf};
 ghost use Rattle.ink_value.specs.Convert.{cast, coerceBool, coerceInt, coerceFloat};
 ghost use Rattle.ink_value.specs.Value.{placed};
 ghost use Rattle.ink_value.specs.Slices.{Gives};
 ghost use Rattle.ink_value.specs.declared.Value.the-variants as Is;
-ghost use Rattle.pack.specs.Bodies.{decoded};
 ghost use Rattle.pack.specs.Format.{format1, Runnable};
 ghost use Rattle.pack.specs.Judge.{Sound};
 ghost use Rattle.calls.specs.Call.{operandsOk, PackLists};
@@ -107,7 +103,8 @@ pub fn lent_well(
     result_items: usize,
     result_values: usize,
 ) -> bool
-    ensures { λ r. ⌜ r ≡ lentWell total definitions items values (take count (a ∷ b ∷ c ∷ [])) limit «result_items» «result_values» ⌝ }
+    ensures { λ r. ⌜ r ≡ lentWell total definitions items values (take count (a ∷ b ∷ c ∷ []))
+        limit «result_items» «result_values» ⌝ }
 {
     if result_items < limit {
         return false;
@@ -134,7 +131,8 @@ pub fn call_formed(
     ov: &mut [i32],
 ) -> Outcome
     requires { ⌜ PackLists limit (now ends) (now defined) ⌝ }
-    requires { ⌜ operandsOk (definitions (now ends) (now defined) limit) (now items) (now values) (take count (a ∷ b ∷ c ∷ [])) ≡ true ⌝ }
+    requires { ⌜ operandsOk (definitions (now ends) (now defined) limit)
+        (now items) (now values) (take count (a ∷ b ∷ c ∷ [])) ≡ true ⌝ }
     requires { ⌜ (limit ≤ length (now oi)) × (limit ≤ length (now ov)) × (1 ≤ limit) × (limit < itemNumbers) ⌝ }
     ensures { λ r. ⌜ Gives (calledIn items values oi ov op count (a ∷ b ∷ c ∷ []) (definitionsIn ends defined limit)) r oi ov ⌝ }
 {
@@ -325,7 +323,8 @@ pub fn cast(
     result_items: &mut [u16],
     result_values: &mut [i32],
 ) -> Outcome
-    ensures { λ r. ⌜ Gives (onPackIn format1 pack (castIn items values «result_items» «result_values» to v)) r «result_items» «result_values» ⌝ }
+    ensures { λ r. ⌜ Gives (onPackIn format1 pack (castIn items values «result_items» «result_values» to v))
+        r «result_items» «result_values» ⌝ }
 {
     match pack_check::check(pack) {
         Checked::Refused(number) => Outcome::Refused(number),

@@ -1,23 +1,22 @@
 -- What a run and vetting return and leave at the boundary. Assumes nothing.
 use mathlib.Core.Path.{_≡_}
-use mathlib.Core.Bool.{Bool, true}
+use mathlib.Core.Bool.{Bool}
 use mathlib.Core.List.{List, [], _∷_}
 use Prim.Native.Nat.{ℕ, _<_, _≤_}
 use lib.Dec.{leb}
 use lib.IntN.{ℤ, pos}
-use lib.ListN.{length, getD, take}
+use lib.ListN.{length, getD}
 use Rattle.ink_number.specs.Answer.{Answer, gives, refuses}
 use Rattle.ink_list.specs.Every.{_and_}
 use Rattle.ink_list.specs.Filled.{over}
 use Rattle.ink_value.specs.Val.{Val}
-use Rattle.native_function_call.specs.Lists.{definitions}
 use Rattle.pack.specs.Bodies.{Pack, decoded}
 use Rattle.pack.specs.Format.{definitionLimit}
 use Rattle.pack.specs.declared.format.Format.{Format}
 use Rattle.pack.specs.Judge.{judge}
 use Rattle.pack.specs.Read.{endsOf, definedOf}
 use Rattle.stepping.specs.Steps.{workLimit}
-use Rattle.calls.specs.Call.{operandsOk, PackLists}
+use Rattle.calls.specs.Call.{PackLists}
 use Rattle.running.specs.Run.{ranTo, endAfter, Runs}
 use Rattle.running.specs.declared.Ran.{Ran}
 use Rattle.running.specs.declared.Ran.the-variants as Rn
@@ -25,7 +24,8 @@ use Rattle.vetting.specs.Vet.{Answers}
 use Rattle.vetting.specs.declared.Vetted.{Vetted}
 use Rattle.vetting.specs.declared.Vetted.the-variants as Vet
 use Rattle.value_words.specs.Words.{wordsOf, Small}
-use Rattle.value_words.specs.Calls.{numberOf, indexWords, operandsIn}
+use Rattle.value_words.specs.Calls.{numberOf, indexWords}
+use Rattle.word_operators.specs.Operands.{OperandsOk}
 
 -- ---- a run
 
@@ -103,6 +103,6 @@ pub record Clear (F : Format) (wi : List ℕ) (wv : List ℤ) : Type 0 where
 -- what `ink_apply` leaves to its caller: the tables are a pack's, and question 7 says yes of the operands and of the result slices
 pub record Applies (F : Format) (ends : List ℕ) (defined : List ℤ) (is : List ℕ) (vs : List ℤ) (n : ℕ) (ws ri : List ℕ) (rv : List ℤ) : Type 0 where
   pub lists : PackLists (F .limit) ends defined
-  pub formed : operandsOk (definitions ends defined (F .limit)) is vs (take n (operandsIn ws)) ≡ true
+  pub formed : OperandsOk (F .limit) ends defined is vs n ws
   pub items-room : F .limit ≤ length ri
   pub values-room : F .limit ≤ length rv

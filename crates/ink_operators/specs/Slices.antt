@@ -8,7 +8,6 @@ use Rattle.ink_number.specs.Answer.{Answer, gives, ask}
 use Rattle.ink_list.specs.Slices.{Slice}
 use Rattle.ink_value.specs.Slices.{valIn}
 use Rattle.ink_value.specs.Val.{Val}
-use Rattle.native_function_call.specs.Lists.{definitionsIn}
 use Rattle.pack.specs.Bodies.{decoded}
 use Rattle.pack.specs.declared.format.Format.{Format}
 use Rattle.sheet.specs.Whole.{opened}
@@ -45,11 +44,6 @@ ReadsAny F pack n ends defined counts =
 abbrev pub CallSaysAny : Format → Slice ℕ → ℕ → ℕ → Slice ℕ → Slice ℕ → Slice ℤ → ℕ → Slice ℕ → Slice ℕ → Slice ℤ → Type 0
 CallSaysAny F pack op count ws is vs n answer oi ov =
     CallsIn (onPackIn F pack (calledIn is vs oi ov op count (operandsIn (now (ws .entry))))) n answer oi ov
-
--- the same with the tables of a pack that passed
-abbrev pub CallSays : Format → Slice ℕ → Slice ℤ → ℕ → ℕ → Slice ℕ → Slice ℕ → Slice ℤ → ℕ → Slice ℕ → Slice ℕ → Slice ℤ → Type 0
-CallSays F ends defined op count ws is vs n answer oi ov =
-    CallsIn (calledIn is vs oi ov op count (operandsIn (now (ws .entry))) (definitionsIn ends defined (F .limit))) n answer oi ov
 
 -- `cast` of the operand that three words hold
 abbrev pub CastSaysAny : Format → Slice ℕ → ℕ → Slice ℕ → Slice ℕ → Slice ℤ → ℕ → Slice ℕ → Slice ℕ → Slice ℤ → Type 0

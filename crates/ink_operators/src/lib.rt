@@ -15,8 +15,9 @@ ghost use Rattle.pack.specs.Judge.{judge};
 ghost use Rattle.calls.specs.Call.{PackLists};
 ghost use Rattle.running.specs.Slices.{Kept};
 ghost use Rattle.value_words.specs.Calls.{numberOf};
+ghost use Rattle.word_operators.specs.Slices.{CallSays};
 ghost use Rattle.ink_operators.specs.Answers.{Passed, Ready, Clear, Applies};
-ghost use Rattle.ink_operators.specs.Slices.{VetSaysAny, RunSaysAny, ReadsAny, CallSaysAny, CallSays, CastSaysAny, CoerceSaysAny};
+ghost use Rattle.ink_operators.specs.Slices.{VetSaysAny, RunSaysAny, ReadsAny, CallSaysAny, CastSaysAny, CoerceSaysAny};
 
 // Questions 1 to 5 of a pack: 0, or the number of the first no.
 #[no_mangle]
@@ -252,7 +253,7 @@ pub extern "C" fn ink_call_checked(
     answer: &mut [u64; 3],
 ) -> u32
     requires { ⌜ PackLists (format1 .limit) (now ends) (now defined) ⌝ }
-    ensures { λ r. ⌜ CallSays format1 ends defined op count operands items values r answer «result_items» «result_values» ⌝ }
+    ensures { λ r. ⌜ CallSays (format1 .limit) ends defined op count operands items values r answer «result_items» «result_values» ⌝ }
 {
     let a = words::operand_at(operands, 0);
     let b = words::operand_at(operands, 1);
@@ -308,7 +309,7 @@ pub extern "C" fn ink_apply(
 ) -> u32
     requires { ⌜ Applies format1 (now ends) (now defined) (now items) (now values) count (now operands)
         (now «result_items») (now «result_values») ⌝ }
-    ensures { λ r. ⌜ CallSays format1 ends defined op count operands items values r answer «result_items» «result_values» ⌝ }
+    ensures { λ r. ⌜ CallSays (format1 .limit) ends defined op count operands items values r answer «result_items» «result_values» ⌝ }
 {
     let kind = word_operators::number_kind(op, count, operands);
     if kind < 3 {

@@ -21,8 +21,10 @@ pub fn run_ready(
     result_items: &mut [u16],
     result_values: &mut [i32],
 ) -> Ran
-    requires { ⌜ Ready format (now pack) (now ends) (now defined) × Clear format (now «work_items») (now «work_values») × Runnable format ⌝ }
-    ensures { λ r. ⌜ RunsAny format pack sheet slots «slot_items» «slot_values» r «work_items» «work_values» «result_items» «result_values» ⌝ }
+    requires { ⌜ Ready format (now pack) (now ends) (now defined)
+        × Clear format (now «work_items») (now «work_values») × Runnable format ⌝ }
+    ensures { λ r. ⌜ RunsAny format pack sheet slots «slot_items» «slot_values»
+        r «work_items» «work_values» «result_items» «result_values» ⌝ }
     ensures { λ _. ⌜ Kept «work_items» «work_values» ⌝ }
 {
     if pack_read::sheet_count(pack) <= sheet {

@@ -1,2 +1,3 @@
 -- Operators on words.
 pub mod Operands
+pub mod Slices

@@ -1,14 +1,19 @@
 -- What is known of operands in words. Assumes nothing.
 use mathlib.Core.Path.{_≡_}
+use mathlib.Core.Bool.{true}
 use mathlib.Core.List.{List, [], _∷_, map}
 use Prim.Native.Nat.{ℕ, _<_, _≤_}
 use lib.IntN.{ℤ}
-use lib.ListN.{take}
+use lib.ListN.{length, take}
 use Rattle.ink_number.specs.Answer.{gives}
+use Rattle.ink_list.specs.Entries.{itemNumbers}
 use Rattle.ink_value.specs.Val.{Val, kindOf, kindAt}
 use Rattle.ink_value.specs.Value.{valOf, codeOfValue, FirstFormed}
 use Rattle.kind_table.specs.Kinds.{kindCall}
+use Rattle.native_function_call.specs.Lists.{definitions}
+use Rattle.calls.specs.Call.{operandsOk}
 use Rattle.value_words.specs.Words.{unheld, valueAt}
+use Rattle.value_words.specs.Calls.{operandsIn}
 
 -- the words of the first n operands are a value's
 pub record Held (ws : List ℕ) (n : ℕ) : Type 0 where
@@ -23,6 +28,18 @@ FirstIn limit is vs n ws = FirstFormed limit is vs n (valueAt ws 0) (valueAt ws 
 -- the values of three operands
 abbrev pub valsAt : List ℕ → List ℤ → List ℕ → List Val
 valsAt is vs ws = valOf is vs (valueAt ws 0) ∷ valOf is vs (valueAt ws 1) ∷ valOf is vs (valueAt ws 2) ∷ []
+
+-- and of one or two
+abbrev pub twoAt : List ℕ → List ℤ → List ℕ → List Val
+twoAt is vs ws = valOf is vs (valueAt ws 0) ∷ valOf is vs (valueAt ws 1) ∷ []
+
+-- 7, of the first n operands
+abbrev pub OperandsOk : ℕ → List ℕ → List ℤ → List ℕ → List ℤ → ℕ → List ℕ → Type 0
+OperandsOk limit ends defined is vs n ws = operandsOk (definitions ends defined limit) is vs (take n (operandsIn ws)) ≡ true
+
+-- 7, of the result slices, for a limit that the operators can work with
+abbrev pub ResultsFit : ℕ → List ℕ → List ℤ → Type 0
+ResultsFit limit ri rv = (limit ≤ length ri) × (limit ≤ length rv) × (1 ≤ limit) × (limit < itemNumbers)
 
 -- the n operands are numbers, and the operator's result on them is a number of this kind
 pub record OfNumbers (ws : List ℕ) (o n kind : ℕ) : Type 0 where

@@ -9,26 +9,17 @@ use value_words::answers;
 use value_words::words;
 ghost use mathlib.Core.Path.{_≡_};
 ghost use mathlib.Core.Bool.{true, false, cond};
-ghost use mathlib.Core.List.{List, [], _∷_};
-ghost use Prim.Native.Nat.{ℕ, _<_, _≤_, _%_, _^_};
+ghost use Prim.Native.Nat.{_<_, _≤_, _%_, _^_};
 ghost use lib.Dec.{ltb};
-ghost use lib.IntN.{ℤ};
-ghost use lib.ListN.{length, getD, take};
 ghost use Rattle.ink_number.specs.Int.{signed, divided};
 ghost use Rattle.ink_float.specs.Real.{ofBits32};
-ghost use Rattle.list_definitions.specs.Defs.{ListDefinitions};
-ghost use Rattle.ink_value.specs.Val.{kindAt, listK};
 ghost use Rattle.ink_list.specs.Entries.{itemNumbers};
-ghost use Rattle.ink_value.specs.Value.{valOf, Formed, FirstFormed};
-ghost use Rattle.ink_value.specs.Slices.{valIn};
-ghost use Rattle.native_function_call.specs.Apply.{ofInt, compute};
-ghost use Rattle.native_function_call.specs.Lists.{Room, definitions, definitionsIn};
-ghost use Rattle.calls.specs.Call.{operandsOk, PackLists};
-ghost use Rattle.calls.specs.Slices.{calledIn};
-ghost use Rattle.value_words.specs.Words.{valueAt};
-ghost use Rattle.value_words.specs.Calls.{operandsIn};
-ghost use Rattle.value_words.specs.Slices.{SaysIn, CallsIn};
-ghost use Rattle.word_operators.specs.Operands.{Held, OfNumbers, NumberKind, FirstIn, valsAt};
+ghost use Rattle.native_function_call.specs.Apply.{ofInt};
+ghost use Rattle.native_function_call.specs.Lists.{Room, definitions};
+ghost use Rattle.calls.specs.Call.{PackLists};
+ghost use Rattle.value_words.specs.Slices.{SaysIn};
+ghost use Rattle.word_operators.specs.Operands.{Held, OfNumbers, NumberKind, FirstIn, OperandsOk, ResultsFit};
+ghost use Rattle.word_operators.specs.Slices.{NumberSays, ScalarSays, ListSays, CallSays};
 
 // The kind code in a value's first word; 4 where it has none.
 fn code_in(w: u64) -> u8
@@ -101,7 +92,7 @@ fn put_whole(d: Divided, answer: &mut [u64; 3]) -> u32
 // A result of one number.
 fn number1(op: u8, kind: u8, operands: &[u64; 9], answer: &mut [u64; 3]) -> u32
     requires { ⌜ OfNumbers (now operands) op 1 kind ⌝ }
-    ensures { λ r. ⌜ ((u : ListDefinitions) (is : List ℕ) (vs : List ℤ) → SaysIn (compute u op (valOf is vs (valueAt (now (operands .entry)) 0) ∷ []) (kindAt kind)) r answer) ⌝ }
+    ensures { λ r. ⌜ NumberSays op 1 kind operands r answer ⌝ }
 {
     let ka = code_in(operands[0]);
     let za = whole_in(operands[1]);
@@ -124,8 +115,7 @@ fn number1(op: u8, kind: u8, operands: &[u64; 9], answer: &mut [u64; 3]) -> u32
 // A result of two.
 fn number2(op: u8, kind: u8, operands: &[u64; 9], answer: &mut [u64; 3]) -> u32
     requires { ⌜ OfNumbers (now operands) op 2 kind ⌝ }
-    ensures { λ r. ⌜ ((u : ListDefinitions) (is : List ℕ) (vs : List ℤ)
-        → SaysIn (compute u op (valOf is vs (valueAt (now (operands .entry)) 0) ∷ valOf is vs (valueAt (now (operands .entry)) 1) ∷ []) (kindAt kind)) r answer) ⌝ }
+    ensures { λ r. ⌜ NumberSays op 2 kind operands r answer ⌝ }
 {
     let ka = code_in(operands[0]);
     let za = whole_in(operands[1]);
@@ -150,8 +140,7 @@ fn number2(op: u8, kind: u8, operands: &[u64; 9], answer: &mut [u64; 3]) -> u32
 // A result of numbers.
 pub fn number(op: u8, kind: u8, count: usize, operands: &[u64; 9], answer: &mut [u64; 3]) -> u32
     requires { ⌜ OfNumbers (now operands) op count kind ⌝ }
-    ensures { λ r. ⌜ ((u : ListDefinitions) (is : List ℕ) (vs : List ℤ)
-        → SaysIn (compute u op (take count (valOf is vs (valueAt (now (operands .entry)) 0) ∷ valOf is vs (valueAt (now (operands .entry)) 1) ∷ [])) (kindAt kind)) r answer) ⌝ }
+    ensures { λ r. ⌜ NumberSays op count kind operands r answer ⌝ }
 {
     if count == 1 {
         return number1(op, kind, operands, answer);
@@ -171,7 +160,7 @@ fn scalar(
 ) -> u32
     requires { ⌜ (kind < 5) × (kind ≡ 3 → ⊥) × (1 ≤ n) × (n ≤ 2) ⌝ }
     requires { ⌜ Held (now operands) n × FirstIn itemNumbers (now items) (now values) n (now operands) ⌝ }
-    ensures { λ r. ⌜ ((u : ListDefinitions) → SaysIn (compute u op (take n (valIn items values (valueAt (now (operands .entry)) 0) ∷ valIn items values (valueAt (now (operands .entry)) 1) ∷ [])) (kindAt kind)) r answer) ⌝ }
+    ensures { λ r. ⌜ ScalarSays op n kind operands items values r answer ⌝ }
 {
     let ka = code_in(operands[0]);
     let za = whole_in(operands[1]);
@@ -219,10 +208,10 @@ fn list(
     result_values: &mut [i32],
     answer: &mut [u64; 3],
 ) -> u32
-    requires { ⌜ Room (definitions (now ends) (now defined) limit) (now «result_items») (now «result_values») × (1 ≤ count) × (count ≤ 3) ⌝ }
+    requires { ⌜ Room (definitions (now ends) (now defined) limit) (now «result_items») (now «result_values»)
+        × (1 ≤ count) × (count ≤ 3) ⌝ }
     requires { ⌜ FirstIn limit (now items) (now values) count (now operands) ⌝ }
-    ensures { λ r. ⌜ CallsIn (compute (definitionsIn ends defined limit) op (take count (valsAt (now (items .entry)) (now (values .entry)) (now (operands .entry)))) listK)
-        r answer «result_items» «result_values» ⌝ }
+    ensures { λ r. ⌜ ListSays limit ends defined op count operands items values r answer «result_items» «result_values» ⌝ }
 {
     let a = words::operand_at(operands, 0);
     let b = words::operand_at(operands, 1);
@@ -259,10 +248,9 @@ pub fn apply(
     answer: &mut [u64; 3],
 ) -> u32
     requires { ⌜ PackLists limit (now ends) (now defined) ⌝ }
-    requires { ⌜ operandsOk (definitions (now ends) (now defined) limit) (now items) (now values) (take count (operandsIn (now operands))) ≡ true ⌝ }
-    requires { ⌜ (limit ≤ length (now «result_items»)) × (limit ≤ length (now «result_values»)) × (1 ≤ limit) × (limit < itemNumbers) ⌝ }
-    ensures { λ r. ⌜ CallsIn (calledIn items values «result_items» «result_values» op count (operandsIn (now (operands .entry))) (definitionsIn ends defined limit))
-        r answer «result_items» «result_values» ⌝ }
+    requires { ⌜ OperandsOk limit (now ends) (now defined) (now items) (now values) count (now operands) ⌝ }
+    requires { ⌜ ResultsFit limit (now «result_items») (now «result_values») ⌝ }
+    ensures { λ r. ⌜ CallSays limit ends defined op count operands items values r answer «result_items» «result_values» ⌝ }
 {
     let kind = native_function_call::kinds(
         op,
