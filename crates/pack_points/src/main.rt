@@ -4,9 +4,11 @@
 // Values and Floats are printed as their bits, in hexadecimal.
 use named_packs::Named;
 use pack::Checked;
+use pack::format::Format;
 use pack::instruction::Instruction;
 use pack::instruction::instruction_width;
 use pack::instruction::read_instruction;
+use pack_check::format::DEFINITION_LIMIT;
 use pack_check::format::FORMAT1;
 use pack_read::literal_count;
 use pack_read::literal_len;
@@ -19,11 +21,13 @@ ghost use mathlib.Core.Path.{_≡_};
 ghost use Prim.Native.Nat.{_<_, _≤_};
 ghost use lib.ListN.{length};
 ghost use Rattle.pack.specs.Contents.{literalCount, sheetCount};
-ghost use Rattle.pack.specs.Format.{format1};
-ghost use Rattle.pack.specs.Judge.{Sound};
 ghost use Rattle.pack.specs.Read.{program};
+ghost use Rattle.pack_points.specs.Passed.{Passed};
 
 const STDOUT: i32 = 1;
+
+// The format of the packs that are shown.
+const SHOWN_FORMAT: Format = FORMAT1;
 
 const SHOWN: usize = 8;
 
@@ -56,11 +60,11 @@ fn numbers(ns: &[u16]) {
 }
 
 fn show_definitions(p: &[u8])
-    requires { ⌜ Sound format1 (now p) ⌝ }
+    requires { ⌜ Passed (now p) ⌝ }
 {
-    let mut ends = [0u16; 64];
-    let mut defined = [0i32; 256];
-    let d = read_definitions(p, &mut ends, &mut defined, FORMAT1);
+    let mut ends = [0u16; DEFINITION_LIMIT];
+    let mut defined = [0i32; SHOWN_FORMAT.limit];
+    let d = read_definitions(p, &mut ends, &mut defined, SHOWN_FORMAT);
     let n = d.definitions;
     io::write_all(STDOUT, b" ends");
     numbers(&ends[..n]);
@@ -88,20 +92,20 @@ fn show_last(items: &[u16], values: &[i32], n: usize) {
 }
 
 fn show_literal(p: &[u8], l: usize)
-    requires { ⌜ Sound format1 (now p) ⌝ }
+    requires { ⌜ Passed (now p) ⌝ }
     requires { ⌜ l < literalCount (now p) ⌝ }
 {
     io::write_all(STDOUT, b"; literal ");
-    io::print_hex(STDOUT, literal_origins(p, l, FORMAT1), 1);
-    number(literal_len(p, l, FORMAT1));
-    let mut items = [0u16; 256];
-    let mut values = [0i32; 256];
-    let n = read_literal(p, l, &mut items, &mut values, 0, FORMAT1);
+    io::print_hex(STDOUT, literal_origins(p, l, SHOWN_FORMAT), 1);
+    number(literal_len(p, l, SHOWN_FORMAT));
+    let mut items = [0u16; SHOWN_FORMAT.limit];
+    let mut values = [0i32; SHOWN_FORMAT.limit];
+    let n = read_literal(p, l, &mut items, &mut values, 0, SHOWN_FORMAT);
     show_last(&items, &values, n);
 }
 
 fn show_literals(p: &[u8])
-    requires { ⌜ Sound format1 (now p) ⌝ }
+    requires { ⌜ Passed (now p) ⌝ }
 {
     let n = literal_count(p);
     let mut l = 0;
@@ -145,7 +149,7 @@ fn show_instruction(i: Instruction) {
 
 // How many instructions a sheet has.
 fn instruction_count(p: &[u8], s: usize) -> usize
-    requires { ⌜ Sound format1 (now p) ⌝ }
+    requires { ⌜ Passed (now p) ⌝ }
     requires { ⌜ s < sheetCount (now p) ⌝ }
     ensures { λ r. ⌜ r ≡ length (program (now (p .entry)) s) ⌝ }
 {
@@ -162,7 +166,7 @@ fn instruction_count(p: &[u8], s: usize) -> usize
 }
 
 fn show_instructions(p: &[u8], s: usize)
-    requires { ⌜ Sound format1 (now p) ⌝ }
+    requires { ⌜ Passed (now p) ⌝ }
     requires { ⌜ s < sheetCount (now p) ⌝ }
 {
     let span = sheet_span(p, s);
@@ -176,7 +180,7 @@ fn show_instructions(p: &[u8], s: usize)
 }
 
 fn show_sheet(p: &[u8], s: usize)
-    requires { ⌜ Sound format1 (now p) ⌝ }
+    requires { ⌜ Passed (now p) ⌝ }
     requires { ⌜ s < sheetCount (now p) ⌝ }
 {
     io::write_all(STDOUT, b"; sheet");
@@ -188,7 +192,7 @@ fn show_sheet(p: &[u8], s: usize)
 }
 
 fn show_sheets(p: &[u8])
-    requires { ⌜ Sound format1 (now p) ⌝ }
+    requires { ⌜ Passed (now p) ⌝ }
 {
     let n = sheet_count(p);
     let mut s = 0;
@@ -199,7 +203,7 @@ fn show_sheets(p: &[u8])
 }
 
 fn show(p: &[u8])
-    requires { ⌜ Sound format1 (now p) ⌝ }
+    requires { ⌜ Passed (now p) ⌝ }
 {
     io::write_all(STDOUT, b" passed");
     show_definitions(p);

@@ -1,6 +1,5 @@
 -- `pack_points::report` is safe: where `check` passes a pack, the pack is sound. Assumes nothing.
 use denote.Ref.{now}
-use Rattle.pack.specs.Format.{format1}
 use Rattle.pack.proofs.Judged.{passed}
 use borrow.Author.Needs.{needs}
 use Rattle.pack_points.proofs.report.Statement.{statement}
@@ -23,7 +22,7 @@ enum-told c = search needs
 
 show-requires : tie.Need-show-requires
 show-requires c κs =
-    passed format1 (now (c .before .before .before .before .args .p)) (c .before .before .check .result) (c .enum-told .given .1) (c .before .before .check .ensures)
+    passed _ (now (c .before .before .before .before .args .p)) (c .before .before .check .result) (c .enum-told .given .1) (c .before .before .check .ensures)
 
 slice-aggregate-write-all : tie.Need-slice-aggregate-write-all
 slice-aggregate-write-all c = search needs

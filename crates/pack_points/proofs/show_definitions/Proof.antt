@@ -3,7 +3,6 @@ use mathlib.Core.Path.{sym}
 use lib.Seq.{length-take-le}
 use native.Mathlib.Omega.{arith}
 use denote.Ref.{now}
-use Rattle.pack.specs.Format.{format1}
 use Rattle.pack.proofs.Formats.{runnable1}
 use Rattle.pack.proofs.Values.{pack-tables}
 use borrow.Author.Needs.{needs}
@@ -18,7 +17,7 @@ slice-aggregate-read-definitions-2 c = search needs
 
 read-definitions-requires : tie.Need-read-definitions-requires
 read-definitions-requires c κs =
-    let t = pack-tables format1 (now (c .before .before .before .args .p)) (runnable1 .narrow) (c .before .before .before .pre) in
+    let t = pack-tables _ (now (c .before .before .before .args .p)) (runnable1 .narrow) (c .before .before .before .pre) in
     (runnable1 .narrow, (c .before .before .before .pre, (omega arith, omega arith)))
 
 slice-aggregate-write-all : tie.Need-slice-aggregate-write-all
@@ -29,11 +28,11 @@ write-all-requires c κs = search needs
 
 array-share-prefix-ends : tie.Need-array-share-prefix-ends
 array-share-prefix-ends c =
-    omega (arith, pack-tables format1 (now (c .before .before .before .before .before .before .before .before .args .p)) (runnable1 .narrow) (c .before .before .before .before .before .before .before .before .pre), c .before .before .before .before .read-definitions .ensures)
+    omega (arith, pack-tables _ (now (c .before .before .before .before .before .before .before .before .args .p)) (runnable1 .narrow) (c .before .before .before .before .before .before .before .before .pre), c .before .before .before .before .read-definitions .ensures)
 
 slice-aggregate-numbers : tie.Need-slice-aggregate-numbers
 slice-aggregate-numbers c =
-    let t = pack-tables format1 (now (c .before .before .before .before .before .before .before .before .before .args .p)) (runnable1 .narrow) (c .before .before .before .before .before .before .before .before .before .pre) in
+    let t = pack-tables _ (now (c .before .before .before .before .before .before .before .before .before .args .p)) (runnable1 .narrow) (c .before .before .before .before .before .before .before .before .before .pre) in
     let r = c .before .before .before .before .before .read-definitions in
     sym (length-take-le (r .result .definitions) (r .last .1 .0) (omega (arith, r .ensures, r .kept .1 .0)))
 
@@ -51,11 +50,11 @@ sub-pattern c = search needs
 
 mul-pattern : tie.Need-mul-pattern
 mul-pattern c =
-    omega (arith, pack-tables format1 (now (c .before .before .before .before .before .before .before .before .before .before .before .before .before .args .p)) (runnable1 .narrow) (c .before .before .before .before .before .before .before .before .before .before .before .before .before .pre), c .before .before .before .before .before .before .before .before .before .read-definitions .ensures)
+    omega (arith, pack-tables _ (now (c .before .before .before .before .before .before .before .before .before .before .before .before .before .args .p)) (runnable1 .narrow) (c .before .before .before .before .before .before .before .before .before .before .before .before .before .pre), c .before .before .before .before .before .before .before .before .before .read-definitions .ensures)
 
 array-copy-out-pattern : tie.Need-array-copy-out-pattern
 array-copy-out-pattern c =
-    omega (arith, pack-tables format1 (now (c .before .before .before .before .before .before .before .before .before .before .before .before .before .args .p)) (runnable1 .narrow) (c .before .before .before .before .before .before .before .before .before .before .before .before .before .pre), c .before .before .before .before .before .before .before .before .before .read-definitions .ensures)
+    omega (arith, pack-tables _ (now (c .before .before .before .before .before .before .before .before .before .before .before .before .before .args .p)) (runnable1 .narrow) (c .before .before .before .before .before .before .before .before .before .before .before .before .before .pre), c .before .before .before .before .before .before .before .before .before .read-definitions .ensures)
 
 pattern-requires : tie.Need-pattern-requires
 pattern-requires c κs = search needs

@@ -1,7 +1,6 @@
 -- `pack_points::show_literal` is safe: a literal has at most as many entries as the pack's format has items. Assumes nothing.
 use native.Mathlib.Omega.{arith}
 use denote.Ref.{now}
-use Rattle.pack.specs.Format.{format1}
 use Rattle.pack.proofs.Formats.{runnable1}
 use Rattle.pack.proofs.Listed.{literal-formed}
 use borrow.Author.Needs.{needs}
@@ -35,7 +34,7 @@ slice-aggregate-read-literal-2 c = search needs
 read-literal-requires : tie.Need-read-literal-requires
 read-literal-requires c κs =
     let s = c .before .before .before .before .before .before .before .before .before in
-    let few = literal-formed format1 (now (s .args .p)) (s .pre .0) (s .args .l) (s .pre .1) .few in
+    let few = literal-formed _ (now (s .args .p)) (s .pre .0) (s .args .l) (s .pre .1) .few in
     (runnable1 .narrow, (s .pre .0, (s .pre .1, (omega arith, omega arith))))
 
 slice-aggregate-show-last : tie.Need-slice-aggregate-show-last

@@ -1,0 +1,2 @@
+-- What is known of a pack that is shown.
+pub mod Passed
