@@ -92,7 +92,8 @@ static struct checked definitions_of(const uint8_t *pack, size_t len) {
     int32_t *defined = block(256 * 4);
     uint64_t *counts = block(2 * 8);
     calls++;
-    ink_definitions(pack, len, ends, defined, counts);
+    if (ink_definitions(pack, len, ends, 64, defined, 256, counts))
+        differing++;
     /* cut to what is used, so that a place beyond it is seen */
     struct checked c = {copy(ends, counts[0] * 2), copy(defined, counts[1] * 4), counts[0], counts[1]};
     free(ends);

@@ -34,11 +34,13 @@
 extern "C" {
 #endif
 
-/* The places that slices must have at least, or question 7 says no: each of the two result slices, each of the two work slices, and the
- * forecast of vetting. */
+/* The places that slices must have at least, or question 7 says no: each of the two result slices, each of the two work slices, the
+ * forecast of vetting, and the two tables of a pack's definitions. */
 #define INK_RESULT_PLACES 256
 #define INK_WORK_PLACES 16384
 #define INK_FORECAST_BYTES 2048
+#define INK_END_PLACES 64
+#define INK_DEFINED_PLACES 256
 
 /* Asks questions 1 to 5 of any bytes. Returns 0, or the number of the first no. Writes nothing. */
 uint32_t ink_check(const uint8_t *pack, size_t pack_len);
@@ -95,8 +97,11 @@ uint32_t ink_coerce_to_float(const uint8_t *pack, size_t pack_len, const uint64_
  * not even that memory is left alone. */
 
 /* Reads the definitions of a pack. The caller's duty: ink_check returned 0 for these bytes. Writes one past each definition's last item to
- * `ends`, each item's value to `defined`, 0 to the places that are left, and how many definitions and items there are to `counts`. */
-void ink_definitions(const uint8_t *pack, size_t pack_len, uint16_t ends[64], int32_t defined[256], uint64_t counts[2]);
+ * the start of `ends`, each item's value to the start of `defined`, and how many definitions and items there are to `counts`; places
+ * beyond are left as they were. Returns 0; or 7 where a slice has fewer places than INK_END_PLACES or INK_DEFINED_PLACES, and then
+ * nothing is written. */
+uint32_t ink_definitions(const uint8_t *pack, size_t pack_len, uint16_t *ends, size_t ends_len, int32_t *defined, size_t defined_len,
+                         uint64_t counts[2]);
 
 /* ink_run without questions 1 to 5, which have said yes, and without clearing. The caller's duties: ink_check returned 0 for these bytes;
  * `ends` and `defined` are what ink_definitions wrote of them, `definitions` and `items` its counts; and the first 16,384 places of the

@@ -27,6 +27,9 @@ const RESULT_PLACES: usize = 256;
 const WORK_PLACES: usize = 16384;
 /// Two bytes for each instruction.
 const FORECAST_BYTES: usize = 2048;
+/// The definitions, and the items, that a pack may have.
+const END_PLACES: usize = 64;
+const DEFINED_PLACES: usize = 256;
 
 /// The number of the first question that was answered no, and the index of the instruction (0 for questions 1 to 7 and 18, and for direct
 /// calls and conversions).
@@ -125,9 +128,22 @@ impl Pack {
         if number != 0 {
             return Err(Refusal { number, index: 0 });
         }
-        let (mut ends, mut defined, mut counts) = ([0; 64], [0; 256], [0; 2]);
-        // SAFETY: `ink_check` returned 0 for these bytes; the three arrays are as long as the function says and lent to it alone.
-        unsafe { sys::ink_definitions(bytes.as_ptr(), bytes.len(), &mut ends, &mut defined, &mut counts) };
+        let (mut ends, mut defined, mut counts) = ([0; END_PLACES], [0; DEFINED_PLACES], [0; 2]);
+        // SAFETY: `ink_check` returned 0 for these bytes; each pointer and length are those of one array, lent to the function alone.
+        let number = unsafe {
+            sys::ink_definitions(
+                bytes.as_ptr(),
+                bytes.len(),
+                ends.as_mut_ptr(),
+                ends.len(),
+                defined.as_mut_ptr(),
+                defined.len(),
+                &mut counts,
+            )
+        };
+        if number != 0 {
+            return Err(Refusal { number, index: 0 });
+        }
         let [definitions, items] = counts;
         Ok(Pack { bytes, ends: ends[..definitions as usize].into(), defined: defined[..items as usize].into() })
     }

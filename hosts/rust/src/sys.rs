@@ -100,7 +100,15 @@ unsafe extern "C" {
         answer: *mut [u64; 3],
     ) -> u32;
 
-    pub fn ink_definitions(pack: *const u8, pack_len: usize, ends: *mut [u16; 64], defined: *mut [i32; 256], counts: *mut [u64; 2]);
+    pub fn ink_definitions(
+        pack: *const u8,
+        pack_len: usize,
+        ends: *mut u16,
+        ends_len: usize,
+        defined: *mut i32,
+        defined_len: usize,
+        counts: *mut [u64; 2],
+    ) -> u32;
 
     pub fn ink_run_checked(
         pack: *const u8,

@@ -237,19 +237,29 @@ fn vetting_writes_no_byte_beyond() {
     assert!(forecast.iter().all(|&b| b == 0xaa));
 }
 
+/// `ink_definitions` of a pack that passes.
+fn definitions(pack: &[u8], ends: &mut [u16], defined: &mut [i32], counts: &mut [u64; 2]) -> u32 {
+    // SAFETY: the pack passes, and each pointer and length are those of one slice, lent to the call alone.
+    unsafe {
+        assert_eq!(sys::ink_check(pack.as_ptr(), pack.len()), 0);
+        sys::ink_definitions(pack.as_ptr(), pack.len(), ends.as_mut_ptr(), ends.len(), defined.as_mut_ptr(), defined.len(), counts)
+    }
+}
+
 #[test]
 fn definitions_and_the_checked_calls() {
     let pack = bytes(&[vec![5, -6], vec![7]], &[(3, vec![(0, 5), (2, 7)])], &[sheet(&[&[35, 0]]), sheet(&[&[35, 0], &[0]])]);
     let (mut ends, mut defined, mut counts) = ([9u16; 64], [9i32; 256], [9u64; 2]);
-    // SAFETY: the pack is well formed, and the three arrays are lent to the call alone.
-    unsafe {
-        assert_eq!(sys::ink_check(pack.as_ptr(), pack.len()), 0);
-        sys::ink_definitions(pack.as_ptr(), pack.len(), &mut ends, &mut defined, &mut counts);
-    }
+    // slices that are one place too short: 7, and nothing is written
+    assert_eq!(definitions(&pack, &mut ends[..63], &mut defined, &mut counts), 7);
+    assert_eq!(definitions(&pack, &mut ends, &mut defined[..255], &mut counts), 7);
+    assert!(ends == [9; 64] && defined == [9; 256] && counts == [9; 2]);
+    // long enough: the tables from the start, and the places beyond as they were
+    assert_eq!(definitions(&pack, &mut ends, &mut defined, &mut counts), 0);
     assert_eq!(counts, [2, 3]);
-    assert_eq!(ends[..3], [2, 3, 0]);
-    assert_eq!(defined[..4], [5, -6, 7, 0]);
-    assert!(ends[3..].iter().all(|&e| e == 0) && defined[4..].iter().all(|&v| v == 0));
+    assert_eq!(ends[..3], [2, 3, 9]);
+    assert_eq!(defined[..4], [5, -6, 7, 9]);
+    assert!(ends[2..].iter().all(|&e| e == 9) && defined[3..].iter().all(|&v| v == 9));
     // as ink_run, and the work slices as they were: zero, with a mark beyond
     for (s, words) in [(0, slots(&[])), (1, slots(&[])), (2, slots(&[])), (0, slots(&[(0, [5, 0, 0])]))] {
         let mut run = Run::new(16_400, 300);
@@ -294,11 +304,7 @@ fn definitions_and_the_checked_calls() {
 fn the_checked_call_answers_what_the_call_answers() {
     let pack = bytes(&[vec![1, 2, 3], vec![1, 5]], &[], &[]);
     let (mut ends, mut defined, mut counts) = ([0u16; 64], [0i32; 256], [0u64; 2]);
-    // SAFETY: the pack is well formed, and the three arrays are lent to the call alone.
-    unsafe {
-        assert_eq!(sys::ink_check(pack.as_ptr(), pack.len()), 0);
-        sys::ink_definitions(pack.as_ptr(), pack.len(), &mut ends, &mut defined, &mut counts);
-    }
+    assert_eq!(definitions(&pack, &mut ends, &mut defined, &mut counts), 0);
     let (items, values) = ([0u16, 2, 3, 4, 9], [1i32, 3, -1, 5, 0]);
     let half = 1u64 << 32;
     let operands: [[u64; 3]; 12] = [

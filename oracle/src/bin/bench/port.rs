@@ -102,7 +102,8 @@ impl Checked {
     pub fn new(pack: Vec<u8>) -> Self {
         assert_eq!(check(&pack), 0, "the pack passes");
         let (mut ends, mut defined, mut counts, mut slots) = ([0; 64], [0; 256], [0; 2], [0; 48]);
-        unsafe { ink_definitions(pack.as_ptr(), pack.len(), &mut ends, &mut defined, &mut counts) };
+        let (e, d) = (ends.as_mut_ptr(), defined.as_mut_ptr());
+        assert_eq!(unsafe { ink_definitions(pack.as_ptr(), pack.len(), e, ends.len(), d, defined.len(), &mut counts) }, 0);
         slots.iter_mut().step_by(3).for_each(|code| *code = 4);
         Checked { pack, ends, defined, counts, slots }
     }

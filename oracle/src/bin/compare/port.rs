@@ -110,7 +110,11 @@ impl Port {
             return None;
         }
         let (mut ends, mut defined, mut counts) = ([1u16; 64], [1i32; 256], [UNSAID; 2]);
-        unsafe { ink_definitions(pack.as_ptr(), pack.len(), &mut ends, &mut defined, &mut counts) };
+        let (e, d) = (ends.as_mut_ptr(), defined.as_mut_ptr());
+        let number = unsafe { ink_definitions(pack.as_ptr(), pack.len(), e, ends.len(), d, defined.len(), &mut counts) };
+        if number != 0 {
+            return Some(format!("definitions: {number}"));
+        }
         if let Some(what) = definitions_differ(defs, &ends, &defined, &counts) {
             return Some(what);
         }
@@ -369,8 +373,9 @@ fn definitions_differ(defs: &Defs, ends: &[u16], defined: &[i32], counts: &[u64]
     let (d, n) = (defs.values.len(), defs.items());
     let mut owed_ends: Vec<u16> = (0..d).map(|i| (defs.first(i) + defs.values[i].len()) as u16).collect();
     let mut owed_defined: Vec<i32> = defs.values.concat();
-    owed_ends.resize(64, 0);
-    owed_defined.resize(256, 0);
+    // the places beyond are as they were
+    owed_ends.resize(64, 1);
+    owed_defined.resize(256, 1);
     let same = owed_ends == ends && owed_defined == defined && counts == [d as u64, n as u64];
     (!same).then(|| format!("definitions: {ends:?} {defined:?} {counts:?}"))
 }
