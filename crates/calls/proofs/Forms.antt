@@ -9,9 +9,9 @@ use lib.IntN.{ℤ}
 use lib.ListN.{length, take}
 use lib.Pow.{pow-pos}
 use borrow.Author.Tests.{lt-ltb, le-leb, eq-eqb, ne-eqb}
-use Rattle.ink_list.specs.Every.{_and_}
+use Rattle.slices.specs.Every.{_and_}
 use Rattle.ink_list.specs.Entries.{bitsBelow, formed}
-use Rattle.ink_list.proofs.Every.{and-left, and-right, and-both, and-no-left, and-no-right}
+use Rattle.slices.proofs.Every.{and-on, and-true, and-left, and-right, and-both, and-no-left, and-no-right}
 use Rattle.ink_value.specs.Val.{Val}
 use Rattle.ink_value.specs.Value.{placed, valOf, FirstFormed, formedIn, eachFormed, allFormed}
 use Rattle.ink_value.specs.declared.Value.{Value}
@@ -54,11 +54,6 @@ kept-formed total d is vs (suc (suc (suc zero))) a b c = refl
 kept-formed total d is vs (suc (suc (suc (suc n)))) a b c =
     rw (lt-ltb 0 (suc (suc (suc (suc n)))) (omega arith), lt-ltb 1 (suc (suc (suc (suc n)))) (omega arith), lt-ltb 2 (suc (suc (suc (suc n)))) (omega arith))
 
-pub map-take : {A B : Type 0} (f : A → B) (n : ℕ) (l : List A) → map f (take n l) ≡ take n (map f l)
-map-take f zero l = refl
-map-take f (suc n) [] = refl
-map-take {A} {B} f (suc n) (x ∷ l) = ap {B = List B} (λ r. f x ∷ r) (map-take f n l)
-
 -- questions 1 to 5
 
 module _ (F : Format) (p : List ℕ) where
@@ -69,15 +64,6 @@ module _ (F : Format) (p : List ℕ) where
   pack-passed f e = rw e
 
 -- ---- question 7, as the code asks it
-
-and-yes : (x y : Bool) → x ≡ true → x and y ≡ y
-unfolding _and_
-and-yes x y e = rw e
-
-and-true : (x : Bool) → x and true ≡ x
-unfolding _and_
-and-true true = refl
-and-true false = refl
 
 -- question 7 of the operands, where the result slices are long enough
 pub rooms : (f : Bool) (m n limit : ℕ) → limit ≤ m → limit ≤ n → f and (leb limit m and leb limit n) ≡ f
@@ -90,17 +76,17 @@ module _ (total d : ℕ) (is : List ℕ) (vs : List ℤ) where
 
   module _ (long : length is ≡ length vs) where
     pub all-one : (v : Value) → allFormed total d is vs (v ∷ []) ≡ formedIn total d is vs v
-    all-one v = and-yes _ _ (eq-eqb (length is) (length vs) long) ∙ and-true (formedIn total d is vs v)
+    all-one v = and-on _ _ (eq-eqb (length is) (length vs) long) ∙ and-true (formedIn total d is vs v)
 
     pub all-three : (a b c : Value)
         → allFormed total d is vs (a ∷ b ∷ c ∷ []) ≡ formedIn total d is vs a and (formedIn total d is vs b and formedIn total d is vs c)
     all-three a b c =
-        and-yes _ _ (eq-eqb (length is) (length vs) long)
+        and-on _ _ (eq-eqb (length is) (length vs) long)
         ∙ ap (λ (x : Bool). formedIn total d is vs a and (formedIn total d is vs b and x)) (and-true (formedIn total d is vs c))
 
     pub third : (a b c : Value) → formedIn total d is vs a ≡ true → formedIn total d is vs b ≡ true
         → allFormed total d is vs (a ∷ b ∷ c ∷ []) ≡ formedIn total d is vs c
-    third a b c p q = all-three a b c ∙ and-yes _ _ p ∙ and-yes _ _ q
+    third a b c p q = all-three a b c ∙ and-on _ _ p ∙ and-on _ _ q
 
   pub kept-all : (n : ℕ) (a b c : Value) → allFormed total d is vs (kept n a b c) ≡ allFormed total d is vs (take n (a ∷ b ∷ c ∷ []))
   kept-all n a b c = ap (λ (x : Bool). eqb (length is) (length vs) and x) (kept-formed total d is vs n a b c)

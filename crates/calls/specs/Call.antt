@@ -6,7 +6,7 @@ use lib.Dec.{leb}
 use lib.IntN.{ℤ}
 use lib.ListN.{length, take}
 use Rattle.ink_number.specs.Answer.{Answer, refuses, ask, andThen}
-use Rattle.ink_list.specs.Every.{_and_}
+use Rattle.slices.specs.Every.{_and_}
 use Rattle.list_definitions.specs.Defs.{ListDefinitions, Tables}
 use Rattle.ink_value.specs.Val.{Val}
 use Rattle.ink_value.specs.Convert.{cast}

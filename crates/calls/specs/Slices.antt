@@ -7,8 +7,8 @@ use denote.Ref.{now}
 use lib.Dec.{leb}
 use lib.IntN.{ℤ}
 use Rattle.ink_number.specs.Answer.{Answer}
-use Rattle.ink_list.specs.Every.{_and_}
-use Rattle.ink_list.specs.Slices.{Slice}
+use Rattle.slices.specs.Every.{_and_}
+use Rattle.slices.specs.Slices.{Slice}
 use Rattle.list_definitions.specs.Defs.{ListDefinitions}
 use Rattle.ink_value.specs.Val.{Val}
 use Rattle.ink_value.specs.Slices.{valIn}

@@ -13,10 +13,10 @@ use lib.Dec.{eqb, ltb, leb}
 use lib.IntN.{ℤ}
 use lib.ListN.{length, getD, drop, drop-of-length-le}
 use lib.Pow.{pow-pos}
-use Rattle.ink_list.specs.Every.{_and_}
+use Rattle.slices.specs.Every.{_and_}
 use Rattle.ink_list.specs.Entries.{Ascends, Lent, ascends, bitsBelow, formed, formedLent}
-use Rattle.ink_list.proofs.Every.{not-both, and-left, and-right, and-both}
-use Rattle.ink_list.proofs.Rests.{drop-at}
+use Rattle.slices.proofs.Every.{not-both, and-left, and-right, and-both}
+use Rattle.slices.proofs.Lists.{drop-at}
 
 -- ---- rising items
 

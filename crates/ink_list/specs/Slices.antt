@@ -1,13 +1,10 @@
 -- The words of the contracts for lent slices. In an `ensures` a slice is what it was at entry and what it is at exit.
 use mathlib.Core.List.{List}
 use Prim.Native.Nat.{ℕ}
-use denote.Ref.{RefT, now}
-use denote.Triple.Both.{Both}
+use denote.Ref.{now}
 use lib.IntN.{ℤ}
+use Rattle.slices.specs.Slices.{Slice}
 use Rattle.ink_list.specs.Entries.{Entry, entries, Stored, Wrote}
-
-abbrev pub Slice : Type 0 → Type 0
-Slice A = Both (RefT (List A)) (RefT (List A))
 
 -- the list lent as two slices
 abbrev pub list : Slice ℕ → Slice ℤ → List Entry

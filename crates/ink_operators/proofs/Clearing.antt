@@ -1,13 +1,10 @@
 -- Work slices that are clear stay as they are. Assumes nothing.
-use mathlib.Core.Path.{_≡_, sym, ap, _∙_, subst}
-use mathlib.Core.List.{List, _++_}
-use Prim.Native.Nat.{ℕ, _≤_, _<_}
-use native.Mathlib.Omega.{arith}
+use mathlib.Core.Path.{_≡_, sym, _∙_, subst}
+use mathlib.Core.List.{List}
+use Prim.Native.Nat.{ℕ}
 use lib.IntN.{ℤ, pos}
-use lib.ListN.{length, getD, take, drop, replicate, length-replicate, getD-replicate, take-append-drop}
-use lib.Seq.{length-take-le, getD-take, ext-getD}
 use Rattle.ink_number.specs.Answer.{Answer, gives}
-use Rattle.ink_list.specs.Filled.{over}
+use Rattle.slices.proofs.Filled.{over-same}
 use Rattle.ink_value.specs.Val.{Val}
 use Rattle.pack.specs.Bodies.{Pack, decoded}
 use Rattle.pack.specs.Format.{Runnable}
@@ -17,14 +14,6 @@ use Rattle.running.specs.Run.{RanTo, Memory, runOf, Runs}
 use Rattle.running.specs.declared.Ran.{Ran}
 use Rattle.running.proofs.Opening.{Long}
 use Rattle.ink_operators.specs.Answers.{Clear}
-
-pub stays : {A : Type 0} (d : A) (n : ℕ) (l : List A) → n ≤ length l → ((j : ℕ) → j < n → getD l j d ≡ d) → over (replicate n d) l ≡ l
-stays {A} d n l h z =
-    let long : length (take n l) ≡ n = length-take-le n l h in
-    let t : take n l ≡ replicate n d =
-    ext-getD d (take n l) (replicate n d) (long ∙ sym (length-replicate n d))
-    (λ i q. getD-take n l i d (omega (arith, long)) ∙ z i (omega (arith, long)) ∙ sym (getD-replicate n i d d (omega (arith, long)))) in
-    ap (λ (m : ℕ). replicate n d ++ drop m l) (length-replicate n d) ∙ ap (λ (r : List A). r ++ drop n l) (sym t) ∙ take-append-drop n l
 
 pub clear-memory : (F : Format) → Runnable F → (wi : List ℕ) (wv : List ℤ) (ri : List ℕ) (rv : List ℤ) → Clear F wi wv → Long F wi wv ri rv → Memory F wi wv ri rv
 clear-memory F f wi wv ri rv z l =
@@ -45,6 +34,6 @@ runs-clear {F} a p s slots r wi wi′ wv wv′ ri ri′ rv rv′ z l e w hi hv =
     subst (λ (x : Answer Pack). Runs F x s slots r wi wi′ wv wv′ ri ri′ rv rv′) (sym e)
     (record {
       ran = w;
-      items-left = hi ∙ sym (stays 0 (workLimit F) wi (l .work-items) (z .items-clear));
-      values-left = hv ∙ sym (stays (pos 0) (workLimit F) wv (l .work-values) (z .values-clear));
+      items-left = hi ∙ sym (over-same 0 (workLimit F) wi (l .work-items) (z .items-clear));
+      values-left = hv ∙ sym (over-same (pos 0) (workLimit F) wv (l .work-values) (z .values-clear));
     })

@@ -1,21 +1,20 @@
 -- A host that does what the header asks meets what the calls on a checked pack require: what `ink_definitions` writes of a pack that has
 -- passed is what they ask for, and with it `ink_call_checked` answers what `ink_call` answers. Assumes nothing.
-use mathlib.Core.Path.{_≡_, refl, ap, _∙_}
+use mathlib.Core.Path.{_≡_, refl, ap}
 use mathlib.Core.Bool.{Bool, true, false}
 use mathlib.Core.List.{List, [], _∷_}
 use Prim.Native.Nat.{ℕ, _<_, _≤_}
 use native.Mathlib.Omega.{arith}
 use lib.IntN.{ℤ}
-use lib.ListN.{length, getD, take, drop}
-use lib.Seq.{take-append-seam}
+use lib.ListN.{length, getD, take}
 use borrow.Author.Tests.{lt-leb, le-leb}
-use Rattle.ink_list.proofs.Every.{and-both, and-no-left, and-no-right}
+use Rattle.slices.proofs.Every.{and-both, and-no-left, and-no-right}
 use Rattle.ink_number.specs.Answer.{Answer, gives, ask}
 use Rattle.list_definitions.specs.Defs.{ListDefinitions}
 use Rattle.ink_value.specs.Val.{Val}
 use Rattle.native_function_call.specs.Lists.{definitions}
 use Rattle.pack.specs.Bodies.{decoded}
-use Rattle.ink_list.specs.Filled.{over}
+use Rattle.slices.proofs.Filled.{over-front}
 use Rattle.pack.specs.Format.{Narrow, definitionLimit}
 use Rattle.pack.specs.declared.format.Format.{Format}
 use Rattle.pack.specs.Read.{endsOf, definedOf, Tabled}
@@ -37,10 +36,6 @@ module _ (F : Format) (p ends : List ℕ) (defined : List ℤ) (counts : List �
   unfolding tablesLong
   reads-no-defined h = unread (and-no-right _ _ (lt-leb (F .limit) (length defined) h))
 
--- the part of a slice that was written
-front : {A : Type 0} (xs old ys : List A) (n : ℕ) → ys ≡ over xs old → n ≡ length xs → take n ys ≡ xs
-front xs old ys n e h = ap (λ (k : ℕ). take k ys) h ∙ ap (take (length xs)) e ∙ take-append-seam xs (drop (length xs) old)
-
 pub reads-tables : (F : Format) (p : List ℕ) {ends ends′ : List ℕ} {defined defined′ : List ℤ} {counts counts′ : List ℕ} {m n : ℕ}
     → definitionLimit ≤ length ends → F .limit ≤ length defined → Tabled (decoded F p) m n ends ends′ defined defined′ → counts′ ≡ m ∷ n ∷ []
     → Reads (ask 7 (tablesLong F ends defined) (gives (decoded F p))) 0 ends ends′ defined defined′ counts counts′
@@ -61,8 +56,8 @@ ready F p ends ends′ defined defined′ n counts counts′ h r z = go (tablesL
         let d = decoded F p in
         record {
           passed = h;
-          ends-are = front (endsOf d) ends ends′ (getD counts′ 0 0) (w .ends-in) (ap (λ (c : List ℕ). getD c 0 0) (w .counted));
-          defined-are = front (definedOf d) defined defined′ (getD counts′ 1 0) (w .defined-in) (ap (λ (c : List ℕ). getD c 1 0) (w .counted));
+          ends-are = over-front (endsOf d) ends ends′ (getD counts′ 0 0) (ap (λ (c : List ℕ). getD c 0 0) (w .counted)) (w .ends-in);
+          defined-are = over-front (definedOf d) defined defined′ (getD counts′ 1 0) (ap (λ (c : List ℕ). getD c 1 0) (w .counted)) (w .defined-in);
         }
     go false w = absurd (omega (arith, w .number))
 

@@ -10,7 +10,7 @@ use lib.ListN.{length, List·getD-eq-default}
 use borrow.Author.Tests.{ltb-true, ltb-false}
 use Rattle.ink_number.specs.Answer.{Answer, gives, refuses, ask, andThen}
 use Rattle.ink_list.specs.Entries.{Rising}
-use Rattle.ink_list.proofs.Every.{and-left, and-right}
+use Rattle.slices.proofs.Every.{and-left, and-right}
 use Rattle.ink_list.proofs.Laws.{rising-length, rising-limit}
 use Rattle.ink_value.specs.Val.{Val, bool, int, float, list, void}
 use Rattle.ink_value.specs.Value.{valOf, Wf, AllWf}

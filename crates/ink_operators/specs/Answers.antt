@@ -7,8 +7,8 @@ use lib.Dec.{leb}
 use lib.IntN.{ℤ, pos}
 use lib.ListN.{length, getD}
 use Rattle.ink_number.specs.Answer.{Answer, gives, refuses}
-use Rattle.ink_list.specs.Every.{_and_}
-use Rattle.ink_list.specs.Filled.{over}
+use Rattle.slices.specs.Every.{_and_}
+use Rattle.slices.specs.Filled.{over}
 use Rattle.ink_value.specs.Val.{Val}
 use Rattle.pack.specs.Bodies.{Pack, decoded}
 use Rattle.pack.specs.Format.{definitionLimit}

@@ -1,11 +1,10 @@
 -- The words of the contracts at the boundary. In an `ensures` a slice is what it was at entry and what it is at exit. Assumes nothing.
 use mathlib.Core.List.{map}
 use Prim.Native.Nat.{ℕ}
-use denote.Ref.{RefT, now}
-use denote.Triple.Both.{Both}
+use denote.Ref.{now}
 use lib.IntN.{ℤ}
 use Rattle.ink_number.specs.Answer.{Answer, gives, ask}
-use Rattle.ink_list.specs.Slices.{Slice}
+use Rattle.slices.specs.Slices.{Slice, Cell}
 use Rattle.ink_value.specs.Slices.{valIn}
 use Rattle.ink_value.specs.Val.{Val}
 use Rattle.pack.specs.Bodies.{decoded}
@@ -24,10 +23,6 @@ RunSaysAny F pack sheet slots si sv n answer wi wv ri rv =
     RunSays F (opened F (now (pack .entry)) sheet (memoryIn F (slotsIn (now (slots .entry))) si sv wi wv ri rv))
     sheet (map (valIn si sv) (slotsIn (now (slots .entry)))) n (now (answer .exit))
     (now (wi .entry)) (now (wi .exit)) (now (wv .entry)) (now (wv .exit)) (now (ri .entry)) (now (ri .exit)) (now (rv .entry)) (now (rv .exit))
-
--- a number that is lent, as it was at entry and as it is at exit
-abbrev pub Cell : Type 0 → Type 0
-Cell A = Both (RefT A) (RefT A)
 
 -- vetting of any bytes for kind codes: the number n, the index, and what is left in the forecast slice
 abbrev pub VetSaysAny : Format → Slice ℕ → ℕ → Slice ℕ → ℕ → Cell ℕ → Slice ℕ → Type 0

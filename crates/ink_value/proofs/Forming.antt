@@ -6,14 +6,15 @@ use Prim.Native.Nat.{ℕ, _+_, _≤_, _<_}
 use lib.IntN.{ℤ}
 use lib.ListN.{length}
 use borrow.Author.Tests.{le-leb, lt-leb, eq-eqb, leb-true}
-use Rattle.ink_list.specs.Every.{_and_}
+use Rattle.slices.specs.Every.{_and_}
 use Rattle.ink_list.specs.Entries.{formed, formedLent}
-use Rattle.ink_list.proofs.Every.{and-left, and-right, and-no-left, and-no-right}
+use Rattle.slices.proofs.Every.{and-left, and-right, and-no-left, and-no-right}
 use Rattle.ink_list.proofs.Formed.{ascends-sound}
 use Rattle.ink_list.proofs.Results.{ascends-limit}
-use Rattle.ink_value.specs.Value.{part, startOf, lenOf, setIn, Formed, formedIn}
+use Rattle.slices.specs.Filled.{part}
+use Rattle.ink_value.specs.Value.{startOf, lenOf, setIn, Formed, formedIn}
 use Rattle.ink_value.specs.declared.Value.{Value}
-use Rattle.ink_value.proofs.Reading.{length-part}
+use Rattle.slices.proofs.Filled.{length-part}
 
 module _ (total d : ℕ) (is : List ℕ) (vs : List ℤ) (v : Value) where
   pub past-items : length is < startOf v + lenOf v → formedIn total d is vs v ≡ false

@@ -4,7 +4,7 @@ use mathlib.Core.List.{List, []}
 use Prim.Native.Nat.{ℕ}
 use lib.IntN.{ℤ}
 use Rattle.ink_list.specs.Entries.{Entry, items, values, Wrote}
-use Rattle.ink_list.specs.Filled.{over}
+use Rattle.slices.specs.Filled.{over}
 use Rattle.ink_value.specs.Val.{Val, list}
 use Rattle.ink_number.specs.Answer.{Answer, gives}
 use Rattle.ink_value.specs.Value.{placed, written, Gave}

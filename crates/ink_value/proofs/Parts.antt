@@ -15,9 +15,11 @@ use Rattle.ink_float.specs.Real.{ofInt32, toInt32, truthyF}
 use Rattle.ink_number.proofs.Signed.{back, back32}
 use Rattle.ink_list.specs.Ops.{valueOfList}
 use Rattle.ink_list.specs.Entries.{entries, itemNumbers, Lent}
+use Rattle.slices.proofs.Filled.{cut}
 use Rattle.ink_value.specs.Convert.{asInt, asFloat, truthy, entriesOf}
 use Rattle.ink_value.proofs.Reading.{entries-in, few-in, len-in, int-in, float-in, truth-in}
-use Rattle.ink_value.specs.Value.{part, codeOfValue, startOf, lenOf, intOf, floatOf, truthOf, wholeIn, realIn, Holds, Parts, valOf, entriesAt, Spans, Formed, Operand, Number}
+use Rattle.slices.specs.Filled.{part}
+use Rattle.ink_value.specs.Value.{codeOfValue, startOf, lenOf, intOf, floatOf, truthOf, wholeIn, realIn, Holds, Parts, valOf, entriesAt, Spans, Formed, Operand, Number}
 use Rattle.ink_value.specs.declared.Value.{Value}
 use Rattle.ink_value.specs.declared.Value.the-variants as Is
 
@@ -168,12 +170,6 @@ operand-spans o = rw (o .parts .start-is, o .parts .len-is) (o .formed)
 
 pub operand-few : (is : List ℕ) (vs : List ℤ) (v : Value) {k : ℕ} {z : ℤ} {x : Float} {s n : ℕ} → Operand is vs v k z x s n → n ≤ itemNumbers
 operand-few is vs v o = rw (o .parts .len-is) (few-in itemNumbers is vs v (o .formed))
-
--- a part of a slice, as the code cuts it
-cut : {A : Type 0} (i m : ℕ) (xs : List A) → take (i + m - i) (drop i xs) ≡ part i m xs
-cut i m xs =
-    let e : i + m - i ≡ m = omega arith in
-    ap (λ (k : ℕ). take k (drop i xs)) e
 
 module _ (is : List ℕ) (vs : List ℤ) (i m : ℕ) where
   pub cut-lent : (limit : ℕ) → Spans limit is vs i m → Lent limit (take (i + m - i) (drop i is)) (take (i + m - i) (drop i vs))

@@ -7,23 +7,21 @@ use native.Mathlib.Omega.{arith}
 use borrow.Author.Tests.{lt-ltb}
 use lib.Dec.{ltb}
 use lib.IntN.{ℤ}
-use lib.ListN.{length, take, drop, length-drop}
-use lib.Seq.{length-take-le}
+use lib.ListN.{length, take, drop}
 use Rattle.ink_list.specs.Entries.{items, Entry, entries, Rising, Lent, Wrote}
 use Rattle.ink_value.specs.Val.{list, kindOf, kindAt, codeOf}
 use Rattle.ink_value.specs.Convert.{lowerOf, upperOf, asInt, asFloat, truthy, entriesOf, originsIn}
-use Rattle.ink_value.specs.Value.{valOf, part, codeOfValue, startOf, lenOf, setIn, intOf, floatOf, truthOf, lowOf, highOf, held, Formed}
+use Rattle.ink_value.specs.Value.{valOf, codeOfValue, startOf, lenOf, setIn, intOf, floatOf, truthOf, lowOf, highOf, held, Formed}
+use Rattle.slices.specs.Filled.{part}
 use Rattle.ink_value.specs.declared.Value.{Value}
 use Rattle.ink_float.specs.Real.{ofInt32}
 use Rattle.ink_list.specs.Ops as Ops
 use Rattle.ink_list.specs.Ops.{lowerBound, upperBound, valueOfList}
+use Rattle.slices.proofs.Filled.{length-part}
 use Rattle.ink_list.proofs.Results.{lent-limit}
 use Rattle.ink_list.proofs.Laws.{rising-length}
 use Rattle.ink_list.proofs.Rests.{values-entries, length-entries, of-lent}
 use Rattle.ink_value.specs.declared.Value.the-variants as Is
-
-pub length-part : {A : Type 0} (s n : ℕ) (xs : List A) → s + n ≤ length xs → length (part s n xs) ≡ n
-length-part s n xs h = length-take-le n (drop s xs) (omega (arith, length-drop s xs))
 
 pub entries-in : (is : List ℕ) (vs : List ℤ) (v : Value) → entriesOf (valOf is vs v) ≡ held is vs v
 entries-in is vs (Is.Bool b) = refl
@@ -108,12 +106,6 @@ module _ (limit : ℕ) (is : List ℕ) (vs : List ℤ) where
         values-in = f .values-in;
         lent = lent-limit limit m (part (startOf v) (lenOf v) is) (part (startOf v) (lenOf v) vs) h (f .lent);
       }
-
-pub ap2 : {X Y Z : Type 0} (f : X → Y → Z) {x x′ : X} {y y′ : Y} → x ≡ x′ → y ≡ y′ → f x y ≡ f x′ y′
-ap2 f {x} {x′} {y} {y′} p q = ap (λ a. f a y) p ∙ ap (f x′) q
-
-pub ap3 : {W X Y Z : Type 0} (f : W → X → Y → Z) {w w′ : W} {x x′ : X} {y y′ : Y} → w ≡ w′ → x ≡ x′ → y ≡ y′ → f w x y ≡ f w′ x′ y′
-ap3 f {w} {w′} {x} {x′} {y} {y′} o p q = ap (λ a. f a x y) o ∙ ap2 (f w′) p q
 
 pub few-in : (limit : ℕ) (is : List ℕ) (vs : List ℤ) (v : Value) → Formed limit is vs v → lenOf v ≤ limit
 few-in limit is vs v f =

@@ -4,9 +4,9 @@ use mathlib.Core.List.{List, [], _∷_}
 use Prim.Native.Nat.{ℕ, zero, suc, _≤_}
 use native.Mathlib.Omega.{arith}
 use lib.IntN.{ℤ}
-use lib.ListN.{length, take, drop, length-append, length-drop}
+use lib.ListN.{length, take}
 use Rattle.ink_list.specs.Entries.{Entry, entries, items, values, Rising, Wrote}
-use Rattle.ink_list.specs.Filled.{over}
+use Rattle.slices.proofs.Filled.{length-over}
 use Rattle.ink_value.specs.Val.{Val, bool, int, float, list, void}
 use Rattle.ink_number.specs.Answer.{Answer, gives, refuses}
 use Rattle.ink_value.specs.Convert.{entriesOf}
@@ -38,9 +38,6 @@ reads (refuses r) is vs h = refl
 -- a call's result stands for its answer
 pub read-back : (A : Answer Val) (r : Outcome) (oi oi′ : List ℕ) (ov ov′ : List ℤ) → Gave A r oi oi′ ov ov′ → outcomeOf oi′ ov′ r ≡ A
 read-back A r oi oi′ ov ov′ g = ap (outcomeOf oi′ ov′) (g .answered) ∙ reads A oi′ ov′ (back A r oi oi′ ov ov′ g)
-
-length-over : {A : Type 0} (xs old : List A) → length xs ≤ length old → length (over xs old) ≡ length old
-length-over xs old h = length-append xs (drop (length xs) old) ∙ omega (arith, length-drop (length xs) old)
 
 -- a list's result is formed as an operand is
 pub formed-back : (limit o : ℕ) (es : List Entry) (r : Outcome) (oi oi′ : List ℕ) (ov ov′ : List ℤ) → Gave (gives (list o es)) r oi oi′ ov ov′

@@ -4,7 +4,7 @@ use denote.Ref.{now}
 use lib.IntN.{ℤ}
 use lib.Ieee.{Float}
 use Rattle.ink_number.specs.Answer.{Answer}
-use Rattle.ink_list.specs.Slices.{Slice}
+use Rattle.slices.specs.Slices.{Slice}
 use Rattle.ink_value.specs.Val.{Val}
 use Rattle.ink_value.specs.Value.{valOf, Operand, Gave}
 use Rattle.ink_value.specs.declared.Value.{Value}

@@ -6,13 +6,13 @@ use Prim.Native.Nat.{ℕ, _+_, _≤_, _<_}
 use lib.Dec.{ltb, leb, eqb}
 use lib.IntN.{ℤ, pos}
 use lib.Ieee.{Float}
-use lib.ListN.{length, take, drop}
+use lib.ListN.{length}
 use Rattle.ink_number.specs.Answer.{Answer, gives, refuses}
 use Rattle.ink_number.specs.Int.{truthyZ}
 use Rattle.ink_float.specs.Real.{ofInt32, toInt32, truthyF}
 use Rattle.ink_list.specs.Ops.{lowerBound, upperBound, valueOfList}
-use Rattle.ink_list.specs.Every.{_and_}
-use Rattle.ink_list.specs.Filled.{over}
+use Rattle.slices.specs.Every.{_and_}
+use Rattle.slices.specs.Filled.{part, over}
 use Rattle.ink_list.specs.Entries.{Entry, entries, items, values, itemNumbers, Lent, Rising, formed}
 use Rattle.ink_value.specs.Val.{Val, bool, int, float, list, void}
 use Rattle.ink_value.specs.Convert.{bitZ, entriesOf}
@@ -20,10 +20,6 @@ use Rattle.ink_value.specs.declared.Value.{Value}
 use Rattle.ink_value.specs.declared.Value.the-variants as Is
 use Rattle.ink_value.specs.declared.Outcome.{Outcome}
 use Rattle.ink_value.specs.declared.Outcome.the-variants as Out
-
--- the n elements that stand from s on
-abbrev pub part {ℓ} : {A : Type ℓ} → ℕ → ℕ → List A → List A
-part s n xs = take n (drop s xs)
 
 -- a value of the code, a List's entries in the two slices
 abbrev pub valOf : List ℕ → List ℤ → Value → Val

@@ -11,7 +11,8 @@ ghost use Rattle.ink_number.specs.Answer.{gives};
 ghost use Rattle.ink_list.specs.Entries.{room};
 ghost use Rattle.ink_value.specs.Slices.{valIn, Gives};
 ghost use Rattle.ink_value.specs.Convert.{bitZ, castable, converted, cast, coerceBool, coerceInt, coerceFloat};
-ghost use Rattle.ink_value.specs.Value.{part, valOf, formedIn, codeOfValue, startOf, lenOf, setIn, intOf, floatOf, truthOf, lowOf, highOf, wholeIn, realIn, Parts, Formed, placed};
+ghost use Rattle.slices.specs.Filled.{part};
+ghost use Rattle.ink_value.specs.Value.{valOf, formedIn, codeOfValue, startOf, lenOf, setIn, intOf, floatOf, truthOf, lowOf, highOf, wholeIn, realIn, Parts, Formed, placed};
 ghost use Rattle.ink_value.specs.declared.Value.{Value};
 ghost use Rattle.ink_list.specs.Ops.{lowerBound, upperBound, valueOfList};
 

@@ -20,9 +20,9 @@ use Rattle.ink_number.proofs.Signed.{back, back32}
 use Rattle.ink_list.specs.Entries.{Entry, put, gatherFrom, Stored}
 use Rattle.list_definitions.specs.Defs.{anyFrom}
 use Rattle.list_definitions.specs.Search.{among, raised, risesAbove, rises, Rose, chosen}
-use Rattle.ink_list.proofs.Every.{not-both}
+use Rattle.slices.proofs.Every.{not-both}
 use Rattle.list_definitions.proofs.Order.{lt-trans, lt-ne, eqZ-refl}
-use Rattle.ink_list.proofs.Rests.{drop-at}
+use Rattle.slices.proofs.Lists.{drop-at}
 
 -- ---- among values
 

@@ -15,7 +15,7 @@ use Rattle.ink_list.specs.Entries.{Entry, member, Ascends, put, gatherFrom, gat
 use Rattle.ink_list.specs.Steps.{dropBelow, headIs}
 use Rattle.list_definitions.specs.Defs.{Ends, originOf, inSet, unheld, invert, all}
 use Rattle.ink_list.proofs.Laws.{from-ext, length-gather, lt-or-le}
-use Rattle.ink_list.proofs.Rests.{drop-at}
+use Rattle.slices.proofs.Lists.{drop-at}
 use Rattle.ink_list.proofs.SiftLaws.{member-skip, skip-tells, ascends-drop}
 
 -- gathering that goes by the next number k, up to a total

@@ -9,7 +9,7 @@ use mir.Syntax.{w32}
 use mir.Val.{SFits, ofZ}
 use Rattle.ink_number.specs.Int.{eqZ}
 use Rattle.ink_number.proofs.Signed.{back, back32, same-bits}
-use Rattle.ink_list.proofs.Every.{not-both}
+use Rattle.slices.proofs.Every.{not-both}
 
 pub lt-trans : (a b c : ℤ) → ltZ a b ≡ true → ltZ b c ≡ true → ltZ a c ≡ true
 lt-trans (pos a) (pos b) (pos c) p q = lt-ltb a c (omega (arith, ltb-true a b p, ltb-true b c q))

@@ -15,7 +15,7 @@ use Rattle.ink_list.specs.Entries.{Ascends}
 use Rattle.ink_list.specs.Steps.{dropBelow}
 use Rattle.list_definitions.specs.Defs.{originOf, inSet, reached, bit, setOf, originsOf}
 use Rattle.ink_list.proofs.Laws.{lt-or-le}
-use Rattle.ink_list.proofs.Rests.{drop-at}
+use Rattle.slices.proofs.Lists.{drop-at}
 use Rattle.ink_list.proofs.SiftLaws.{ascends-drop}
 
 pub setOf-ext : (n : ℕ) (f g : ℕ → Bool) → ((d : ℕ) → f d ≡ g d) → setOf n f ≡ setOf n g

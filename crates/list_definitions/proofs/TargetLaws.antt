@@ -19,7 +19,8 @@ use Rattle.list_definitions.specs.Search.{among, raised, chosen}
 use Rattle.list_definitions.specs.Defs.{Ends, originOf, inSet, anyFrom, alike, aimed, target, retarget}
 use Rattle.ink_number.specs.Int.{eqZ}
 use Rattle.ink_list.proofs.Laws.{lt-or-le, length-gather, from-ext}
-use Rattle.ink_list.proofs.Rests.{drop-at, rest}
+use Rattle.slices.proofs.Lists.{drop-at}
+use Rattle.ink_list.proofs.Rests.{rest}
 use Rattle.list_definitions.proofs.DefLaws.{ends-here, ends-below, onward, onward-start, onward-ext, onward-skip, onward-split}
 use Rattle.list_definitions.proofs.Raised.{length-raised, raised-part}
 use Rattle.list_definitions.proofs.Chosen.{pick, chosen-items}

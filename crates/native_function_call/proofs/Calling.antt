@@ -15,7 +15,8 @@ use Rattle.ink_value.specs.Convert.{asInt}
 use Rattle.ink_value.specs.Value.{valOf, codeOfValue, placed, written, Gave}
 use Rattle.ink_value.specs.declared.Value.{Value}
 use Rattle.ink_value.specs.declared.Outcome.{Outcome}
-use Rattle.ink_value.proofs.Reading.{ap3, code-in}
+use Rattle.slices.proofs.Lists.{ap3}
+use Rattle.ink_value.proofs.Reading.{code-in}
 use Rattle.ink_value.proofs.Given.{gave-plain}
 use Rattle.native_function_call.specs.Numbers.{arithZ}
 use Rattle.kind_table.specs.Kinds.{isList, known, unary, arity, operandCount, kindApply, kindCall, kindRange, kindEntry, kindUnary, kindBinary, KindsGiven, decoded}

@@ -7,7 +7,7 @@ use lib.Dec.{eqb}
 use lib.IntN.{ℤ}
 use lib.ListN.{length}
 use Rattle.kind_table.specs.Op.{opAdd, opSubtract, opGreater, opLess, opGreaterThanOrEquals, opLessThanOrEquals, opHas, opListMin, opListMax, opAll}
-use Rattle.ink_list.specs.Slices.{Slice}
+use Rattle.slices.specs.Slices.{Slice}
 use Rattle.ink_list.specs.Entries.{Entry, items, values, itemNumbers}
 use Rattle.ink_value.specs.Val.{Val}
 use Rattle.ink_value.specs.Convert.{lowerOf, upperOf}

@@ -10,8 +10,8 @@ use lib.Dec.{leb}
 use lib.ListN.{length, getD, drop, length-drop}
 use lib.Seq.{drop-cons}
 use borrow.Author.Tests.{leb-true}
-use Rattle.ink_list.proofs.Every.{every-at}
-use Rattle.ink_list.proofs.Filled.{length-table}
+use Rattle.slices.proofs.Every.{every-at}
+use Rattle.slices.proofs.Tables.{length-table, getD-table}
 use Rattle.pack.specs.Bodies.{sheet, decoded}
 use Rattle.pack.specs.Contents.{literalCount, sheetCount, sheetBody, offset}
 use Rattle.pack.specs.Format.{instructionLimit}
@@ -20,7 +20,6 @@ use Rattle.pack.specs.Instruction.{Instr, push, pushVoid, width, instruc
 use Rattle.pack.specs.Judge.{question5}
 use Rattle.pack.specs.Read.{sheetOf, program, sheetEnd, Standing, Whole, Kth, Reads}
 use Rattle.pack.proofs.Steps.{at-end, none-left, one-more, wide-some}
-use Rattle.pack.proofs.Tables.{getD-table}
 
 is-some : (o : Option (List Instr)) → isSome o ≡ true → o ≡ some (orNone o)
 is-some none e = absurd (let z : _≡_ {A = ℕ} 0 1 = cc in omega arith)

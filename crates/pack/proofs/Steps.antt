@@ -11,10 +11,6 @@ use Rattle.pack.specs.Bytes.{byte, u32, i32}
 use Rattle.pack.specs.Format.{slotLimit}
 use Rattle.pack.specs.Instruction.{Push, pushBool, pushInt, pushFloat, pushList, pushSlot, pushVoid, Instr, op, push, width, given, taken, instruction, instructions, onward, before, isSome}
 
-pub cond-same : {A : Type 0} (t : Bool) (x : A) → cond t x x ≡ x
-cond-same true x = refl
-cond-same false x = refl
-
 -- an operand that is tested and an instruction of two bytes
 pub tested : (at end : ℕ) (t : Bool) (v : Push) → width (push v) ≡ 2 → cond t (cond (leb (at + 2) end) 2 0) 0 ≡ taken at end (given t v)
 tested at end true v e = rw e

@@ -7,7 +7,7 @@ use mathlib.Core.Option.{Option}
 use lib.Dec.{ltb, eqb}
 use lib.IntN.{ℤ}
 use Rattle.ink_list.specs.Entries.{Entry, formed}
-use Rattle.ink_list.specs.Every.{_and_, table}
+use Rattle.slices.specs.Every.{_and_, table}
 use Rattle.pack.specs.Bytes.{u64, i32, number}
 use Rattle.pack.specs.Contents.{definitionCount, literalCount, sheetCount, literalBody, sheetBody, offset, size}
 use Rattle.pack.specs.Format.{instructionLimit}

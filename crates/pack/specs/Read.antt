@@ -7,8 +7,8 @@ use lib.IntN.{ℤ}
 use lib.ListN.{length, getD, drop}
 use Rattle.ink_list.specs.Entries.{Entry, items, values}
 use Rattle.list_definitions.specs.Defs.{ListDefinitions}
-use Rattle.ink_list.specs.Every.{table}
-use Rattle.ink_list.specs.Filled.{fill, over}
+use Rattle.slices.specs.Every.{table}
+use Rattle.slices.specs.Filled.{fill, over}
 use Rattle.pack.specs.Bodies.{Literal, Pack, sheet}
 use Rattle.pack.specs.Bytes.{number, i32}
 use Rattle.pack.specs.Contents.{literalCount, sheetCount, sheetBody, offset, size}

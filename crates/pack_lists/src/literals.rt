@@ -10,7 +10,7 @@ ghost use mathlib.Core.Bool.{true};
 ghost use mathlib.Core.Path.{_≡_};
 ghost use Prim.Native.Nat.{_+_, _*_, _<_};
 ghost use Rattle.ink_list.specs.Entries.{ascends};
-ghost use Rattle.ink_list.specs.Every.{table};
+ghost use Rattle.slices.specs.Every.{table};
 ghost use Rattle.pack.specs.Bodies.{itemCount, item, literalOk};
 ghost use Rattle.pack.specs.Contents.{bodyCount, size};
 ghost use Rattle.pack.specs.Format.{Narrow};

@@ -5,9 +5,9 @@ use Prim.Native.Nat.{ℕ}
 use denote.Ref.{now}
 use lib.IntN.{ℤ}
 use Rattle.ink_list.specs.Entries.{Entry}
-use Rattle.ink_list.specs.Every.{table}
-use Rattle.ink_list.specs.Filled.{fill}
-use Rattle.ink_list.specs.Slices.{Slice}
+use Rattle.slices.specs.Every.{table}
+use Rattle.slices.specs.Filled.{fill}
+use Rattle.slices.specs.Slices.{Slice}
 use Rattle.pack.specs.Bodies.{Pack}
 use Rattle.pack.specs.Read.{itemFrom, valueFrom, Tabled, Stored}
 use Rattle.pack_read.specs.declared.Defined.{Defined}

@@ -8,14 +8,13 @@ use native.Mathlib.Omega.{arith}
 use native.Mathlib.Decide.{ℕ-discrete}
 use lib.ListN.{length, getD, replicate, length-replicate, getD-replicate}
 use lib.Seq.{ext-getD}
-use Rattle.ink_list.specs.Filled.{fill}
-use Rattle.ink_list.proofs.Filled.{length-fill}
+use Rattle.slices.specs.Filled.{fill, Outside}
+use Rattle.slices.proofs.Filled.{length-fill, getD-outside, getD-inside}
 use Rattle.ink_list.proofs.Laws.{lt-or-le}
 use Rattle.pack.specs.declared.format.Format.{Format}
 use Rattle.sheet.specs.Machine.{stackLimit}
 use Rattle.stepping.specs.Steps.{workLimit, startAt}
-use Rattle.running.specs.Work.{Outside, Touched, cleared}
-use Rattle.running.proofs.Filling.{getD-outside, getD-inside}
+use Rattle.running.specs.Work.{Touched, cleared}
 use Rattle.stepping.proofs.Putting.{place-fits}
 
 module _ (F : Format) {X : Type 0} (d : X) (used : List ℕ) (l : List X) where

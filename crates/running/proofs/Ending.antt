@@ -13,7 +13,7 @@ use Rattle.native_function_call.specs.Lists.{definitions}
 use Rattle.pack.specs.Bodies.{decoded}
 use Rattle.pack.specs.declared.format.Format.{Format}
 use Rattle.pack.specs.Read.{endsOf, literalOf, program}
-use Rattle.pack.proofs.Values.{fill-over}
+use Rattle.slices.proofs.Filled.{fill-over}
 use Rattle.sheet.specs.Machine.{End, ended, stopped, stackLimit, run}
 use Rattle.stepping.specs.Steps.{Inputs, placedAt, Put, Roomy}
 use Rattle.running.specs.Run.{RanTo, Memory, runOf}

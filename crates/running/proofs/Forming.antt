@@ -8,9 +8,9 @@ use native.Mathlib.Omega.{arith}
 use lib.IntN.{ℤ}
 use lib.ListN.{length, getD, drop, drop-of-length-le}
 use borrow.Author.Tests.{eq-eqb, ne-eqb}
-use Rattle.ink_list.specs.Every.{_and_}
-use Rattle.ink_list.proofs.Every.{and-left, and-right, and-no-left}
-use Rattle.ink_list.proofs.Rests.{drop-at}
+use Rattle.slices.specs.Every.{_and_}
+use Rattle.slices.proofs.Every.{and-left, and-right, and-no-left}
+use Rattle.slices.proofs.Lists.{drop-at}
 use Rattle.ink_value.specs.Value.{formedIn, eachFormed, allFormed}
 use Rattle.ink_value.specs.declared.Value.{Value}
 

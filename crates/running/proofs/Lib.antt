@@ -1,5 +1,4 @@
 -- The laws of running.
-pub mod Filling
 pub mod Working
 pub mod Clearing
 pub mod Ending

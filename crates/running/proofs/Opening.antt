@@ -10,9 +10,10 @@ use lib.IntN.{ℤ, pos}
 use lib.ListN.{length, getD, replicate, length-replicate, getD-replicate}
 use borrow.Author.Tests.{leb-true, le-ltb, lt-ltb}
 use Rattle.ink_number.specs.Answer.{Answer, gives, refuses, ask}
-use Rattle.ink_list.specs.Filled.{fill}
-use Rattle.ink_list.proofs.Every.{and-left, and-right, and-both, and-no-left, and-no-right}
-use Rattle.ink_list.proofs.Filled.{length-fill, length-table}
+use Rattle.slices.specs.Filled.{fill}
+use Rattle.slices.proofs.Every.{and-left, and-right, and-both, and-no-left, and-no-right}
+use Rattle.slices.proofs.Filled.{length-fill, fill-over, getD-inside}
+use Rattle.slices.proofs.Tables.{length-table}
 use Rattle.ink_value.specs.Val.{Val}
 use Rattle.ink_value.specs.Value.{allFormed}
 use Rattle.ink_value.specs.declared.Value.{Value}
@@ -24,13 +25,12 @@ use Rattle.pack.specs.Format.{Runnable, Narrow}
 use Rattle.pack.specs.declared.format.Format.{Format}
 use Rattle.pack.specs.Judge.{Sound, judge}
 use Rattle.pack.specs.Read.{endsOf, definedOf}
-use Rattle.pack.proofs.Values.{pack-tables, fill-over}
+use Rattle.pack.proofs.Values.{pack-tables}
 use Rattle.sheet.specs.Whole.{opened}
 use Rattle.stepping.specs.Steps.{workLimit, Inputs}
 use Rattle.running.specs.Run.{longEnough, memory, RanTo, Memory, runOf, Runs}
 use Rattle.running.specs.declared.Ran.{Ran}
 use Rattle.running.specs.declared.Ran.the-variants as Rn
-use Rattle.running.proofs.Filling.{getD-inside}
 use Rattle.running.proofs.Forming.{each-at}
 use Rattle.running.proofs.Ending.{ran-stopped}
 

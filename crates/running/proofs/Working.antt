@@ -13,8 +13,8 @@ use lib.ListN.{length, getD, set, take, drop, replicate, length-set, length-repl
 use lib.Seq.{getD-set-same, getD-set-other}
 use Rattle.ink_number.specs.Answer.{gives, refuses}
 use Rattle.ink_list.specs.Entries.{Entry, entries, items, values, Rising}
-use Rattle.ink_list.specs.Filled.{fill}
-use Rattle.ink_list.proofs.Filled.{length-fill}
+use Rattle.slices.specs.Filled.{fill, Outside}
+use Rattle.slices.proofs.Filled.{length-fill, part-filled, part-before, getD-outside}
 use Rattle.ink_list.proofs.Laws.{lt-or-le, rising-length}
 use Rattle.ink_list.proofs.Output.{length-items, length-values}
 use Rattle.ink_list.proofs.Results.{entries-of}
@@ -37,8 +37,7 @@ use Rattle.sheet.specs.Machine.{Run, ended, stopped, stackLimit, finish, onward
 use Rattle.sheet.specs.Stack.{stackOf}
 use Rattle.sheet.proofs.Stack.{stack-put, run-more, run-stop, run-done}
 use Rattle.stepping.specs.Steps.{placedAt, startAt, Roomy, Grown, Operands, OperandsFormed, Inputs, IfOp, IfSlot, SlotIs}
-use Rattle.running.specs.Work.{Outside, Touched, Longest}
-use Rattle.running.proofs.Filling.{part-filled, part-before, getD-outside}
+use Rattle.running.specs.Work.{Touched, Longest}
 use Rattle.stepping.proofs.Putting.{place-fits, formed-none}
 
 -- ---- what an instruction takes

@@ -8,8 +8,8 @@ use lib.IntN.{ℤ, pos}
 use lib.ListN.{length, getD, replicate}
 use Rattle.ink_number.specs.Answer.{Answer, gives, refuses}
 use Rattle.ink_list.specs.Entries.{Entry, items, values}
-use Rattle.ink_list.specs.Every.{_and_}
-use Rattle.ink_list.specs.Filled.{over}
+use Rattle.slices.specs.Every.{_and_}
+use Rattle.slices.specs.Filled.{over}
 use Rattle.ink_value.specs.Val.{Val}
 use Rattle.ink_value.specs.Convert.{entriesOf}
 use Rattle.ink_value.specs.Value.{placedVal, allFormed}

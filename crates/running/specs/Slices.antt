@@ -6,7 +6,7 @@ use Prim.Native.Nat.{ℕ}
 use denote.Ref.{now}
 use lib.IntN.{ℤ}
 use Rattle.ink_number.specs.Answer.{Answer}
-use Rattle.ink_list.specs.Slices.{Slice}
+use Rattle.slices.specs.Slices.{Slice}
 use Rattle.ink_value.specs.Slices.{valIn}
 use Rattle.ink_value.specs.Val.{Val}
 use Rattle.ink_value.specs.declared.Value.{Value}

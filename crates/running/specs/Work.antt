@@ -1,12 +1,11 @@
 -- The words of the inner contracts: the places of the work slices that a run has used, those places cleared, and how the work ends.
 -- Assumes nothing.
 use mathlib.Core.Path.{_≡_}
-use mathlib.Core.Logic.{_⊎_}
 use mathlib.Core.List.{List}
-use Prim.Native.Nat.{ℕ, zero, suc, _+_, _≤_, _<_}
+use Prim.Native.Nat.{ℕ, zero, suc, _≤_, _<_}
 use lib.IntN.{ℤ, pos}
 use lib.ListN.{length, getD, replicate}
-use Rattle.ink_list.specs.Filled.{fill}
+use Rattle.slices.specs.Filled.{fill, Outside}
 use Rattle.ink_value.specs.Val.{Val}
 use Rattle.ink_value.specs.Value.{valOf, Formed}
 use Rattle.pack.specs.declared.format.Format.{Format}
@@ -16,10 +15,6 @@ use Rattle.running.specs.declared.Ran.{Ran}
 use Rattle.running.specs.declared.Ran.the-variants as Rn
 
 -- ---- the places that are used
-
--- j is none of the n places from `at` on
-abbrev pub Outside : ℕ → ℕ → ℕ → Type 0
-Outside at n j = (j < at) ⊎ (at + n ≤ j)
 
 -- used has for each place of the stack how many entries it had at most: no others have changed
 pub record Touched {X : Type 0} (F : Format) (d : X) (used : List ℕ) (old new : List X) : Type 0 where

@@ -11,7 +11,7 @@ ghost use mathlib.Core.List.{List, map};
 ghost use Prim.Native.Nat.{ℕ, _<_, _≤_, _+_, _-_};
 ghost use lib.IntN.{pos};
 ghost use lib.ListN.{length, getD, replicate};
-ghost use Rattle.ink_list.specs.Filled.{fill};
+ghost use Rattle.slices.specs.Filled.{fill};
 ghost use Rattle.ink_value.specs.Val.{list};
 ghost use Rattle.ink_value.specs.Slices.{valIn};
 ghost use Rattle.kind_table.specs.Kinds.{operandCount};

@@ -15,7 +15,8 @@ use Rattle.ink_value.specs.Val.{Val, void, Kind, kindAt, kindOf}
 use Rattle.ink_value.specs.Value.{valOf, codeOfValue, startOf, lenOf, wholeIn, realIn, written, Spans, Formed, FirstFormed, Operand, Wf, AllWf}
 use Rattle.ink_value.specs.declared.Value.{Value}
 use Rattle.ink_value.specs.declared.Value.the-variants as Is
-use Rattle.ink_value.proofs.Reading.{ap3, rising-in}
+use Rattle.slices.proofs.Lists.{ap3}
+use Rattle.ink_value.proofs.Reading.{rising-in}
 use Rattle.ink_value.proofs.Parts.{parts-of, spans-of}
 use Rattle.kind_table.specs.Kinds.{known, arity, operandCount, kindCall, decoded, KindsGiven}
 use Rattle.list_definitions.specs.Defs.{ListDefinitions}

@@ -10,8 +10,8 @@ use lib.ListN.{length, take, drop}
 use Rattle.ink_number.specs.Answer.{Answer, gives, refuses}
 use Rattle.ink_list.specs.Entries as E
 use Rattle.ink_list.specs.Entries.{Entry, entries, items, values, Rising}
-use Rattle.ink_list.specs.Filled.{fill}
-use Rattle.ink_list.proofs.Filled.{fill-nothing}
+use Rattle.slices.specs.Filled.{fill}
+use Rattle.slices.proofs.Filled.{fill-nothing}
 use Rattle.ink_value.specs.Val.{Val, bool, int, float, list, void}
 use Rattle.ink_value.specs.Convert.{entriesOf}
 use Rattle.ink_value.specs.Value.{valOf, codeOfValue, startOf, lenOf, setIn, placed, placedVal, written, outcomeOf, Formed, Gave}

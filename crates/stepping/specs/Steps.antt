@@ -10,7 +10,7 @@ use lib.ListN.{length, getD}
 use Rattle.ink_number.specs.Answer.{Answer, gives, refuses, ask}
 use Rattle.list_definitions.specs.Defs.{Tables}
 use Rattle.ink_list.specs.Entries.{items, values, Rising}
-use Rattle.ink_list.specs.Filled.{fill}
+use Rattle.slices.specs.Filled.{fill}
 use Rattle.ink_value.specs.Val.{Val, bool, int, float, list, void}
 use Rattle.ink_value.specs.Convert.{entriesOf}
 use Rattle.ink_value.specs.Value.{valOf, Formed, FirstFormed}

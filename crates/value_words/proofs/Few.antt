@@ -11,8 +11,8 @@ use lib.ListN.{length, take}
 use Rattle.ink_number.specs.Answer.{Answer, gives, refuses, ask, andThen}
 use Rattle.ink_number.specs.Int.{eqZ}
 use Rattle.ink_list.specs.Entries.{itemNumbers}
-use Rattle.ink_list.specs.Every.{_and_}
-use Rattle.ink_list.proofs.Every.{and-left, and-right}
+use Rattle.slices.specs.Every.{_and_}
+use Rattle.slices.proofs.Every.{and-left, and-right}
 use Rattle.ink_list.proofs.Laws.{rising-length}
 use Rattle.list_definitions.specs.Defs.{ListDefinitions}
 use Rattle.ink_value.specs.Val.{Val, bool, int, float, list, void, kindOf, codeOf}

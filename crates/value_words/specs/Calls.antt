@@ -6,7 +6,7 @@ use Prim.Native.Nat.{ℕ}
 use lib.IntN.{ℤ}
 use Rattle.ink_number.specs.Answer.{Answer, gives, refuses}
 use Rattle.ink_list.specs.Entries.{items, values}
-use Rattle.ink_list.specs.Filled.{over}
+use Rattle.slices.specs.Filled.{over}
 use Rattle.ink_value.specs.Val.{Val}
 use Rattle.ink_value.specs.Value.{placed, written}
 use Rattle.ink_value.specs.declared.Outcome.{Outcome}

@@ -6,7 +6,7 @@ use lib.Dec.{eqb, ltb}
 use lib.ListN.{getD}
 use Rattle.ink_number.specs.Int.{signed, residue}
 use Rattle.ink_float.specs.Real.{ofBits32, toBits32}
-use Rattle.ink_list.specs.Every.{table}
+use Rattle.slices.specs.Every.{table}
 use Rattle.ink_value.specs.declared.Value.{Value}
 use Rattle.ink_value.specs.declared.Value.the-variants as Is
 

@@ -10,7 +10,7 @@ use lib.ListN.{length}
 use lib.Pow.{pow-pos}
 use Rattle.ink_number.specs.Answer.{Answer, gives}
 use Rattle.ink_number.specs.Int.{quotient, signed}
-use Rattle.ink_list.specs.Every.{_and_, every, table}
+use Rattle.slices.specs.Every.{_and_, every, table}
 use Rattle.ink_list.specs.Entries.{bitsBelow, formed}
 use Rattle.list_definitions.specs.Defs.{ListDefinitions}
 use Rattle.ink_value.specs.Val.{void, intK, voidK, kindOf, kindAt}

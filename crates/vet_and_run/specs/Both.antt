@@ -8,7 +8,7 @@ use denote.Ref.{now}
 use lib.IntN.{ℤ}
 use lib.ListN.{getD}
 use Rattle.ink_number.specs.Answer.{gives}
-use Rattle.ink_list.specs.Slices.{Slice}
+use Rattle.slices.specs.Slices.{Slice}
 use Rattle.ink_value.specs.Val.{kindOf, kindAt}
 use Rattle.ink_value.specs.Value.{valOf, codeOfValue}
 use Rattle.ink_value.specs.declared.Value.{Value}

@@ -9,8 +9,8 @@ use native.Mathlib.Omega.{arith}
 use lib.ListN.{length, getD, drop}
 use lib.Seq.{drop-cons}
 use borrow.Author.Tests.{le-leb, lt-leb, leb-true}
-use Rattle.ink_list.specs.Every.{_and_}
-use Rattle.ink_list.proofs.Every.{and-left, and-right}
+use Rattle.slices.specs.Every.{_and_}
+use Rattle.slices.proofs.Every.{and-left, and-right}
 use Rattle.vetting.specs.Vet.{allCodes, Codes}
 
 module _ (cs : List ℕ) (i : ℕ) (h : i < length cs) where

@@ -9,8 +9,8 @@ use native.Mathlib.Omega.{arith}
 use lib.ListN.{length, getD, take, drop, set, List·getD-append, length-append, length-drop}
 use lib.Seq.{ext-getD, getD-take, length-take-le, take-suc}
 use Rattle.ink_number.specs.Answer.{Answer, gives, refuses}
-use Rattle.ink_list.specs.Filled.{fill, over}
-use Rattle.ink_list.proofs.Filled.{fill-set}
+use Rattle.slices.specs.Filled.{fill, over}
+use Rattle.slices.proofs.Filled.{fill-set}
 use Rattle.ink_value.specs.Val.{Val, Kind, kindOf, kindAt}
 use Rattle.pack.specs.Bodies.{Pack}
 use Rattle.pack.specs.Instruction.{Instr}

@@ -6,8 +6,8 @@ use Prim.Native.Nat.{ℕ, _<_, _≤_, _*_}
 use lib.Dec.{leb}
 use lib.ListN.{length, getD}
 use Rattle.ink_number.specs.Answer.{Answer, gives, refuses}
-use Rattle.ink_list.specs.Every.{_and_}
-use Rattle.ink_list.specs.Filled.{over}
+use Rattle.slices.specs.Every.{_and_}
+use Rattle.slices.specs.Filled.{over}
 use Rattle.ink_value.specs.Val.{Val, Kind, kindOf, kindAt}
 use Rattle.pack.specs.Bodies.{Pack}
 use Rattle.pack.specs.Instruction.{Instr}

@@ -8,7 +8,7 @@ ghost use mathlib.Core.Bool.{true};
 ghost use mathlib.Core.List.{map};
 ghost use Prim.Native.Nat.{ℕ, _<_, _≤_, _-_, _*_};
 ghost use lib.ListN.{length, take};
-ghost use Rattle.ink_list.specs.Filled.{over};
+ghost use Rattle.slices.specs.Filled.{over};
 ghost use Rattle.ink_value.specs.Val.{Kind, kindAt};
 ghost use Rattle.kind_table.specs.Kinds.{kindAnswer, Coded, kindApply, operandCount, Table};
 ghost use Rattle.pack.specs.Contents.{sheetCount};

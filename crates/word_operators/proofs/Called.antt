@@ -9,7 +9,7 @@ use lib.ListN.{length, take}
 use borrow.Author.Tests.{le-leb}
 use Rattle.ink_number.specs.Answer.{refuses}
 use Rattle.ink_list.specs.Entries.{itemNumbers}
-use Rattle.ink_list.proofs.Every.{and-both}
+use Rattle.slices.proofs.Every.{and-both}
 use Rattle.ink_value.specs.Val.{Val, kindOf, kindAt}
 use Rattle.ink_value.specs.Value.{valOf, Formed, FirstFormed}
 use Rattle.ink_value.specs.declared.Value.{Value}
@@ -19,7 +19,8 @@ use Rattle.native_function_call.specs.Lists.{definitions, Room}
 use Rattle.native_function_call.specs.Apply.{call, compute}
 use Rattle.native_function_call.proofs.Calling.{call-gives, call-refuses, decoded-kind, decoded-no, two-of}
 use Rattle.calls.specs.Call.{operandsOk, called, PackLists}
-use Rattle.calls.proofs.Forms.{first-of, goes-on, map-take}
+use Rattle.calls.proofs.Forms.{first-of, goes-on}
+use Rattle.slices.proofs.Lists.{map-take}
 use Rattle.list_definitions.specs.Defs.{ListDefinitions}
 use Rattle.value_words.specs.Words.{unheld, valueAt}
 use Rattle.value_words.specs.Calls.{operandsIn, Says, Calls}

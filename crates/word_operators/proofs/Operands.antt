@@ -18,9 +18,9 @@ use Rattle.ink_value.specs.Value.{valOf, codeOfValue, Parts, Number, Operand, S
 use Rattle.ink_value.specs.declared.Value.{Value}
 use Rattle.ink_value.specs.declared.Value.the-variants as Is
 use Rattle.ink_list.specs.Entries.{itemNumbers}
-use Rattle.ink_value.proofs.Reading.{ap2, ap3, code-in}
+use Rattle.slices.proofs.Lists.{ap2, ap3, map-take}
+use Rattle.ink_value.proofs.Reading.{code-in}
 use Rattle.ink_value.proofs.Parts.{spans-of}
-use Rattle.calls.proofs.Forms.{map-take}
 use Rattle.value_words.specs.Words.{unheld, boolAt, intAt, floatAt, voidAt, plainAt, valueOf, valueAt, codeAt}
 use Rattle.kind_table.specs.Kinds.{kindCall, kindEntry, operandCount, decoded, KindsGiven}
 use Rattle.native_function_call.proofs.Calling.{decoded-kind, decoded-no, code-at, above-all, none-taken, miscounted, entry-count, entry-given}

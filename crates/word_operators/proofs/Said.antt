@@ -7,7 +7,7 @@ use lib.IntN.{ℤ}
 use lib.Ieee.{Float}
 use Rattle.ink_number.specs.Answer.{Answer}
 use Rattle.ink_list.specs.Entries.{Entry, items, values}
-use Rattle.ink_list.specs.Filled.{over}
+use Rattle.slices.specs.Filled.{over}
 use Rattle.list_definitions.specs.Defs.{ListDefinitions}
 use Rattle.ink_value.specs.Val.{Val, kindAt}
 use Rattle.ink_value.specs.declared.Value.the-variants as Is

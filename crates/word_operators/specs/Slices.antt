@@ -4,7 +4,7 @@ use Prim.Native.Nat.{ℕ}
 use denote.Ref.{now}
 use lib.IntN.{ℤ}
 use lib.ListN.{take}
-use Rattle.ink_list.specs.Slices.{Slice}
+use Rattle.slices.specs.Slices.{Slice}
 use Rattle.ink_value.specs.Val.{kindAt, listK}
 use Rattle.list_definitions.specs.Defs.{ListDefinitions}
 use Rattle.native_function_call.specs.Apply.{compute}

@@ -4,7 +4,7 @@ use mathlib.Core.List.{List, [], _∷_}
 use Prim.Native.Nat.{ℕ}
 use lib.IntN.{ℤ}
 use lib.ListN.{take}
-use Rattle.ink_value.proofs.Reading.{ap2}
+use Rattle.slices.proofs.Lists.{ap2}
 use Rattle.pack.specs.Bodies.{decoded}
 use Rattle.pack.specs.Read.{endsOf, definedOf, definitionsOf}
 use Rattle.pack.proofs.Values.{pack-tables}

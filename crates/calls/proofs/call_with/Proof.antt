@@ -5,8 +5,8 @@ use mathlib.Core.List.{[], _∷_}
 use lib.ListN.{length, take}
 use borrow.Author.Tests.{not-true, not-false, leb-true}
 use Rattle.ink_number.specs.Answer.{refuses}
-use Rattle.ink_list.specs.Every.{_and_}
-use Rattle.ink_list.proofs.Every.{and-left, and-right}
+use Rattle.slices.specs.Every.{_and_}
+use Rattle.slices.proofs.Every.{and-left, and-right}
 use Rattle.ink_value.proofs.Given.{gave-is, gave-plain}
 use Rattle.native_function_call.specs.Lists.{definitions}
 use Rattle.calls.specs.Call.{operandsOk, resultsOk}

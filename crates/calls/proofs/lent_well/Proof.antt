@@ -1,7 +1,7 @@
 -- `calls::lent_well` meets its contract. Assumes nothing.
 use mathlib.Core.Path.{sym, _∙_}
 use borrow.Author.Tests.{lt-leb}
-use Rattle.ink_list.proofs.Every.{and-no-left, and-no-right}
+use Rattle.slices.proofs.Every.{and-no-left, and-no-right}
 use Rattle.calls.proofs.Forms.{rooms}
 use borrow.Author.Needs.{needs}
 use Rattle.calls.proofs.lent_well.Statement.{statement}

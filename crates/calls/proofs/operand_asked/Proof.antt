@@ -1,6 +1,5 @@
 -- `calls::operand_asked` meets its contract: questions 1 to 5, and then 7 by the pack's tables. Assumes nothing.
 use mathlib.Core.Path.{sym, _∙_}
-use borrow.Author.Tests.{not-true, not-false}
 use Rattle.pack.proofs.Formats.{runnable1}
 use Rattle.pack.proofs.Judged.{accepted, passed, turned}
 use Rattle.calls.proofs.Forms.{coerce-ill, coerce-refused, coerce-goes}

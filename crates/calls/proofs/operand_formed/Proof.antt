@@ -3,7 +3,7 @@ use mathlib.Core.Path.{sym, _∙_}
 use mathlib.Core.List.{[], _∷_}
 use Prim.Native.Nat.{ℕ}
 use Rattle.ink_value.specs.Value.{allFormed}
-use Rattle.ink_value.proofs.Reading.{ap2}
+use Rattle.slices.proofs.Lists.{ap2}
 use Rattle.pack.proofs.Values.{pack-tables}
 use borrow.Author.Needs.{needs}
 use Rattle.calls.proofs.operand_formed.Statement.{statement}

@@ -3,7 +3,7 @@ use mathlib.Core.Path.{_≡_, sym, ap, _∙_}
 use mathlib.Core.List.{[], _∷_}
 use Rattle.ink_value.specs.Value.{allFormed}
 use Rattle.ink_value.specs.declared.Value.{Value}
-use Rattle.ink_value.proofs.Reading.{ap3}
+use Rattle.slices.proofs.Lists.{ap3}
 use Rattle.calls.proofs.Forms.{kept, kept-all}
 use borrow.Author.Needs.{needs}
 use Rattle.calls.proofs.used_formed.Statement.{statement}

@@ -6,8 +6,8 @@ use borrow.Author.Needs.{needs}
 use borrow.Author.Tests.{eqb-true}
 use lib.ListN.{length, drop, drop-of-length-le}
 use Rattle.ink_list.specs.Entries.{itemNumbers}
-use Rattle.ink_list.proofs.Every.{not-both}
-use Rattle.ink_list.proofs.Rests.{drop-at}
+use Rattle.slices.proofs.Every.{not-both}
+use Rattle.slices.proofs.Lists.{drop-at}
 use Rattle.list_definitions.specs.Defs.{Ends}
 use Rattle.definition_points.proofs.numbered.Statement.{statement}
 use Rattle.definition_points.proofs.numbered.Tie as tie

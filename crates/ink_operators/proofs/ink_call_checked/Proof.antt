@@ -7,10 +7,10 @@ use lib.IntN.{ℤ}
 use lib.ListN.{length, take}
 use borrow.Author.Tests.{not-true, not-false, leb-true}
 use native.Mathlib.Omega.{arith}
-use Rattle.ink_list.specs.Every.{_and_}
-use Rattle.ink_list.proofs.Every.{and-left, and-right}
+use Rattle.slices.specs.Every.{_and_}
+use Rattle.slices.proofs.Every.{and-left, and-right}
 use Rattle.ink_value.specs.declared.Value.{Value}
-use Rattle.ink_value.proofs.Reading.{ap3}
+use Rattle.slices.proofs.Lists.{ap3}
 use Rattle.list_definitions.specs.Defs.{ListDefinitions}
 use Rattle.native_function_call.specs.Lists.{definitions}
 use Rattle.calls.specs.Call.{operandsOk, resultsOk, called}

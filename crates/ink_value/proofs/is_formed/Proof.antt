@@ -2,7 +2,8 @@
 use mathlib.Core.Path.{sym, _∙_}
 use native.Mathlib.Omega.{arith}
 use Rattle.ink_list.specs.Entries.{formedLent}
-use Rattle.ink_value.proofs.Reading.{lends, ap3}
+use Rattle.ink_value.proofs.Reading.{lends}
+use Rattle.slices.proofs.Lists.{ap3}
 use Rattle.ink_value.proofs.Forming.{past-items, past-values, inside, lent-alike}
 use borrow.Author.Needs.{needs}
 use Rattle.ink_value.proofs.is_formed.Statement.{statement}

@@ -6,7 +6,8 @@ use native.Mathlib.Omega.{arith}
 use Rattle.ink_value.specs.Convert.{entriesOf, originsIn}
 use Rattle.native_function_call.specs.Lists.{unaryL, definitions}
 use Rattle.ink_value.specs.Value.{valOf}
-use Rattle.ink_value.proofs.Reading.{ap2, entries-in, set-in, rising-in, formed-limit, lends-lent, lends-held}
+use Rattle.slices.proofs.Lists.{ap2}
+use Rattle.ink_value.proofs.Reading.{entries-in, set-in, rising-in, formed-limit, lends-lent, lends-held}
 use Rattle.native_function_call.proofs.Listing.{done, unary-fine}
 use Rattle.native_function_call.proofs.list1.Statement.{statement}
 use Rattle.native_function_call.proofs.list1.Tie as tie

@@ -8,7 +8,8 @@ use Rattle.ink_list.specs.Entries.{room}
 use Rattle.ink_value.specs.Convert.{entriesOf, lowerOf, upperOf}
 use Rattle.ink_value.specs.Value.{valOf}
 use Rattle.native_function_call.specs.Lists.{definitions}
-use Rattle.ink_value.proofs.Reading.{ap3, entries-in, low-in, high-in, formed-limit, lends-lent, lends-held}
+use Rattle.slices.proofs.Lists.{ap3}
+use Rattle.ink_value.proofs.Reading.{entries-in, low-in, high-in, formed-limit, lends-lent, lends-held}
 use Rattle.native_function_call.proofs.Listing.{done, range-fine}
 use Rattle.ink_number.proofs.Signed.{returned}
 use Rattle.ink_list.specs.Ops.{range}

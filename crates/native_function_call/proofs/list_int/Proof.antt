@@ -7,7 +7,8 @@ use native.Mathlib.Omega.{arith}
 use Rattle.ink_value.specs.Convert.{asInt, entriesOf, originsIn}
 use Rattle.native_function_call.specs.Lists.{shiftL, definitions}
 use Rattle.ink_value.specs.Value.{valOf}
-use Rattle.ink_value.proofs.Reading.{ap3, entries-in, set-in, int-in, formed-limit, lends-lent, lends-held}
+use Rattle.slices.proofs.Lists.{ap3}
+use Rattle.ink_value.proofs.Reading.{entries-in, set-in, int-in, formed-limit, lends-lent, lends-held}
 use Rattle.native_function_call.proofs.Listing.{Fine, done, shift-fine}
 use Rattle.ink_number.proofs.Signed.{returned}
 use Rattle.native_function_call.proofs.Applying.{right-int}

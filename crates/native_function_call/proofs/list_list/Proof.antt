@@ -7,7 +7,8 @@ use native.Mathlib.Omega.{arith}
 use Rattle.ink_list.specs.Entries.{room}
 use Rattle.native_function_call.specs.Lists.{mergeL, definitions}
 use Rattle.ink_value.specs.Value.{valOf}
-use Rattle.ink_value.proofs.Reading.{ap2, entries-in, formed-limit, lends-lent, lends-held}
+use Rattle.slices.proofs.Lists.{ap2}
+use Rattle.ink_value.proofs.Reading.{entries-in, formed-limit, lends-lent, lends-held}
 use Rattle.native_function_call.proofs.Listing.{made, merge-fine}
 use Rattle.ink_list.proofs.Rests.{of-lent}
 use Rattle.native_function_call.proofs.Applying.{right-list}

@@ -1,6 +1,6 @@
 -- `native_function_call::number_real2` meets its contract. Assumes nothing.
 use mathlib.Core.Path.{_∙_}
-use Rattle.ink_value.proofs.Reading.{ap2}
+use Rattle.slices.proofs.Lists.{ap2}
 use Rattle.ink_value.proofs.Parts.{number-back, number-float-in}
 use Rattle.native_function_call.specs.Numbers.{arithF}
 use borrow.Author.Needs.{needs}

@@ -4,7 +4,7 @@ use Prim.Native.Nat.{ℕ, max}
 use Rattle.ink_number.proofs.Signed.{returned}
 use Rattle.ink_value.specs.Val.{Kind, kindAt}
 use Rattle.ink_value.specs.Value.{valOf}
-use Rattle.ink_value.proofs.Reading.{ap2}
+use Rattle.slices.proofs.Lists.{ap2}
 use Rattle.ink_value.proofs.Parts.{number-back, number-int-in, number-float-in}
 use Rattle.native_function_call.specs.Numbers.{testZ, testF}
 use Rattle.native_function_call.specs.Apply.{testAs}

@@ -1,7 +1,7 @@
 -- `native_function_call::number_whole2` meets its contract. Assumes nothing.
 use mathlib.Core.Path.{_∙_}
 use Rattle.ink_number.proofs.Signed.{returned}
-use Rattle.ink_value.proofs.Reading.{ap2}
+use Rattle.slices.proofs.Lists.{ap2}
 use Rattle.ink_value.proofs.Parts.{number-back, number-int-in}
 use Rattle.native_function_call.specs.Numbers.{arithZ}
 use borrow.Author.Needs.{needs}

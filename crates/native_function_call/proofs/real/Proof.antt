@@ -6,7 +6,8 @@ use native.Mathlib.Omega.{arith}
 use lib.ListN.{take}
 use Rattle.ink_list.specs.Entries.{itemNumbers}
 use Rattle.ink_value.specs.Value.{valOf}
-use Rattle.ink_value.proofs.Reading.{ap2, float-in}
+use Rattle.slices.proofs.Lists.{ap2}
+use Rattle.ink_value.proofs.Reading.{float-in}
 use Rattle.ink_value.proofs.Parts.{parts-back, operand-back}
 use Rattle.native_function_call.specs.Numbers.{arithF}
 use Rattle.native_function_call.specs.Apply.{real}

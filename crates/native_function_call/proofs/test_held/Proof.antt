@@ -1,7 +1,7 @@
 -- `native_function_call::test_held` meets its contract. Assumes nothing.
 use mathlib.Core.Path.{_∙_}
 use Rattle.ink_list.specs.Entries.{itemNumbers}
-use Rattle.ink_value.proofs.Reading.{ap2}
+use Rattle.slices.proofs.Lists.{ap2}
 use Rattle.ink_value.proofs.Parts.{cut-lent, cut-entries}
 use Rattle.native_function_call.specs.Lists.{testL}
 use borrow.Author.Needs.{needs}

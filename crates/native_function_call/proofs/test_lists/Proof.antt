@@ -4,7 +4,8 @@ use mathlib.Core.Bool.{Bool, _&&_, _||_}
 use borrow.Author.Tests.{ne-eqb}
 use Rattle.ink_list.specs.Entries.{itemNumbers}
 use Rattle.ink_value.specs.Value.{valOf}
-use Rattle.ink_value.proofs.Reading.{ap2, truth-in}
+use Rattle.slices.proofs.Lists.{ap2}
+use Rattle.ink_value.proofs.Reading.{truth-in}
 use Rattle.ink_value.proofs.Parts.{parts-back, operand-held}
 use Rattle.ink_value.proofs.Chosen.{at}
 use Rattle.native_function_call.specs.Lists.{testL}

@@ -10,7 +10,8 @@ use Rattle.ink_number.proofs.Signed.{returned}
 use Rattle.ink_list.specs.Entries.{itemNumbers}
 use Rattle.ink_value.specs.Val.{int}
 use Rattle.ink_value.specs.Value.{valOf}
-use Rattle.ink_value.proofs.Reading.{ap2, int-in}
+use Rattle.slices.proofs.Lists.{ap2}
+use Rattle.ink_value.proofs.Reading.{int-in}
 use Rattle.ink_value.proofs.Parts.{parts-back, operand-back}
 use Rattle.native_function_call.specs.Numbers.{arithZ}
 use Rattle.native_function_call.specs.Apply.{ofInt, whole}

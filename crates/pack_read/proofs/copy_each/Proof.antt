@@ -5,11 +5,11 @@ use mathlib.Core.Path.{_≡_, refl, ap, _∙_}
 use native.Mathlib.Omega.{arith}
 use denote.Ref.{now}
 use mir.Facts.{toZ-ofZ}
-use Rattle.ink_list.specs.Every.{table}
-use Rattle.ink_list.specs.Filled.{fill}
-use Rattle.ink_list.proofs.Filled.{fill-none, fill-long, fill-more}
+use Rattle.slices.specs.Every.{table}
+use Rattle.slices.specs.Filled.{fill}
+use Rattle.slices.proofs.Filled.{fill-none, fill-long, fill-more}
 use Rattle.pack.specs.Read.{itemFrom, valueFrom}
-use Rattle.pack.proofs.Strides.{stride-fits}
+use Rattle.slices.proofs.Strides.{stride-fits}
 use borrow.Author.Needs.{needs}
 use Rattle.pack_read.proofs.copy_each.Statement.{statement}
 use Rattle.pack_read.proofs.copy_each.Tie as tie

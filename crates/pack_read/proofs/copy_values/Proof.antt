@@ -6,9 +6,9 @@ use native.Mathlib.Omega.{arith}
 use lib.IntN.{ℤ}
 use denote.Ref.{now}
 use mir.Facts.{toZ-ofZ}
-use Rattle.ink_list.specs.Every.{table}
-use Rattle.ink_list.specs.Filled.{fill}
-use Rattle.ink_list.proofs.Filled.{fill-none, fill-long, fill-more}
+use Rattle.slices.specs.Every.{table}
+use Rattle.slices.specs.Filled.{fill}
+use Rattle.slices.proofs.Filled.{fill-none, fill-long, fill-more}
 use Rattle.pack.specs.Bytes.{i32}
 use borrow.Author.Needs.{needs}
 use Rattle.pack_read.proofs.copy_values.Statement.{statement}

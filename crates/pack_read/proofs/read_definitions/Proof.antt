@@ -8,14 +8,15 @@ use native.Mathlib.Omega.{arith}
 use lib.IntN.{ℤ}
 use lib.ListN.{length}
 use denote.Ref.{now}
-use Rattle.ink_list.specs.Every.{table}
-use Rattle.ink_list.specs.Filled.{fill}
-use Rattle.ink_list.proofs.Filled.{length-table, fill-none, front-long, front-more}
+use Rattle.slices.specs.Every.{table}
+use Rattle.slices.specs.Filled.{fill}
+use Rattle.slices.proofs.Tables.{length-table}
+use Rattle.slices.proofs.Filled.{fill-none, front-long, front-more, fill-over}
 use Rattle.pack.specs.Bodies.{count, itemsBelow}
 use Rattle.pack.specs.Bytes.{i32}
 use Rattle.pack.specs.Contents.{definitionCount}
 use Rattle.pack.proofs.Laid.{body}
-use Rattle.pack.proofs.Values.{counted, defined, items-up, items-more, valuesBelow, length-values, values-none, values-long, values-more, ends-table, fill-over}
+use Rattle.pack.proofs.Values.{counted, defined, items-up, items-more, valuesBelow, length-values, values-none, values-long, values-more, ends-table}
 use borrow.Author.Needs.{needs}
 use Rattle.pack_read.proofs.read_definitions.Statement.{statement}
 use Rattle.pack_read.proofs.read_definitions.Tie as tie

@@ -7,14 +7,14 @@ use lib.IntN.{ℤ}
 use lib.ListN.{length}
 use denote.Ref.{now}
 use Rattle.ink_list.specs.Entries.{items, values}
-use Rattle.ink_list.specs.Every.{table}
-use Rattle.ink_list.specs.Filled.{fill}
+use Rattle.slices.specs.Every.{table}
+use Rattle.slices.specs.Filled.{fill}
 use Rattle.pack.specs.Bodies.{Literal, entryCount, item, value}
 use Rattle.pack.specs.Contents.{literalBody, offset}
 use Rattle.pack.proofs.Laid.{body}
 use Rattle.pack.proofs.Listed.{literal-listed, literal-is, entries-long}
 use Rattle.pack.specs.Read.{itemFrom, valueFrom}
-use Rattle.pack.proofs.Tables.{items-table, values-table}
+use Rattle.ink_list.proofs.Output.{items-table, values-table}
 use borrow.Author.Needs.{needs}
 use Rattle.pack_read.proofs.read_literal.Statement.{statement}
 use Rattle.pack_read.proofs.read_literal.Tie as tie

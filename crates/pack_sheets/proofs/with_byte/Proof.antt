@@ -6,7 +6,7 @@ use lib.Dec.{ltb}
 use denote.Ref.{now}
 use borrow.Author.Tests.{lt-ltb, le-ltb, le-leb, lt-leb}
 use Rattle.pack.specs.Bytes.{byte}
-use Rattle.pack.proofs.Steps.{cond-same}
+use Rattle.slices.proofs.Every.{cond-same}
 use borrow.Author.Needs.{needs}
 use Rattle.pack_sheets.proofs.with_byte.Statement.{statement}
 use Rattle.pack_sheets.proofs.with_byte.Tie as tie

@@ -1,7 +1,7 @@
 -- `run_any::long_enough` meets its contract. Assumes nothing.
 use native.Mathlib.Omega.{arith}
 use borrow.Author.Tests.{lt-leb, le-leb}
-use Rattle.ink_list.specs.Every.{_and_}
+use Rattle.slices.specs.Every.{_and_}
 use Rattle.run_any.proofs.long_enough.Statement.{statement}
 use Rattle.run_any.proofs.long_enough.Tie as tie
 

@@ -3,8 +3,8 @@ use mathlib.Core.Path.{_≡_, ap, _∙_}
 use Prim.Native.Nat.{ℕ, _-_, _≤_}
 use native.Mathlib.Omega.{arith}
 use lib.ListN.{replicate}
-use Rattle.ink_list.specs.Filled.{fill}
-use Rattle.running.proofs.Filling.{same-none, same-long, same-more}
+use Rattle.slices.specs.Filled.{fill}
+use Rattle.slices.proofs.Filled.{same-none, same-long, same-more}
 use borrow.Author.Needs.{needs}
 use Rattle.running.proofs.zero_items.Statement.{statement}
 use Rattle.running.proofs.zero_items.Tie as tie

@@ -4,8 +4,8 @@ use Prim.Native.Nat.{ℕ, _-_, _≤_}
 use native.Mathlib.Omega.{arith}
 use lib.IntN.{ℤ, pos}
 use lib.ListN.{replicate}
-use Rattle.ink_list.specs.Filled.{fill}
-use Rattle.running.proofs.Filling.{same-none, same-long, same-more}
+use Rattle.slices.specs.Filled.{fill}
+use Rattle.slices.proofs.Filled.{same-none, same-long, same-more}
 use borrow.Author.Needs.{needs}
 use Rattle.running.proofs.zero_values.Statement.{statement}
 use Rattle.running.proofs.zero_values.Tie as tie

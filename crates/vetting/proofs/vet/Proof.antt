@@ -5,8 +5,8 @@ use native.Mathlib.Omega.{arith}
 use lib.ListN.{length}
 use borrow.Author.Tests.{le-leb, lt-leb, not-true, not-false}
 use Rattle.ink_number.specs.Answer.{gives}
-use Rattle.ink_list.proofs.Every.{and-both, and-no-left, and-no-right}
-use Rattle.ink_list.proofs.Filled.{length-table}
+use Rattle.slices.proofs.Every.{and-both, and-no-left, and-no-right}
+use Rattle.slices.proofs.Tables.{length-table}
 use Rattle.pack.specs.Bodies.{decoded, sheet}
 use Rattle.pack.specs.Contents.{sheetCount, sheetBody}
 use Rattle.pack.specs.Format.{format1}

@@ -4,7 +4,7 @@ use mathlib.Core.List.{List, map}
 use Prim.Native.Nat.{ℕ}
 use native.Mathlib.Omega.{arith}
 use Rattle.ink_value.specs.Val.{kindAt}
-use Rattle.ink_list.specs.Filled.{over}
+use Rattle.slices.specs.Filled.{over}
 use Rattle.pack.specs.Read.{program}
 use Rattle.sheet.specs.Machine.{vet}
 use Rattle.vetting.proofs.Written.{passed-count, take-forecast}

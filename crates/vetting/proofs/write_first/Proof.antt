@@ -5,7 +5,7 @@ use Prim.Native.Nat.{ℕ, _-_, _≤_}
 use native.Mathlib.Omega.{arith}
 use lib.ListN.{set, length, getD, take}
 use lib.Seq.{length-take-le}
-use Rattle.ink_list.specs.Filled.{over}
+use Rattle.slices.specs.Filled.{over}
 use Rattle.vetting.proofs.Written.{over-more, length-over}
 use borrow.Author.Needs.{needs}
 use Rattle.vetting.proofs.write_first.Statement.{statement}

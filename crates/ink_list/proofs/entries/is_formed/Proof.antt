@@ -3,7 +3,7 @@ use mathlib.Core.Path.{sym, _∙_}
 use borrow.Author.Needs.{needs}
 use borrow.Author.Tests.{eq-eqb, ne-eqb, not-true, not-false}
 use Rattle.ink_list.specs.Entries.{formed, formedLent}
-use Rattle.ink_list.proofs.Every.{and-on, and-no-left}
+use Rattle.slices.proofs.Every.{and-on, and-no-left}
 use Rattle.ink_list.proofs.entries.is_formed.Statement.{statement}
 use Rattle.ink_list.proofs.entries.is_formed.Tie as tie
 

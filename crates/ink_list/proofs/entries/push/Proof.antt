@@ -6,7 +6,7 @@ use lib.ListN.{set}
 use mir.Syntax.{w32}
 use mir.ValLaws.{toZ-ofZ}
 use borrow.Author.Needs.{needs}
-use Rattle.ink_list.proofs.Filled.{fill-one}
+use Rattle.slices.proofs.Filled.{fill-one}
 use Rattle.ink_list.proofs.entries.push.Statement.{statement}
 use Rattle.ink_list.proofs.entries.push.Tie as tie
 

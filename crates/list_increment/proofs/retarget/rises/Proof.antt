@@ -11,7 +11,7 @@ use mir.Syntax.{w32}
 use mir.Val.{toZ}
 use Rattle.ink_number.proofs.Signed.{back, read, returned}
 use Rattle.list_definitions.specs.Search.{raised, risesAbove, rises}
-use Rattle.ink_list.proofs.Every.{not-both}
+use Rattle.slices.proofs.Every.{not-both}
 use Rattle.list_definitions.proofs.Raised.{sum-of, ints-more}
 use Rattle.list_definitions.proofs.Order.{le-not-lt, not-le-lt}
 use Rattle.list_definitions.proofs.Chosen.{rises-none, rises-first, rise-yes, rise-no, rise-end}

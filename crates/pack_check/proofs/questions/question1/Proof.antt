@@ -1,7 +1,7 @@
 -- `pack_check::questions::question1` meets its contract, each return by the test that led to it. Assumes nothing.
 use native.Mathlib.Omega.{arith}
 use borrow.Author.Tests.{le-leb, lt-leb, eq-eqb, ne-eqb}
-use Rattle.ink_list.specs.Every.{_and_}
+use Rattle.slices.specs.Every.{_and_}
 use Rattle.pack.specs.Judge as J
 use denote.Ref.{now}
 use Rattle.pack.specs.Bytes.{byte}

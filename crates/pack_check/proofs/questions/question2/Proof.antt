@@ -9,8 +9,8 @@ use lib.Dec.{eqb}
 use lib.ListN.{length}
 use denote.Ref.{now}
 use borrow.Author.Tests.{eq-eqb, ne-eqb}
-use Rattle.ink_list.specs.Every.{_and_, every}
-use Rattle.ink_list.proofs.Every.{and-no-left, every-more, every-fails}
+use Rattle.slices.specs.Every.{_and_, every}
+use Rattle.slices.proofs.Every.{and-no-left, every-more, every-fails}
 use Rattle.pack.specs.Contents.{bodyCount, offset, place}
 use Rattle.pack.specs.Judge as J
 use borrow.Author.Needs.{needs}

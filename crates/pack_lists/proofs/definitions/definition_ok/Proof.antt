@@ -3,8 +3,8 @@ use mathlib.Core.Path.{_≡_, sym, ap, _∙_}
 use native.Mathlib.Omega.{arith}
 use denote.Ref.{now}
 use borrow.Author.Tests.{lt-ltb, le-ltb, ne-eqb}
-use Rattle.ink_list.specs.Every.{_and_}
-use Rattle.ink_list.proofs.Every.{and-no-left, and-no-right}
+use Rattle.slices.specs.Every.{_and_}
+use Rattle.slices.proofs.Every.{and-no-left, and-no-right}
 use Rattle.pack.specs.Bodies.{count, definitionOk}
 use Rattle.pack.specs.Bytes.{number}
 use Rattle.pack.specs.Contents.{size}

@@ -7,8 +7,8 @@ use native.Mathlib.Omega.{arith}
 use lib.Dec.{leb}
 use denote.Ref.{now}
 use borrow.Author.Tests.{not-true, not-false}
-use Rattle.ink_list.specs.Every.{_and_, every}
-use Rattle.ink_list.proofs.Every.{and-no-left, every-more, every-fails}
+use Rattle.slices.specs.Every.{_and_, every}
+use Rattle.slices.proofs.Every.{and-no-left, every-more, every-fails}
 use Rattle.pack.specs.Bodies.{definitionOk, itemsBelow}
 use Rattle.pack.specs.Contents.{definitionCount}
 use Rattle.pack.specs.Judge as J

@@ -8,14 +8,13 @@ use native.Mathlib.Omega.{arith}
 use lib.ListN.{length, getD, drop}
 use denote.Ref.{now}
 use Rattle.ink_list.specs.Entries.{ascends}
-use Rattle.ink_list.specs.Every.{table}
-use Rattle.ink_list.proofs.Filled.{length-table}
+use Rattle.slices.specs.Every.{table}
+use Rattle.slices.proofs.Tables.{length-table, getD-table}
 use Rattle.ink_list.proofs.Formed.{too-low, too-high, goes-on, ascends-end}
 use Rattle.pack.specs.Bodies.{entryAt, item}
 use Rattle.pack.specs.Bytes.{number}
 use Rattle.pack.proofs.Laid.{body}
-use Rattle.pack.proofs.Strides.{stride-more, stride-fits}
-use Rattle.pack.proofs.Tables.{getD-table}
+use Rattle.slices.proofs.Strides.{stride-more, stride-fits}
 use borrow.Author.Needs.{needs}
 use Rattle.pack_lists.proofs.literals.items_ok.Statement.{statement}
 use Rattle.pack_lists.proofs.literals.items_ok.Tie as tie

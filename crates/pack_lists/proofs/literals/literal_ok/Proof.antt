@@ -7,8 +7,8 @@ use native.Mathlib.Omega.{arith}
 use denote.Ref.{now}
 use borrow.Author.Tests.{not-true, not-false, eq-eqb, ne-eqb}
 use Rattle.ink_list.specs.Entries.{ascends, bitsBelow, formed}
-use Rattle.ink_list.specs.Every.{_and_, table}
-use Rattle.ink_list.proofs.Every.{and-no-left, and-no-right}
+use Rattle.slices.specs.Every.{_and_, table}
+use Rattle.slices.proofs.Every.{and-no-left, and-no-right}
 use Rattle.pack.specs.Bodies.{origins, entryCount, item, literalOk}
 use Rattle.pack.specs.Bytes.{u64}
 use Rattle.pack.specs.Contents.{definitionCount, size}

@@ -6,8 +6,8 @@ use mathlib.Core.Path.{_≡_, sym, ap, _∙_, subst}
 use native.Mathlib.Omega.{arith}
 use denote.Ref.{now}
 use borrow.Author.Tests.{not-true, not-false}
-use Rattle.ink_list.specs.Every.{every}
-use Rattle.ink_list.proofs.Every.{every-more, every-fails}
+use Rattle.slices.specs.Every.{every}
+use Rattle.slices.proofs.Every.{every-more, every-fails}
 use Rattle.pack.specs.Bodies.{literalOk}
 use Rattle.pack.specs.Contents.{literalBody}
 use Rattle.pack.specs.Judge as J

@@ -3,11 +3,10 @@
 use Prim.Native.Nat.{ℕ, _-_, _≤_}
 use mathlib.Core.Path.{_≡_, refl, ap, _∙_}
 use native.Mathlib.Omega.{arith}
-use Rattle.ink_list.specs.Every.{table}
-use Rattle.ink_list.specs.Filled.{fill}
-use Rattle.ink_list.proofs.Filled.{fill-none, front-more}
+use Rattle.slices.specs.Every.{table}
+use Rattle.slices.specs.Filled.{fill}
+use Rattle.slices.proofs.Filled.{fill-none, front-more, fill-whole}
 use Rattle.value_words.specs.Words.{valueAt}
-use Rattle.value_words.proofs.Reading.{whole}
 use borrow.Author.Needs.{needs}
 use Rattle.value_words.proofs.words.slots_in.Statement.{statement}
 use Rattle.value_words.proofs.words.slots_in.Tie as tie
@@ -43,7 +42,7 @@ loop-again c =
 
 returns : tie.Need-returns Inv-loop μ-loop
 returns c =
-    whole (valueAt (c .before .before .args .words .now)) _ 16 (c .before .loop .slots) (c .before .loop .inv .1 ∙ ap (λ (k : ℕ). fill 0 (table k (valueAt (c .before .before .args .words .now))) _) (omega arith)) refl
+    fill-whole (valueAt (c .before .before .args .words .now)) _ 16 (c .before .loop .slots) (c .before .loop .inv .1 ∙ ap (λ (k : ℕ). fill 0 (table k (valueAt (c .before .before .args .words .now))) _) (omega arith)) refl
 
 pub slots-in-spec : {M : Type 1} → statement M
 slots-in-spec =

@@ -1,7 +1,7 @@
 -- `value_words::words::value_of` meets its contract: a List, or the third word is 0, or neither. Assumes nothing.
 use borrow.Author.Tests.{eq-eqb, ne-eqb}
 use Rattle.ink_value.specs.declared.Value.the-variants as Is
-use Rattle.ink_value.proofs.Reading.{ap2}
+use Rattle.slices.proofs.Lists.{ap2}
 use Rattle.value_words.specs.Words.{valueOf}
 use borrow.Author.Needs.{needs}
 use Rattle.value_words.proofs.words.value_of.Statement.{statement}

@@ -1,18 +1,29 @@
--- Lists that are tables: by index, by their elements, and under a function. Assumes nothing.
-use Prim.Native.Nat.{ℕ, zero, suc, _<_, _≤_}
+-- Lists that are tables: how long, one element more, by index, and by their elements. Assumes nothing.
+use Prim.Native.Nat.{ℕ, zero, suc, _+_, _<_, _≤_}
 use mathlib.Core.List.{List, [], _∷_, _++_}
 use mathlib.Core.Logic.{⊎-elim}
-use mathlib.Core.Path.{_≡_, refl, sym, ap, _∙_, subst}
+use mathlib.Core.Path.{_≡_, refl, sym, _∙_, subst}
 use native.Mathlib.Nat.{eq-or-lt-of-le, le-of-suc-le-suc}
+use native.Mathlib.Numerals.{add-one}
 use native.Mathlib.Omega.{arith}
-use lib.IntN.{ℤ}
-use lib.ListN.{length, getD, take, List·getD-append}
+use lib.ListN.{length, getD, take, length-append, List·getD-append}
 use lib.Seq.{getD-at, take-suc, take-length}
-use Rattle.ink_list.specs.Entries.{Entry, items, values}
-use Rattle.ink_list.specs.Every.{table}
-use Rattle.ink_list.proofs.Filled.{length-table}
+use Rattle.slices.specs.Every.{table}
 
 module _ {A : Type 0} where
+  pub length-table : (n : ℕ) (f : ℕ → A) → length (table n f) ≡ n
+  unfolding table
+  length-table zero f = refl
+  length-table (suc n) f = length-append (table n f) (f n ∷ []) ∙ rw (length-table n f) (add-one n)
+
+  pub table-more : (n : ℕ) (f : ℕ → A) → table (n + 1) f ≡ table n f ++ (f n ∷ [])
+  unfolding table
+  table-more n f = rw (add-one n)
+
+  pub table-none : (f : ℕ → A) → _≡_ {A = List A} (table 0 f) []
+  unfolding table
+  table-none f = refl
+
   pub getD-table : (n : ℕ) (f : ℕ → A) (k : ℕ) (d : A) → k < n → getD (table n f) k d ≡ f k
   unfolding table
   getD-table zero f k d h = absurd (omega arith)
@@ -36,25 +47,3 @@ module _ {A : Type 0} where
   -- a table of a list's elements is the list
   pub table-list : (l : List A) (d : A) → table (length l) (λ k. getD l k d) ≡ l
   table-list l d = table-take l d (length l) (omega arith) ∙ take-length l
-
--- the items and the values of a table of entries
-items-append : (a b : List Entry) → items (a ++ b) ≡ items a ++ items b
-items-append [] b = refl
-items-append (e ∷ a) b = ap (λ (l : List ℕ). e .0 ∷ l) (items-append a b)
-
-values-append : (a b : List Entry) → values (a ++ b) ≡ values a ++ values b
-values-append [] b = refl
-values-append (e ∷ a) b = ap (λ (l : List ℤ). e .1 ∷ l) (values-append a b)
-
-module _ (f : ℕ → ℕ) (g : ℕ → ℤ) where
-  pub items-table : (n : ℕ) → items (table n (λ k. (f k, g k))) ≡ table n f
-  unfolding table
-  items-table zero = refl
-  items-table (suc n) =
-      items-append (table n (λ k. (f k, g k))) ((f n, g n) ∷ []) ∙ ap (λ (l : List ℕ). l ++ (f n ∷ [])) (items-table n)
-
-  pub values-table : (n : ℕ) → values (table n (λ k. (f k, g k))) ≡ table n g
-  unfolding table
-  values-table zero = refl
-  values-table (suc n) =
-      values-append (table n (λ k. (f k, g k))) ((f n, g n) ∷ []) ∙ ap (λ (l : List ℤ). l ++ (g n ∷ [])) (values-table n)
