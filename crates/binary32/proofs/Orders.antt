@@ -22,7 +22,7 @@ below-is true zero true (suc b) = leb·suc-zero (suc b)
 below-is true (suc a) true zero = lt-ltb 0 (suc a) (zero-lt-suc a)
 below-is true (suc a) true (suc b) = leb·suc-suc (suc b) a
 
-and-true : (x : Bool) → x && true ≡ x
+pub and-true : (x : Bool) → x && true ≡ x
 and-true true = refl
 and-true false = refl
 
@@ -30,7 +30,7 @@ and-false : (x : Bool) → x && false ≡ false
 and-false true = refl
 and-false false = refl
 
-and-same : (x : Bool) → x && x ≡ x
+pub and-same : (x : Bool) → x && x ≡ x
 and-same true = refl
 and-same false = refl
 
