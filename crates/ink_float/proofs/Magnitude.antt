@@ -12,7 +12,7 @@ use mir.Syntax.{w32, w64}
 use mir.Val.{Fits, SFits}
 use mir.ValLaws.{toZ-ofZ}
 use Rattle.ink_number.proofs.Signed.{back, back32, back64}
-use Rattle.ink_float.proofs.Significand.{negated}
+use Rattle.nearest_float.proofs.Significand.{negated}
 
 abbrev Plain : ℤ → ℤ → Type 0
 Plain y z = (T (nonNeg y) × Fits w32 (natAbs y)) × (pos (natAbs y) ≡ z)

@@ -10,7 +10,7 @@ use lib.Dec.{T, ltb, eqb, lt→ltb}
 use lib.IntN.{pos, negsuc, negℤ}
 use lib.Ieee.{Float, nan, inf, fin, up, down, lt, le, eq, ne, toSigned}
 use lib.Ieee.Fits.{down-pos}
-use Rattle.ink_float.proofs.Floats.{is-nan, nan-ne}
+use Rattle.ink_float.proofs.Nans.{is-nan, nan-ne}
 
 -- ---- the whole part against a bound
 

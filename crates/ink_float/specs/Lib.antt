@@ -1,6 +1,2 @@
-pub mod Binary32
-pub mod Nearest
-pub mod Operations
 pub mod Real
-pub mod Rounding
 pub mod Known

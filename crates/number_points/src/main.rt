@@ -8,32 +8,42 @@ use ink_float::float;
 use ink_number::int;
 use ink_number::int::Divided;
 
-const INTS: [i32; 14] = [
+// What a row shows: an Int, two Ints, a pattern, two Floats.
+enum Row {
+    Int,
+    Ints,
+    Pattern,
+    Floats,
+}
+
+// Ints by their patterns: 0, 1, -1, 2, -2, 7, -7, 46341, whose square is the first that is no Int, 2^24 and its neighbours, the
+// greatest, the lowest but one and the lowest.
+const INTS: [u32; 14] = [
     0,
     1,
-    -1,
+    0xffff_ffff,
     2,
-    -2,
+    0xffff_fffe,
     7,
-    -7,
+    0xffff_fff9,
     46341,
     16777215,
     16777216,
     16777217,
-    2147483647,
-    -2147483647,
-    -2147483648,
+    0x7fff_ffff,
+    0x8000_0001,
+    0x8000_0000,
 ];
 
 // Ints on both sides of a tie, and at one: from 2^24 the Floats are 2 apart, from 2^25 4, before 2^31
-// 128.
-const ROUNDED: [i32; 14] = [
+// 128. Two are negative, -16777217 and -16777219.
+const ROUNDED: [u32; 14] = [
     16777218,
     16777219,
     16777220,
     16777221,
-    -16777217,
-    -16777219,
+    0xfeff_ffff,
+    0xfeff_fffd,
     33554433,
     33554434,
     33554435,
@@ -184,24 +194,6 @@ fn int_pair(a: i32, b: i32) {
     end();
 }
 
-fn int_values(ints: &[i32]) {
-    for i in 0..ints.len() {
-        int_value(ints[i]);
-    }
-}
-
-fn int_pairs_with(a: i32, ints: &[i32]) {
-    for i in 0..ints.len() {
-        int_pair(a, ints[i]);
-    }
-}
-
-fn int_pairs(ints: &[i32]) {
-    for i in 0..ints.len() {
-        int_pairs_with(ints[i], ints);
-    }
-}
-
 fn pattern_value(b: u32) {
     io::write_all(1, b"pattern");
     print_pattern(b);
@@ -244,21 +236,34 @@ fn float_pair(x: f32, y: f32) {
     end();
 }
 
-fn pattern_values(patterns: &[u32]) {
-    for i in 0..patterns.len() {
-        pattern_value(patterns[i]);
+fn print_row(what: Row, a: u32, b: u32) {
+    match what {
+        Row::Int => {
+            int_value(int::signed_of(b));
+        }
+        Row::Ints => {
+            int_pair(int::signed_of(a), int::signed_of(b));
+        }
+        Row::Pattern => {
+            pattern_value(b);
+        }
+        Row::Floats => {
+            float_pair(convert::float_from_bits(a), convert::float_from_bits(b));
+        }
     }
 }
 
-fn float_pairs_with(x: f32, patterns: &[u32]) {
+// A row of each pattern, beside a where the row is of two.
+fn rows(what: Row, a: u32, patterns: &[u32]) {
     for i in 0..patterns.len() {
-        float_pair(x, convert::float_from_bits(patterns[i]));
+        print_row(what, a, patterns[i]);
     }
 }
 
-fn float_pairs(patterns: &[u32]) {
+// A row of each pair.
+fn pairs(what: Row, patterns: &[u32]) {
     for i in 0..patterns.len() {
-        float_pairs_with(convert::float_from_bits(patterns[i]), patterns);
+        rows(what, patterns[i], patterns);
     }
 }
 
@@ -283,19 +288,19 @@ fn points() {
 fn main() {
     points();
     io::write_all(1, b"# int a: pattern, -a, truthy, as Float\n");
-    int_values(&INTS);
-    int_values(&ROUNDED);
+    rows(Row::Int, 0, &INTS);
+    rows(Row::Int, 0, &ROUNDED);
     io::write_all(
         1,
         b"# int a b: + - * / % min max == != < <= > >= can_divide\n",
     );
-    int_pairs(&INTS);
+    pairs(Row::Ints, &INTS);
     io::write_all(
         1,
         b"# pattern b: as Int; the Float x, -x, truthy, x to Int\n",
     );
-    pattern_values(&FLOATS);
-    pattern_values(&PATTERNS);
+    rows(Row::Pattern, 0, &FLOATS);
+    rows(Row::Pattern, 0, &PATTERNS);
     io::write_all(1, b"# float x y: + - * / % min max == != < <= > >=\n");
-    float_pairs(&FLOATS);
+    pairs(Row::Floats, &FLOATS);
 }

@@ -39,12 +39,12 @@ enum-told-2 c = search needs
 returns : tie.Need-returns
 unfolding coerceFloat
 returns c =
-    λ is vs. ap (λ (x : Float). Out.Value (Is.Float x)) (c .int-to-float .ensures ∙ ap ofInt32 (returned (c .before .bit .ok) ∙ c .before .bit .ensures)) ∙ sym (ap (λ (v : Value). placed (coerceFloat (valOf is vs v))) (c .before .before .before .v .given .1))
+    λ is vs. ap (λ (x : Float). Out.Value (Is.Float x)) (c .int-to-float .ensures .0 ∙ ap ofInt32 (returned (c .before .bit .ok) ∙ c .before .bit .ensures)) ∙ sym (ap (λ (v : Value). placed (coerceFloat (valOf is vs v))) (c .before .before .before .v .given .1))
 
 returns-2 : tie.Need-returns-2
 unfolding coerceFloat
 returns-2 c =
-    λ is vs. ap (λ (x : Float). Out.Value (Is.Float x)) (c .int-to-float2 .ensures ∙ read ofInt32 (c .before .before .v2 .given .0 .0) (record { sfits = c .before .known-told2 .given .0 .1 })) ∙ sym (ap (λ (v : Value). placed (coerceFloat (valOf is vs v))) (c .before .before .v2 .given .1))
+    λ is vs. ap (λ (x : Float). Out.Value (Is.Float x)) (c .int-to-float2 .ensures .0 ∙ read ofInt32 (c .before .before .v2 .given .0 .0) (record { sfits = c .before .known-told2 .given .0 .1 })) ∙ sym (ap (λ (v : Value). placed (coerceFloat (valOf is vs v))) (c .before .before .v2 .given .1))
 
 returns-3 : tie.Need-returns-3
 unfolding coerceFloat

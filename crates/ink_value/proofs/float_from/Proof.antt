@@ -22,12 +22,12 @@ number-float-requires c κs = search needs
 returns : tie.Need-returns
 returns c =
     let s = c .before .before .before in
-    λ v p. c .int-to-float .ensures ∙ ap ofInt32 (returned (c .before .greatest .ok) ∙ c .before .greatest .ensures) ∙ float-list _ _ _ _ _ (s .args .values .now) v p (c .before .before .match .keys1)
+    λ v p. c .int-to-float .ensures .0 ∙ ap ofInt32 (returned (c .before .greatest .ok) ∙ c .before .greatest .ensures) ∙ float-list _ _ _ _ _ (s .args .values .now) v p (c .before .before .match .keys1)
 
 returns-2 : tie.Need-returns-2
 returns-2 c =
     let s = c .before .before in
-    λ v p. c .int-to-float2 .ensures ∙ float-void _ _ _ _ _ (s .args .values .now) v p (c .before .match .keys2)
+    λ v p. c .int-to-float2 .ensures .0 ∙ float-void _ _ _ _ _ (s .args .values .now) v p (c .before .match .keys2)
 
 returns-3 : tie.Need-returns-3
 returns-3 c =

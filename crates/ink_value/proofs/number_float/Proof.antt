@@ -17,7 +17,7 @@ int-to-float-requires c κs = search needs
 returns-2 : tie.Need-returns-2
 returns-2 c =
     let s = c .before .before in
-    λ v vs start len p h. c .int-to-float .ensures ∙ ap ofInt32 (back32 (s .args .whole) (s .fits .whole)) ∙ float-whole _ _ _ _ _ vs v p (c .before .if1 .left) h
+    λ v vs start len p h. c .int-to-float .ensures .0 ∙ ap ofInt32 (back32 (s .args .whole) (s .fits .whole)) ∙ float-whole _ _ _ _ _ vs v p (c .before .if1 .left) h
 
 pub number-float-spec : {M : Type 1} → statement M
 number-float-spec = tie.close (tie.spec returns int-to-float-requires returns-2)

@@ -37,19 +37,19 @@ returns c = search needs
 
 returns-2 : tie.Need-returns-2
 returns-2 c =
-    c .int-to-float .ensures ∙ sym (ap realIn (c .before .enum-told .given .1))
+    c .int-to-float .ensures .0 ∙ sym (ap realIn (c .before .enum-told .given .1))
 
 returns-3 : tie.Need-returns-3
 returns-3 c =
-    c .int-to-float2 .ensures ∙ sym (ap realIn (c .before .enum-told2 .given .1))
+    c .int-to-float2 .ensures .0 ∙ sym (ap realIn (c .before .enum-told2 .given .1))
 
 returns-4 : tie.Need-returns-4
 returns-4 c =
-    c .int-to-float3 .ensures ∙ sym (ap realIn (c .before .enum-told3 .given .1))
+    c .int-to-float3 .ensures .0 ∙ sym (ap realIn (c .before .enum-told3 .given .1))
 
 returns-5 : tie.Need-returns-5
 returns-5 c =
-    c .int-to-float4 .ensures ∙ sym (ap realIn (c .before .enum-told4 .given .1))
+    c .int-to-float4 .ensures .0 ∙ sym (ap realIn (c .before .enum-told4 .given .1))
 
 pub real-in-spec : {M : Type 1} → statement M
 real-in-spec =

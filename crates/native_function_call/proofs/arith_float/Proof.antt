@@ -30,27 +30,27 @@ max-requires c κs = search needs
 returns : tie.Need-returns
 unfolding arithF
 returns c = let s = c .before .before in
-    at (λ o. arithF o (s .args .x) (s .args .y)) (c .before .match .keys1) (c .add .ensures)
+    at (λ o. arithF o (s .args .x) (s .args .y)) (c .before .match .keys1) (c .add .ensures .0)
 
 returns-2 : tie.Need-returns-2
 unfolding arithF
 returns-2 c = let s = c .before .before in
-    at (λ o. arithF o (s .args .x) (s .args .y)) (c .before .match .keys2) (c .sub .ensures)
+    at (λ o. arithF o (s .args .x) (s .args .y)) (c .before .match .keys2) (c .sub .ensures .0)
 
 returns-3 : tie.Need-returns-3
 unfolding arithF
 returns-3 c = let s = c .before .before in
-    at (λ o. arithF o (s .args .x) (s .args .y)) (c .before .match .keys3) (c .div .ensures)
+    at (λ o. arithF o (s .args .x) (s .args .y)) (c .before .match .keys3) (c .div .ensures .0)
 
 returns-4 : tie.Need-returns-4
 unfolding arithF
 returns-4 c = let s = c .before .before in
-    at (λ o. arithF o (s .args .x) (s .args .y)) (c .before .match .keys4) (c .mul .ensures)
+    at (λ o. arithF o (s .args .x) (s .args .y)) (c .before .match .keys4) (c .mul .ensures .0)
 
 returns-5 : tie.Need-returns-5
 unfolding arithF
 returns-5 c = let s = c .before .before in
-    at (λ o. arithF o (s .args .x) (s .args .y)) (c .before .match .keys5) (c .rem .ensures)
+    at (λ o. arithF o (s .args .x) (s .args .y)) (c .before .match .keys5) (c .rem .ensures .0)
 
 returns-6 : tie.Need-returns-6
 unfolding arithF

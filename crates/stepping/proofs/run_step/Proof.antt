@@ -100,7 +100,7 @@ returns-3 c =
 returns-4 : tie.Need-returns-4
 returns-4 c =
     let s = c .before .before .before .before .before .before .before .before .before in
-    λ slots q f t. push-steps (valuePushed (literalOf (decoded (s .args .format) (s .args .pack .now))) (map (valOf (s .args .slot-items .now) (s .args .slot-values .now)) slots)) (applyOp (definitions (s .args .ends .now) (s .args .defined .now) (s .args .format .limit))) (s .args .n) f _ _ _ _ _ (instrOf (s .args .i)) (pushFloat (c .before .before .before .i4 .given .0 .0)) (ap instrOf (c .before .before .before .i4 .given .1)) (_) (ap float (c .before .float-from-bits .ensures)) (c .push-value3 .ensures (s .args .format) [] [] (s .args .work-items .now) (s .args .work-values .now))
+    λ slots q f t. push-steps (valuePushed (literalOf (decoded (s .args .format) (s .args .pack .now))) (map (valOf (s .args .slot-items .now) (s .args .slot-values .now)) slots)) (applyOp (definitions (s .args .ends .now) (s .args .defined .now) (s .args .format .limit))) (s .args .n) f _ _ _ _ _ (instrOf (s .args .i)) (pushFloat (c .before .before .before .i4 .given .0 .0)) (ap instrOf (c .before .before .before .i4 .given .1)) (_) (ap float (c .before .float-from-bits .ensures .0)) (c .push-value3 .ensures (s .args .format) [] [] (s .args .work-items .now) (s .args .work-values .now))
 
 same-length-3 : tie.Need-same-length-3
 same-length-3 c = search needs

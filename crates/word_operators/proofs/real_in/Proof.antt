@@ -13,7 +13,7 @@ float-from-bits-requires c κs = search needs
 
 returns : tie.Need-returns
 returns c =
-    c .float-from-bits .ensures ∙ ap ofBits32 (c .before .low .ensures)
+    c .float-from-bits .ensures .0 ∙ ap ofBits32 (c .before .low .ensures)
 
 pub real-in-spec : {M : Type 1} → statement M
 real-in-spec = tie.close (tie.spec low-requires float-from-bits-requires returns)

@@ -1,7 +1,8 @@
 -- `ink_float::convert::float_from_bits` meets its contract. A pattern is a NaN's where it is above an infinity's, the sign dropped.
 -- Assumes nothing.
-use borrow.Author.Needs.{needs}
-use Rattle.ink_float.proofs.Floats.{no-nan-bits, nan-bits}
+use mathlib.Core.Path.{refl}
+use Rattle.binary32.proofs.Meets.{meant, of-bits-meets}
+use Rattle.ink_float.proofs.Nans.{no-nan-bits, nan-bits}
 use Rattle.ink_float.proofs.convert.float_from_bits.Statement.{statement}
 use Rattle.ink_float.proofs.convert.float_from_bits.Tie as tie
 
@@ -9,10 +10,10 @@ float-from-bits-result : tie.Need-float-from-bits-result
 float-from-bits-result c = no-nan-bits (c .before .args .b) (c .if1 .left)
 
 returns : tie.Need-returns
-returns c = nan-bits (c .before .args .b) (c .if1 .taken)
+returns c = meant (of-bits-meets (c .before .args .b)) (nan-bits (c .before .args .b) (c .if1 .taken))
 
 returns-2 : tie.Need-returns-2
-returns-2 c = search needs
+returns-2 c = meant (of-bits-meets (c .before .args .b)) refl
 
 pub float-from-bits-spec : {M : Type 1} → statement M
 float-from-bits-spec = tie.close (tie.spec float-from-bits-result returns returns-2)

@@ -8,6 +8,7 @@ use mir.Syntax.{w32, w64}
 use mir.Val.{SFits}
 use mir.ValLaws.{toZ-ofZ}
 use Rattle.ink_number.proofs.Signed.{back, back32}
+use Rattle.binary32.proofs.Meets.{to-int-meets}
 use Rattle.ink_float.proofs.Truncation.{inside, above, under, none}
 use Rattle.ink_float.proofs.convert.float_to_int.Statement.{statement}
 use Rattle.ink_float.proofs.convert.float_to_int.Tie as tie
@@ -31,18 +32,20 @@ cast-result : tie.Need-cast-result
 cast-result c = subst (λ (z : ℤ). SFits w32 z) (sym (whole c)) (fits c)
 
 returns : tie.Need-returns
-returns c = ap (back w32) (whole c) ∙ back32 (toSigned 31 (c .before .before .before .args .x)) (fits c)
+returns c =
+    let x = c .before .before .before .args .x in
+    ap (back w32) (whole c) ∙ back32 (toSigned 31 x) (fits c) ∙ to-int-meets x
 
 returns-2 : tie.Need-returns-2
 unfolding ofBits neg
-returns-2 c = above (c .before .before .args .x) (c .before .if1 .taken) (c .if2 .left)
+returns-2 c = let x = c .before .before .args .x in above x (c .before .if1 .taken) (c .if2 .left) ∙ to-int-meets x
 
 returns-3 : tie.Need-returns-3
-returns-3 c = none (c .before .before .args .x) (c .if3 .taken)
+returns-3 c = let x = c .before .before .args .x in none x (c .if3 .taken) ∙ to-int-meets x
 
 returns-4 : tie.Need-returns-4
 unfolding ofBits neg
-returns-4 c = under (c .before .before .args .x) (c .before .if1 .left) (c .if3 .left)
+returns-4 c = let x = c .before .before .args .x in under x (c .before .if1 .left) (c .if3 .left) ∙ to-int-meets x
 
 pub float-to-int-spec : {M : Type 1} → statement M
 float-to-int-spec = tie.close (tie.spec truncating-f32-to-i64-requires cast-result returns returns-2 returns-3 returns-4)

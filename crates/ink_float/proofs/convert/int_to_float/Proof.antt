@@ -3,6 +3,7 @@
 use borrow.Author.Needs.{needs}
 use mathlib.Core.Path.{ap, _∙_}
 use lib.Ieee.{neg}
+use Rattle.binary32.proofs.Meets.{meant, of-int-meets}
 use Rattle.ink_float.specs.Real.{ofInt32}
 use Rattle.ink_number.proofs.Signed.{widens}
 use Rattle.ink_float.proofs.Magnitude.{plain, turn}
@@ -30,12 +31,12 @@ magnitude-to-float-requires-2 c κs = search needs
 returns : tie.Need-returns
 returns c =
     let s = c .before .before in
-    c .magnitude-to-float .ensures ∙ ap ofInt32 (plain (s .args .n) (s .fits .n) (c .before .if1 .taken) .1)
+    meant (of-int-meets (s .args .n)) (c .magnitude-to-float .ensures .0 ∙ ap ofInt32 (plain (s .args .n) (s .fits .n) (c .before .if1 .taken) .1))
 
 returns-2 : tie.Need-returns-2
 returns-2 c =
     let s = c .before .before in
-    ap neg (c .magnitude-to-float2 .ensures) ∙ turn (s .args .n) (s .fits .n) (c .before .if1 .left) .2
+    meant (of-int-meets (s .args .n)) (ap neg (c .magnitude-to-float2 .ensures .0) ∙ turn (s .args .n) (s .fits .n) (c .before .if1 .left) .2)
 
 pub int-to-float-spec : {M : Type 1} → statement M
 int-to-float-spec = tie.close (tie.spec cast-magnitude-to-float magnitude-to-float-requires cast-magnitude-to-float-2 sub-magnitude-to-float cast-magnitude-to-float-3 magnitude-to-float-requires-2 returns returns-2)

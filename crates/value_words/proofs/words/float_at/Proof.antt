@@ -21,7 +21,7 @@ unheld-requires c κs = search needs
 returns : tie.Need-returns
 unfolding floatAt
 returns c =
-    rw (lt-ltb (c .before .before .args .w) (2 ^ 32) (c .before .if1 .taken)) (ap (λ (x : Float). Is.Float x) (c .float-from-bits .ensures))
+    rw (lt-ltb (c .before .before .args .w) (2 ^ 32) (c .before .if1 .taken)) (ap (λ (x : Float). Is.Float x) (c .float-from-bits .ensures .0))
 
 returns-2 : tie.Need-returns-2
 unfolding floatAt

@@ -68,7 +68,7 @@ returns-2 c =
 
 returns-3 : tie.Need-returns-3
 returns-3 c =
-    c .put3 .ensures ∙ ap (λ (w : ℕ). 2 ∷ w ∷ 0 ∷ []) (c .before .float-to-bits .ensures) ∙ sym (ap wordsOf (c .before .before .before .before .v3 .given .1))
+    c .put3 .ensures ∙ ap (λ (w : ℕ). 2 ∷ w ∷ 0 ∷ []) (c .before .float-to-bits .ensures .0) ∙ sym (ap wordsOf (c .before .before .before .before .v3 .given .1))
 
 returns-4 : tie.Need-returns-4
 returns-4 c =

@@ -1,0 +1,13 @@
+pub mod Compare
+pub mod Powers
+pub mod Binary32
+pub mod Values
+pub mod Grid
+pub mod Rounds
+pub mod Unique
+pub mod Sums
+pub mod Remainder
+pub mod Orders
+pub mod Tests
+pub mod Fields
+pub mod Meets

@@ -1,0 +1,2 @@
+pub mod ToEven
+pub mod Significand
