@@ -4,8 +4,10 @@
  */
 #include <inttypes.h>
 #include <stdio.h>
+#include <stdlib.h>
 #include <string.h>
 
+#include "ink_environment.h"
 #include "ink_operators.h"
 
 static const uint8_t sample[] = {
@@ -48,9 +50,11 @@ static size_t read_pack(int argc, char **argv) {
         return sizeof sample;
     }
     FILE *file = fopen(argv[1], "rb");
-    if (!file)
-        return 0;
-    size_t length = fread(pack, 1, sizeof pack, file);
+    size_t length = file ? fread(pack, 1, sizeof pack, file) : 0;
+    if (!file || ferror(file)) {
+        perror(argv[1]);
+        exit(2);
+    }
     fclose(file);
     return length;
 }
@@ -69,6 +73,8 @@ int main(int argc, char **argv) {
     const uint16_t no_items[1] = {0};
     const int32_t no_values[1] = {0};
     size_t sheets = pack[3];
+    /* the words that Float operators work by, whatever this program was linked with */
+    uint32_t own = ink_environment_enter();
     printf("sheets %zu\n", sheets);
     for (size_t sheet = 0; sheet < sheets; sheet++) {
         uint64_t answer[3];
@@ -80,6 +86,11 @@ int main(int argc, char **argv) {
         else
             print_value(answer);
         printf("\n");
+    }
+    ink_environment_leave(own);
+    if (fflush(stdout)) {
+        perror("standard output");
+        return 1;
     }
     return 0;
 }

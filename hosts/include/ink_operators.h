@@ -3,6 +3,10 @@
  * Every function below is proved to answer what the definitions in crates/ say, for any bytes and any words; the few duties of a caller
  * are named. The numbers of the questions are those of README.md.
  *
+ * ENVIRONMENT. A caller's duty for every function but ink_check, ink_vet and ink_definitions: the thread's floating-point control word is
+ * the one that threads start with (to the nearest, no flush-to-zero, no denormals-are-zero, exceptions masked). Under another word a
+ * Float may differ, or a signal end the program: -ffast-math sets such a word when a program starts. ink_environment.h has a guard.
+ *
  * VALUES. A value is three 64-bit words:
  *
  *     Bool     {0, 0 or 1, 0}

@@ -4,7 +4,8 @@ use std::path::PathBuf;
 fn main() {
     println!("cargo:rerun-if-env-changed=INK_LIB_DIR");
     let dir = match std::env::var_os("INK_LIB_DIR") {
-        Some(dir) => PathBuf::from(dir),
+        // a build script runs in the crate's folder: a path is taken from where cargo was started
+        Some(dir) => std::env::var_os("PWD").map(PathBuf::from).unwrap_or_default().join(dir),
         None => PathBuf::from(env!("CARGO_MANIFEST_DIR")).join("../../target/staticlib"),
     };
     let archive = dir.join("libink_operators.a");

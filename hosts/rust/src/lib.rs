@@ -1,5 +1,6 @@
 //! The native operators of Ink, proved, behind a safe interface: a [`Pack`] is checked once, when it is made, and then vets and runs its
-//! sheets, calls operators and converts values. Nothing that safe code can pass breaks what the archive's functions ask of their caller.
+//! sheets, calls operators and converts values. Nothing that safe code can pass breaks what the archive's functions ask of their caller,
+//! and every call has the floating-point environment that its answers are proved for, whatever the thread's own is ([`environment`]).
 //!
 //! ```
 //! use ink_operators::{op, Pack, Value, Workspace};
@@ -12,12 +13,14 @@
 //! # Ok::<(), ink_operators::Refusal>(())
 //! ```
 
+pub mod environment;
 pub mod op;
 pub mod sys;
 mod value;
 
 use std::fmt;
 
+use environment::guarded;
 use value::Entries;
 pub use value::{Kind, List, Value};
 
@@ -197,7 +200,7 @@ impl Pack {
         // SAFETY: each pointer and length are those of one slice or array; the work and result slices and the answer's words are lent to
         // the call alone. `ink_check` passed the bytes, `ends` and `defined` are what `ink_definitions` wrote of them, cut to its counts,
         // and the work slices are zero: they were made so, and each call leaves them so.
-        let number = unsafe {
+        let number = guarded(|| unsafe {
             sys::ink_run_checked(
                 self.bytes.as_ptr(),
                 self.bytes.len(),
@@ -221,7 +224,7 @@ impl Pack {
                 RESULT_PLACES,
                 &mut answer.words,
             )
-        };
+        });
         answer.read(number)
     }
 
@@ -238,7 +241,7 @@ impl Pack {
         let mut answer = Answer::new();
         // SAFETY: each pointer and length are those of one slice or array; the result slices and the answer's words are lent to the call
         // alone. `ends` and `defined` are what `ink_definitions` wrote of a pack that `ink_check` passed, cut to its counts.
-        let number = unsafe {
+        let number = guarded(|| unsafe {
             sys::ink_call_checked(
                 self.ends.as_ptr(),
                 self.ends.len(),
@@ -257,7 +260,7 @@ impl Pack {
                 RESULT_PLACES,
                 &mut answer.words,
             )
-        };
+        });
         answer.read(number)
     }
 
@@ -268,7 +271,7 @@ impl Pack {
         let mut answer = Answer::new();
         // SAFETY: each pointer and length are those of one slice or array; the result slices and the answer's words are lent to the call
         // alone.
-        let number = unsafe {
+        let number = guarded(|| unsafe {
             sys::ink_cast(
                 self.bytes.as_ptr(),
                 self.bytes.len(),
@@ -284,7 +287,7 @@ impl Pack {
                 RESULT_PLACES,
                 &mut answer.words,
             )
-        };
+        });
         answer.read(number)
     }
 
@@ -319,7 +322,7 @@ impl Pack {
         let mut answer = [0; 3];
         // SAFETY: `to` is one of the archive's three; each pointer and length are those of one slice or array, and `answer` is lent to the
         // call alone.
-        let number = unsafe {
+        let number = guarded(|| unsafe {
             to(
                 self.bytes.as_ptr(),
                 self.bytes.len(),
@@ -330,7 +333,7 @@ impl Pack {
                 lists.values.len(),
                 &mut answer,
             )
-        };
+        });
         match number {
             0 => Ok(value::read(answer, &[], &[])),
             _ => Err(Refusal { number, index: answer[0] }),
