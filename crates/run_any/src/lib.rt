@@ -11,20 +11,15 @@ use running::zero_items;
 use running::zero_values;
 use sheet::STACK_LIMIT;
 ghost use mathlib.Core.Path.{_≡_};
-ghost use mathlib.Core.List.{map};
 ghost use Prim.Native.Nat.{_<_, _≤_};
-ghost use lib.Dec.{ltb};
 ghost use lib.ListN.{length};
-ghost use Rattle.ink_number.specs.Answer.{gives, ask};
-ghost use Rattle.ink_value.specs.Slices.{valIn};
 ghost use Rattle.ink_value.specs.Value.{allFormed};
 ghost use Rattle.pack.specs.Bodies.{decoded};
 ghost use Rattle.pack.specs.Contents.{sheetCount};
 ghost use Rattle.pack.specs.Format.{format1, Runnable};
 ghost use Rattle.pack.specs.Judge.{Sound};
 ghost use Rattle.pack.specs.Read.{endsOf, definedOf};
-ghost use Rattle.running.specs.Run.{longEnough};
-ghost use Rattle.running.specs.Slices.{memoryIn, RunsIn, RunsAny};
+ghost use Rattle.running.specs.Slices.{longEnoughIn, RunsSeven, RunsSix, RunsAny};
 
 // Question 7 of the slots.
 pub fn all_formed(
@@ -59,7 +54,7 @@ pub fn long_enough(
     format: Format,
 ) -> bool
     requires { ⌜ Runnable format ⌝ }
-    ensures { λ r. ⌜ r ≡ longEnough format (now («work_items» .entry)) (now («work_values» .entry)) (now («result_items» .entry)) (now («result_values» .entry)) ⌝ }
+    ensures { λ r. ⌜ r ≡ longEnoughIn format «work_items» «work_values» «result_items» «result_values» ⌝ }
 {
     let limit = format.limit;
     let places = STACK_LIMIT * format.limit;
@@ -90,9 +85,10 @@ fn run_sheet(
     result_items: &mut [u16],
     result_values: &mut [i32],
 ) -> Ran
-    requires { ⌜ Sound format (now pack) × (sheet < sheetCount (now pack)) × (now ends ≡ endsOf (decoded format (now pack))) × (now defined ≡ definedOf (decoded format (now pack))) × Runnable format ⌝ }
-    ensures { λ r. ⌜ RunsIn format (ask 7 (memoryIn format slots «slot_items» «slot_values» «work_items» «work_values» «result_items» «result_values» (decoded format (now (pack .entry)))) (gives (decoded format (now (pack .entry)))))
-        sheet (map (valIn «slot_items» «slot_values») slots) r «work_items» «work_values» «result_items» «result_values» ⌝ }
+    requires { ⌜ Sound format (now pack) × (sheet < sheetCount (now pack)) × (now ends ≡ endsOf (decoded format (now pack)))
+        × (now defined ≡ definedOf (decoded format (now pack))) × Runnable format ⌝ }
+    ensures { λ r. ⌜ RunsSeven format pack sheet slots «slot_items» «slot_values» r
+        «work_items» «work_values» «result_items» «result_values» ⌝ }
 {
     if !all_formed(slots, slot_items, slot_values, defined.len(), ends.len()) {
         return Ran::Stopped {
@@ -146,8 +142,8 @@ fn run_passed(
     result_values: &mut [i32],
 ) -> Ran
     requires { ⌜ Sound format (now pack) × Runnable format × (format .limit ≤ length (now defined)) ⌝ }
-    ensures { λ r. ⌜ RunsIn format (ask 6 (ltb sheet (length (decoded format (now (pack .entry)) .sheets))) (ask 7 (memoryIn format slots «slot_items» «slot_values» «work_items» «work_values» «result_items» «result_values» (decoded format (now (pack .entry)))) (gives (decoded format (now (pack .entry))))))
-        sheet (map (valIn «slot_items» «slot_values») slots) r «work_items» «work_values» «result_items» «result_values» ⌝ }
+    ensures { λ r. ⌜ RunsSix format pack sheet slots «slot_items» «slot_values» r
+        «work_items» «work_values» «result_items» «result_values» ⌝ }
 {
     if pack_read::sheet_count(pack) <= sheet {
         return Ran::Stopped {
@@ -187,7 +183,8 @@ pub fn run(
     result_items: &mut [u16],
     result_values: &mut [i32],
 ) -> Ran
-    ensures { λ r. ⌜ RunsAny format1 pack sheet slots «slot_items» «slot_values» r «work_items» «work_values» «result_items» «result_values» ⌝ }
+    ensures { λ r. ⌜ RunsAny format1 pack sheet slots «slot_items» «slot_values» r
+        «work_items» «work_values» «result_items» «result_values» ⌝ }
 {
     let checked = pack_check::check(pack);
     match checked {

@@ -78,7 +78,8 @@ abbrev pub endAfter : Format → ℕ → List Val → Answer Pack → End Val
 endAfter F s slots a = started a (λ d. run (definitionsOf d F) (sheetOf d s) (literalOf d) slots) .end
 
 -- what a run comes to, from that answer: its end, and what it leaves in the result and the work slices
-pub record Runs (F : Format) (a : Answer Pack) (s : ℕ) (slots : List Val) (r : Ran) (wi wi′ : List ℕ) (wv wv′ : List ℤ) (ri ri′ : List ℕ) (rv rv′ : List ℤ) : Type 0 where
+pub record Runs (F : Format) (a : Answer Pack) (s : ℕ) (slots : List Val) (r : Ran) (wi wi′ : List ℕ) (wv wv′ : List ℤ)
+    (ri ri′ : List ℕ) (rv rv′ : List ℤ) : Type 0 where
   pub ran : RanTo (endAfter F s slots a) r ri ri′ rv rv′
   pub items-left : wi′ ≡ workAfter (workLimit F) 0 a wi
   pub values-left : wv′ ≡ workAfter (workLimit F) (pos 0) a wv

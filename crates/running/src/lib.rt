@@ -15,17 +15,15 @@ ghost use Rattle.ink_list.specs.Filled.{fill};
 ghost use Rattle.ink_value.specs.Val.{list};
 ghost use Rattle.ink_value.specs.Slices.{valIn};
 ghost use Rattle.kind_table.specs.Kinds.{operandCount};
-ghost use Rattle.native_function_call.specs.Lists.{definitions, definitionsIn};
-ghost use Rattle.pack.specs.Bodies.{decoded};
+ghost use Rattle.native_function_call.specs.Lists.{definitions};
 ghost use Rattle.pack.specs.Contents.{sheetCount};
 ghost use Rattle.pack.specs.Format.{slotLimit};
 ghost use Rattle.pack.specs.Instruction.{instrOf};
-ghost use Rattle.pack.specs.Read.{literalOf, program};
 ghost use Rattle.sheet.specs.Machine.{stackLimit, step, run};
 ghost use Rattle.stepping.specs.Steps.{Inputs, Put, Roomy, IfOp, IfSlot};
-ghost use Rattle.running.specs.Run.{Memory, runOf};
-ghost use Rattle.running.specs.Slices.{RanIn, Kept};
-ghost use Rattle.running.specs.Work.{Longest, cleared, Worked};
+ghost use Rattle.running.specs.Run.{Memory};
+ghost use Rattle.running.specs.Slices.{workIn, WorkedIn, ClearedIn, runIn, RanIn, Kept};
+ghost use Rattle.running.specs.Work.{Longest};
 
 // A run's answer. A List's entries stand in the result slices, from the start.
 pub enum Ran {
@@ -120,8 +118,7 @@ pub fn zero_values(s: &mut [i32], from: usize, n: usize)
 fn clear(used: &[usize], format: Format, work_items: &mut [u16], work_values: &mut [i32])
     requires { ⌜ (length (now used) ≡ stackLimit) × ((q : ℕ) → getD (now used) q 0 ≤ format .limit) ⌝ }
     requires { ⌜ Roomy format (now «work_items») (now «work_values») ⌝ }
-    ensures { λ _. ⌜ (now («work_items» .exit) ≡ cleared format 0 (now (used .entry)) stackLimit (now («work_items» .entry)))
-        × (now («work_values» .exit) ≡ cleared format (pos 0) (now (used .entry)) stackLimit (now («work_values» .entry))) ⌝ }
+    ensures { λ _. ⌜ ClearedIn format used «work_items» «work_values» ⌝ }
 {
     let mut q: usize = 0;
     while q < STACK_LIMIT {
@@ -150,8 +147,8 @@ fn work(
     requires { ⌜ Inputs format (now pack) (now ends) (now defined) slots (now «slot_items») (now «slot_values») ⌝ }
     requires { ⌜ (sheet < sheetCount (now pack)) × (now used ≡ replicate stackLimit 0) ⌝ }
     requires { ⌜ Roomy format (now «work_items») (now «work_values») ⌝ }
-    ensures { λ r. ⌜ Worked format (run (definitionsIn ends defined (format .limit)) (program (now (pack .entry)) sheet) (literalOf (decoded format (now (pack .entry)))) (map (valIn «slot_items» «slot_values») slots) .end) r
-        (now (used .exit)) (now («work_items» .entry)) (now («work_items» .exit)) (now («work_values» .entry)) (now («work_values» .exit)) ⌝ }
+    ensures { λ r. ⌜ WorkedIn format (workIn format pack ends defined sheet (map (valIn «slot_items» «slot_values») slots)) r used
+        «work_items» «work_values» ⌝ }
 {
     let span = pack_read::sheet_span(pack, sheet);
     let end = span.end;
@@ -227,9 +224,10 @@ pub fn run_checked(
     result_items: &mut [u16],
     result_values: &mut [i32],
 ) -> Ran
-    requires { ⌜ Inputs format (now pack) (now ends) (now defined) slots (now «slot_items») (now «slot_values») × (sheet < sheetCount (now pack)) ⌝ }
+    requires { ⌜ Inputs format (now pack) (now ends) (now defined) slots (now «slot_items») (now «slot_values»)
+        × (sheet < sheetCount (now pack)) ⌝ }
     requires { ⌜ Memory format (now «work_items») (now «work_values») (now «result_items») (now «result_values») ⌝ }
-    ensures { λ r. ⌜ RanIn (runOf format (now (pack .entry)) sheet (map (valIn «slot_items» «slot_values») slots)) r «result_items» «result_values» ⌝ }
+    ensures { λ r. ⌜ RanIn (runIn format pack sheet slots «slot_items» «slot_values») r «result_items» «result_values» ⌝ }
     ensures { λ _. ⌜ Kept «work_items» «work_values» ⌝ }
 {
     let mut used = [0usize; STACK_LIMIT];

@@ -14,19 +14,17 @@ use Rattle.pack.specs.Judge.{judge}
 use Rattle.pack.specs.Read.{definitionsOf, literalOf, sheetOf}
 use Rattle.pack.specs.declared.format.Format.{Format}
 use Rattle.sheet.specs.Machine.{ended, run, vet}
-use Rattle.sheet.specs.Whole.{opened, started, sheetRun, sheetVet, countOf}
+use Rattle.sheet.specs.Whole.{askedSix, opened, Suffices, started, sheetRun, sheetVet, countOf}
 use Rattle.sheet.specs.Foretold.{verdict, Begins, Foretold}
 use Rattle.sheet.proofs.Demand.{demand3}
 
 -- both calls open the pack alike, where their memory is long enough
-opened-alike : (F : Format) (p : List ℕ) (s : ℕ) (memory memory' : Pack → Bool) → ((d : Pack) → judge F p ≡ gives d → memory d ≡ true)
-    → ((d : Pack) → judge F p ≡ gives d → memory' d ≡ true) → opened F p s memory ≡ opened F p s memory'
+opened-alike : (F : Format) (p : List ℕ) (s : ℕ) (memory memory' : Pack → Bool) → Suffices F p memory → Suffices F p memory'
+    → opened F p s memory ≡ opened F p s memory'
 unfolding opened
 opened-alike F p s memory memory' h h' = go (judge F p) refl
   where
-    go : (a : Answer Pack) → judge F p ≡ a
-        → andThen a (λ d. ask 6 (ltb s (length (d .sheets))) (ask 7 (memory d) (gives d)))
-        ≡ andThen a (λ d. ask 6 (ltb s (length (d .sheets))) (ask 7 (memory' d) (gives d)))
+    go : (a : Answer Pack) → judge F p ≡ a → andThen a (askedSix s memory) ≡ andThen a (askedSix s memory')
     go (gives d) e = ap (λ (t : Bool). ask 6 (ltb s (length (d .sheets))) (ask 7 t (gives d))) (h d e ∙ sym (h' d e))
     go (refuses r) e = refl
 
@@ -41,7 +39,7 @@ module _ (F : Format) (s : ℕ) (f : List ℕ) (slots : List Val) where
 
 -- f is what stands in the forecast slice
 pub demand3-whole : (F : Format) (p : List ℕ) (s : ℕ) (memory memory' : Pack → Bool) (f : List ℕ) (slots : List Val)
-    → ((d : Pack) → judge F p ≡ gives d → memory d ≡ true) → ((d : Pack) → judge F p ≡ gives d → memory' d ≡ true)
+    → Suffices F p memory → Suffices F p memory'
     → ((k : Kind) → sheetVet F p s memory (map kindOf slots) .end ≡ ended k → Begins f (sheetVet F p s memory (map kindOf slots) .stacks))
     → Foretold (countOf (opened F p s memory) s) (verdict (sheetVet F p s memory (map kindOf slots) .end)) f (sheetRun F p s memory' slots)
 demand3-whole F p s memory memory' f slots h h' w =

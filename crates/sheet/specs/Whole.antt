@@ -1,5 +1,6 @@
 -- A call on the bytes of a pack: questions 1 to 7, and then the machine. Assumes nothing.
-use mathlib.Core.Bool.{Bool}
+use mathlib.Core.Path.{_≡_}
+use mathlib.Core.Bool.{Bool, true}
 use mathlib.Core.List.{List, []}
 use Prim.Native.Nat.{ℕ}
 use lib.Dec.{ltb}
@@ -12,9 +13,21 @@ use Rattle.pack.specs.Read.{definitionsOf, literalOf, sheetOf}
 use Rattle.pack.specs.declared.format.Format.{Format}
 use Rattle.sheet.specs.Machine.{Run, stopped, run, vet}
 
--- questions 1 to 5; 6, "Does the sheet number exist?"; and 7, of which `memory` is the answer
+-- question 7 of a pack that passed, of which `memory` is the answer
+abbrev pub askedSeven : (Pack → Bool) → Pack → Answer Pack
+askedSeven memory d = ask 7 (memory d) (gives d)
+
+-- question 6 before it: "Does the sheet number exist?"
+abbrev pub askedSix : ℕ → (Pack → Bool) → Pack → Answer Pack
+askedSix s memory d = ask 6 (ltb s (length (d .sheets))) (askedSeven memory d)
+
+-- and before them questions 1 to 5
 unfoldable pub opened : Format → List ℕ → ℕ → (Pack → Bool) → Answer Pack
-opened F p s memory = andThen (judge F p) (λ d. ask 6 (ltb s (length (d .sheets))) (ask 7 (memory d) (gives d)))
+opened F p s memory = andThen (judge F p) (askedSix s memory)
+
+-- lent memory suffices: question 7 is answered yes where the pack passed
+abbrev pub Suffices : Format → List ℕ → (Pack → Bool) → Type 0
+Suffices F p memory = (d : Pack) → judge F p ≡ gives d → memory d ≡ true
 
 -- "an instruction index (0 for 1 to 7)"
 abbrev pub started : {X : Type 0} → Answer Pack → (Pack → Run X) → Run X

@@ -30,7 +30,7 @@ use Rattle.pack.proofs.Values.{pack-tables}
 use Rattle.sheet.specs.Machine.{stackLimit, topped, stepOp, stepPush, step}
 use Rattle.sheet.specs.Stack.{stackOf}
 use Rattle.sheet.proofs.Stack.{op-unknown, op-few, op-one, op-two, op-three, stack-length, getD-any}
-use Rattle.stepping.specs.Steps.{AnswerCase, Answered, StepCase, Steps, Operands, Known, startAt, Put, pushed, Inputs}
+use Rattle.stepping.specs.Steps.{AnswerCase, Answered, StepCase, Steps, Operands, taken, Known, startAt, Put, pushed, Inputs}
 use Rattle.stepping.specs.declared.Step.{Step}
 use Rattle.stepping.specs.declared.Step.the-variants as St
 
@@ -53,11 +53,7 @@ wf-in {L} is vs (Is.List o s n) f = rising-in L is vs (Is.List o s n) f
 wf-in is vs Is.Void f = tt
 
 module _ (is : List ℕ) (vs : List ℤ) (a b c : Value) where
-  -- the operands
-  abbrev pub operandsOf : ℕ → List Val
-  operandsOf n = take n (valOf is vs a ∷ valOf is vs b ∷ valOf is vs c ∷ [])
-
-  all-wf : {L : ℕ} (n : ℕ) → FirstFormed L is vs n a b c → AllWf L (operandsOf n)
+  all-wf : {L : ℕ} (n : ℕ) → FirstFormed L is vs n a b c → AllWf L (taken is vs a b c n)
   all-wf zero f = tt
   all-wf (suc zero) f = (wf-in is vs a (f .one (omega arith)), tt)
   all-wf (suc (suc zero)) f = (wf-in is vs a (f .one (omega arith)), (wf-in is vs b (f .two (omega arith)), tt))
@@ -66,31 +62,31 @@ module _ (is : List ℕ) (vs : List ℤ) (a b c : Value) where
 
   module _ (u : ListDefinitions) (o n : ℕ) where
     pub call-rises : (L : ℕ) → 1 ≤ L → FirstFormed L is vs n a b c → u .limit ≡ L
-        → length (u .defined) ≤ u .limit → Rising L (written (call u o n (operandsOf n)))
+        → length (u .defined) ≤ u .limit → Rising L (written (call u o n (taken is vs a b c n)))
     unfolding call
     call-rises L some f e w = go (known o) (eqb n (arity o))
       where
-        wf : AllWf (u .limit) (operandsOf n)
+        wf : AllWf (u .limit) (taken is vs a b c n)
         wf = rw e (all-wf n f)
 
-        go : (s t : Bool) → Rising L (written (ask 8 s (ask 10 t (applyOp u o (operandsOf n)))))
-        go true true = rw (← e) (apply-fine u (omega arith) w o (operandsOf n) wf .rising)
+        go : (s t : Bool) → Rising L (written (ask 8 s (ask 10 t (applyOp u o (taken is vs a b c n)))))
+        go true true = rw (← e) (apply-fine u (omega arith) w o (taken is vs a b c n) wf .rising)
         go true false = tt
         go false t = tt
 
     -- by the codes of the operands' kinds
     module _ {i j l k : ℕ} (p : i ≡ codeOfValue a) (q : j ≡ codeOfValue b) (r : l ≡ codeOfValue c)
         (g : KindsGiven o n (take n (kindAt i ∷ kindAt j ∷ kindAt l ∷ [])) k) where
-      kinds-are : kindCall o n (map kindOf (operandsOf n)) ≡ decoded k
+      kinds-are : kindCall o n (map kindOf (taken is vs a b c n)) ≡ decoded k
       kinds-are = ap (kindCall o n) (codes-are is vs n a b c i j l p q r) ∙ sym (g .answered)
 
-      pub call-computes : k < 5 → call u o n (operandsOf n) ≡ compute u o (operandsOf n) (kindAt k)
-      call-computes h = call-gives u o n (operandsOf n) (kindAt k) (kinds-are ∙ decoded-kind k h)
+      pub call-computes : k < 5 → call u o n (taken is vs a b c n) ≡ compute u o (taken is vs a b c n) (kindAt k)
+      call-computes h = call-gives u o n (taken is vs a b c n) (kindAt k) (kinds-are ∙ decoded-kind k h)
 
-      pub call-stops : 4 < k → call u o n (operandsOf n) ≡ refuses k
-      call-stops h = call-refuses u o n (operandsOf n) k (kinds-are ∙ decoded-no k h)
+      pub call-stops : 4 < k → call u o n (taken is vs a b c n) ≡ refuses k
+      call-stops h = call-refuses u o n (taken is vs a b c n) k (kinds-are ∙ decoded-no k h)
 
-  call-applies : (u : ListDefinitions) (o n : ℕ) → 1 ≤ n → operandCount o ≡ n → call u o n (operandsOf n) ≡ applyOp u o (operandsOf n)
+  call-applies : (u : ListDefinitions) (o n : ℕ) → 1 ≤ n → operandCount o ≡ n → call u o n (taken is vs a b c n) ≡ applyOp u o (taken is vs a b c n)
   unfolding call
   call-applies u o n h e = let t = takes o n h e in rw (t .is-known, t .arity-is, eq-eqb n n refl)
 
@@ -131,7 +127,7 @@ push-topped n x f = rw (stack-length f n) (go (ltb n stackLimit))
 -- an operator's operands are the topmost
 module _ (wi : List ℕ) (wv : List ℤ) (a b c : Value) (f : ℕ → Val) (u : ListDefinitions) (o n : ℕ) where
   pub operands-topped : (count : ℕ) → Operands wi wv a b c n count f → operandCount o ≡ count → 1 ≤ count → count ≤ n
-      → topped (stackOf f (n - count)) (call u o count (operandsOf wi wv a b c count)) ≡ stepOp (applyOp u) o (stackOf f n)
+      → topped (stackOf f (n - count)) (call u o count (taken wi wv a b c count)) ≡ stepOp (applyOp u) o (stackOf f n)
   operands-topped zero t e h l = absurd (omega arith)
   operands-topped (suc zero) t e h l =
       let x : valOf wi wv a ≡ f (n - 1) = sym (t .one h l) in

@@ -2,20 +2,21 @@
 -- Assumes nothing.
 use mathlib.Core.Path.{_≡_}
 use mathlib.Core.Bool.{false}
-use mathlib.Core.List.{List, _∷_}
+use mathlib.Core.List.{List, [], _∷_}
 use Prim.Native.Nat.{ℕ, _+_, _*_, _-_, _≤_, _<_}
 use lib.Dec.{ltb}
 use lib.IntN.{ℤ}
-use lib.ListN.{length, getD}
+use lib.ListN.{length, getD, take}
 use Rattle.ink_number.specs.Answer.{Answer, gives, refuses, ask}
-use Rattle.list_definitions.specs.Defs.{Tables}
+use Rattle.list_definitions.specs.Defs.{ListDefinitions, Tables}
 use Rattle.ink_list.specs.Entries.{items, values, Rising}
 use Rattle.ink_list.specs.Filled.{fill}
-use Rattle.ink_value.specs.Val.{Val, bool, int, float, list, void}
+use Rattle.ink_value.specs.Val.{Val, bool, int, float, list, void, listK}
 use Rattle.ink_value.specs.Convert.{entriesOf}
 use Rattle.ink_value.specs.Value.{valOf, Formed, FirstFormed}
 use Rattle.ink_value.specs.declared.Value.{Value}
 use Rattle.ink_value.specs.declared.Value.the-variants as Is
+use Rattle.native_function_call.specs.Apply.{compute}
 use Rattle.pack.specs.Bodies.{decoded}
 use Rattle.pack.specs.Format.{Runnable, definitionLimit}
 use Rattle.pack.specs.Instruction.{Instr, op, push, pushBool, pushInt, pushFloat, pushList, pushSlot, pushVoid}
@@ -47,7 +48,7 @@ pub record Put (F : Format) (x : Val) (at : ℕ) (r : Value) (oi oi′ : List �
 -- ---- one step
 
 -- what a run goes by: a pack that passed, its definitions' tables, and slots whose lists stand well formed in their slices
-pub record Inputs (F : Format) (p : List ℕ) (ends : List ℕ) (defined : List ℤ) (slots : List Value) (si : List ℕ) (sv : List ℤ) : Type 0 where
+pub record Inputs (F : Format) (p ends : List ℕ) (defined : List ℤ) (slots : List Value) (si : List ℕ) (sv : List ℤ) : Type 0 where
   pub sound : Sound F p
   pub ends-are : ends ≡ endsOf (decoded F p)
   pub defined-are : defined ≡ definedOf (decoded F p)
@@ -78,12 +79,17 @@ AnswerCase F a place (St.No q) wi wi′ wv wv′ = Refuses a q wi wi′ wv wv′
 pub record Answered (F : Format) (a : Answer Val) (place : ℕ) (r : Step) (wi wi′ : List ℕ) (wv wv′ : List ℤ) : Type 0 where
   pub by : AnswerCase F a place r wi wi′ wv wv′
 
+-- the same of an answer that is no List: nothing is written, whatever the format is and the work slices hold
+abbrev pub Bare : Answer Val → ℕ → Step → Type 0
+Bare a place r = (F : Format) (wi : List ℕ) (wv : List ℤ) → Answered F a place r wi wi wv wv
+
 -- a push on a stack of n: question 9
 abbrev pub pushed : ℕ → Val → Answer Val
 pushed n x = ask 9 (ltb n stackLimit) (gives x)
 
 -- a value on top of the p lowest of a stack of n whose values, from below, are those of f
-pub record Grown (F : Format) (n : ℕ) (a : Answer (List Val)) (f : ℕ → Val) (p : ℕ) (v : Value) (wi wi′ : List ℕ) (wv wv′ : List ℤ) : Type 0 where
+pub record Grown (F : Format) (n : ℕ) (a : Answer (List Val)) (f : ℕ → Val) (p : ℕ) (v : Value) (wi wi′ : List ℕ) (wv wv′ : List ℤ)
+    : Type 0 where
   pub value : Val
   pub given : a ≡ gives (value ∷ stackOf f p)
   pub within : p ≤ n
@@ -96,6 +102,16 @@ StepCase F n a f (St.No q) wi wi′ wv wv′ = Refuses a q wi wi′ wv wv′
 
 pub record Steps (F : Format) (n : ℕ) (a : Answer (List Val)) (f : ℕ → Val) (r : Step) (wi wi′ : List ℕ) (wv wv′ : List ℤ) : Type 0 where
   pub by : StepCase F n a f r wi wi′ wv wv′
+
+-- ---- an operator
+
+-- the first n of three operands, their entries in two slices
+abbrev pub taken : List ℕ → List ℤ → Value → Value → Value → ℕ → List Val
+taken wi wv a b c n = take n (valOf wi wv a ∷ valOf wi wv b ∷ valOf wi wv c ∷ [])
+
+-- the answer of an operator whose result is a List
+abbrev pub listGiven : ListDefinitions → ℕ → List Val → Answer Val
+listGiven u o vs = compute u o vs listK
 
 -- an operator's operands, in order: the `count` topmost of a stack of n, where there are as many
 pub record Operands (wi : List ℕ) (wv : List ℤ) (a b c : Value) (n count : ℕ) (f : ℕ → Val) : Type 0 where

@@ -17,22 +17,21 @@ ghost use lib.IntN.{ℤ};
 ghost use lib.ListN.{length, take};
 ghost use Rattle.ink_number.specs.Int.{divided};
 ghost use Rattle.ink_list.specs.Entries.{Rising, itemNumbers};
-ghost use Rattle.ink_value.specs.Val.{Val, list, listK, kindAt};
+ghost use Rattle.ink_value.specs.Val.{Val, list, kindAt};
 ghost use Rattle.ink_value.specs.Slices.{valIn};
 ghost use Rattle.ink_value.specs.Value.{valOf, codeOfValue, lenOf, written, Formed, FirstFormed};
 ghost use Rattle.kind_table.specs.Kinds.{operandCount, KindsGiven};
 ghost use Rattle.native_function_call.specs.Apply.{ofInt, applyOp, call, compute};
 ghost use Rattle.list_definitions.specs.Defs.{ListDefinitions};
 ghost use Rattle.native_function_call.specs.Lists.{definitions, definitionsIn};
-ghost use Rattle.pack.specs.Bodies.{decoded};
 ghost use Rattle.pack.specs.Contents.{literalCount};
 ghost use Rattle.pack.specs.declared.format.Format.{Format};
 ghost use Rattle.pack.specs.Instruction.{instrOf, Allowed};
 ghost use Rattle.pack.specs.Judge.{Sound};
-ghost use Rattle.pack.specs.Read.{literalOf};
-ghost use Rattle.sheet.specs.Machine.{stackLimit, stepOp, step, valuePushed, run};
+ghost use Rattle.sheet.specs.Machine.{stackLimit, stepOp, run};
 ghost use Rattle.sheet.specs.Stack.{stackOf};
-ghost use Rattle.stepping.specs.Steps.{Inputs, IfOp, Slots, SlotIs, Put, Answered, pushed, Steps, Operands, OperandsFormed, Known, Roomy};
+ghost use Rattle.stepping.specs.Steps.{Inputs, IfOp, Slots, SlotIs, Bare, pushed, taken, listGiven, OperandsFormed, Known, Roomy};
+ghost use Rattle.stepping.specs.Slices.{StoredIn, AnsweredIn, takenIn, OperandsIn, StepsIn, literalIn, stepIn};
 
 // What one instruction does to the stack: a value is put at a place, which is then the top; or a question says no.
 pub enum Step {
@@ -56,7 +55,7 @@ pub fn store(
 ) -> Value
     requires { ⌜ Formed itemNumbers (now items) (now values) v ⌝ }
     requires { ⌜ (to + lenOf v ≤ length (now oi)) × (to + lenOf v ≤ length (now ov)) ⌝ }
-    ensures { λ r. ⌜ ((F : Format) → Formed (F .limit) (now (items .entry)) (now (values .entry)) v → Put F (valIn items values v) to r (now (oi .entry)) (now (oi .exit)) (now (ov .entry)) (now (ov .exit))) ⌝ }
+    ensures { λ r. ⌜ StoredIn items values v to r oi ov ⌝ }
 {
     if ink_value::kind(v) != 3 {
         return v;
@@ -76,7 +75,7 @@ pub fn store(
 // A push of a value that is no list, on a stack of n: question 9.
 fn push_value(value: Value, n: usize) -> Step
     requires { ⌜ (codeOfValue value ≡ 3 → ⊥) ⌝ }
-    ensures { λ r. ⌜ ((F : Format) (is : List ℕ) (vs : List ℤ) (wi : List ℕ) (wv : List ℤ) → Answered F (pushed n (valOf is vs value)) n r wi wi wv wv) ⌝ }
+    ensures { λ r. ⌜ ((is : List ℕ) (vs : List ℤ) → Bare (pushed n (valOf is vs value)) n r) ⌝ }
 {
     if n < STACK_LIMIT {
         Step::Put { place: n, value }
@@ -97,7 +96,7 @@ fn push_slot(
 ) -> Step
     requires { ⌜ Formed (format .limit) (now «slot_items») (now «slot_values») v ⌝ }
     requires { ⌜ Roomy format (now «work_items») (now «work_values») ⌝ }
-    ensures { λ r. ⌜ Answered format (pushed n (valIn «slot_items» «slot_values» v)) n r (now («work_items» .entry)) (now («work_items» .exit)) (now («work_values» .entry)) (now («work_values» .exit)) ⌝ }
+    ensures { λ r. ⌜ AnsweredIn format (pushed n (valIn «slot_items» «slot_values» v)) n r «work_items» «work_values» ⌝ }
 {
     if STACK_LIMIT <= n {
         return Step::No(9);
@@ -119,8 +118,7 @@ fn push_literal(
     requires { ⌜ Sound format (now pack) ⌝ }
     requires { ⌜ l < literalCount (now pack) ⌝ }
     requires { ⌜ Roomy format (now «work_items») (now «work_values») ⌝ }
-    ensures { λ r. ⌜ Answered format (pushed n (list (literalOf (decoded format (now (pack .entry))) l .origins) (literalOf (decoded format (now (pack .entry))) l .entries))) n r
-        (now («work_items» .entry)) (now («work_items» .exit)) (now («work_values» .entry)) (now («work_values» .exit)) ⌝ }
+    ensures { λ r. ⌜ AnsweredIn format (pushed n (literalIn format pack l)) n r «work_items» «work_values» ⌝ }
 {
     if STACK_LIMIT <= n {
         return Step::No(9);
@@ -139,7 +137,7 @@ fn push_literal(
 // A result that is an Int, at a place of the stack, or question 15.
 fn whole_result(d: Divided, place: usize) -> Step
     requires { ⌜ place < stackLimit ⌝ }
-    ensures { λ r. ⌜ ((F : Format) (wi : List ℕ) (wv : List ℤ) → Answered F (ofInt (divided d)) place r wi wi wv wv) ⌝ }
+    ensures { λ r. ⌜ Bare (ofInt (divided d)) place r ⌝ }
 {
     match d {
         Divided::Value(z) => Step::Put {
@@ -163,8 +161,7 @@ fn scalar_result(
 ) -> Step
     requires { ⌜ (kind ≡ 3 → ⊥) × (1 ≤ n) × (n ≤ 2) × (place < stackLimit) ⌝ }
     requires { ⌜ Formed itemNumbers (now items) (now values) a × (n ≡ 2 → Formed itemNumbers (now items) (now values) b) ⌝ }
-    ensures { λ r. ⌜ ((F : Format) (u : ListDefinitions) (x : Val) → Answered F (compute u op (take n (valIn items values a ∷ valIn items values b ∷ x ∷ [])) (kindAt kind)) place r
-        (now (items .entry)) (now (items .entry)) (now (values .entry)) (now (values .entry))) ⌝ }
+    ensures { λ r. ⌜ ((u : ListDefinitions) (c : Value) → Bare (compute u op (takenIn items values a b c n) (kindAt kind)) place r) ⌝ }
 {
     let ka = ink_value::kind(a);
     let za = ink_value::whole_in(a);
@@ -218,12 +215,14 @@ fn list_through(
     work_items: &mut [u16],
     work_values: &mut [i32],
 ) -> Step
-    requires { ⌜ Known format (now ends) (now defined) × Roomy format (now «work_items») (now «work_values») × (1 ≤ count) × (count ≤ 3) × (place < stackLimit) ⌝ }
+    requires { ⌜ Known format (now ends) (now defined) × Roomy format (now «work_items») (now «work_values»)
+        × (1 ≤ count) × (count ≤ 3) × (place < stackLimit) ⌝ }
     requires { ⌜ FirstFormed (format .limit) (now «work_items») (now «work_values») count a b c ⌝ }
-    requires { ⌜ Rising (format .limit) (written (compute (definitions (now ends) (now defined) (format .limit)) op (take count (valOf (now «work_items») (now «work_values») a ∷ valOf (now «work_items») (now «work_values») b ∷ valOf (now «work_items») (now «work_values») c ∷ [])) listK)) ⌝ }
+    requires { ⌜ Rising (format .limit) (written (listGiven (definitions (now ends) (now defined) (format .limit)) op
+        (taken (now «work_items») (now «work_values») a b c count))) ⌝ }
     requires { ⌜ (format .limit ≤ length (now items)) × (format .limit ≤ length (now values)) ⌝ }
-    ensures { λ r. ⌜ Answered format (compute (definitionsIn ends defined (format .limit)) op (take count (valIn «work_items» «work_values» a ∷ valIn «work_items» «work_values» b ∷ valIn «work_items» «work_values» c ∷ [])) listK) place r
-        (now («work_items» .entry)) (now («work_items» .exit)) (now («work_values» .entry)) (now («work_values» .exit)) ⌝ }
+    ensures { λ r. ⌜ AnsweredIn format (listGiven (definitionsIn ends defined (format .limit)) op
+        (takenIn «work_items» «work_values» a b c count)) place r «work_items» «work_values» ⌝ }
 {
     let outcome = native_function_call::list(
         op,
@@ -263,11 +262,13 @@ fn list_result(
     work_items: &mut [u16],
     work_values: &mut [i32],
 ) -> Step
-    requires { ⌜ Known format (now ends) (now defined) × Roomy format (now «work_items») (now «work_values») × (1 ≤ count) × (count ≤ 3) × (place < stackLimit) ⌝ }
+    requires { ⌜ Known format (now ends) (now defined) × Roomy format (now «work_items») (now «work_values»)
+        × (1 ≤ count) × (count ≤ 3) × (place < stackLimit) ⌝ }
     requires { ⌜ FirstFormed (format .limit) (now «work_items») (now «work_values») count a b c ⌝ }
-    requires { ⌜ Rising (format .limit) (written (compute (definitions (now ends) (now defined) (format .limit)) op (take count (valOf (now «work_items») (now «work_values») a ∷ valOf (now «work_items») (now «work_values») b ∷ valOf (now «work_items») (now «work_values») c ∷ [])) listK)) ⌝ }
-    ensures { λ r. ⌜ Answered format (compute (definitionsIn ends defined (format .limit)) op (take count (valIn «work_items» «work_values» a ∷ valIn «work_items» «work_values» b ∷ valIn «work_items» «work_values» c ∷ [])) listK) place r
-        (now («work_items» .entry)) (now («work_items» .exit)) (now («work_values» .entry)) (now («work_values» .exit)) ⌝ }
+    requires { ⌜ Rising (format .limit) (written (listGiven (definitions (now ends) (now defined) (format .limit)) op
+        (taken (now «work_items») (now «work_values») a b c count))) ⌝ }
+    ensures { λ r. ⌜ AnsweredIn format (listGiven (definitionsIn ends defined (format .limit)) op
+        (takenIn «work_items» «work_values» a b c count)) place r «work_items» «work_values» ⌝ }
 {
     if format.limit <= SHORT_LIMIT {
         let mut items = [0u16; SHORT_LIMIT];
@@ -332,10 +333,11 @@ fn operate(
     work_items: &mut [u16],
     work_values: &mut [i32],
 ) -> Step
-    requires { ⌜ Known format (now ends) (now defined) × Roomy format (now «work_items») (now «work_values») × (place < stackLimit) × (op < 32) × (count ≡ operandCount op) × (1 ≤ count) ⌝ }
+    requires { ⌜ Known format (now ends) (now defined) × Roomy format (now «work_items») (now «work_values»)
+        × (place < stackLimit) × (op < 32) × (count ≡ operandCount op) × (1 ≤ count) ⌝ }
     requires { ⌜ FirstFormed (format .limit) (now «work_items») (now «work_values») count a b c ⌝ }
-    ensures { λ r. ⌜ Answered format (call (definitionsIn ends defined (format .limit)) op count (take count (valIn «work_items» «work_values» a ∷ valIn «work_items» «work_values» b ∷ valIn «work_items» «work_values» c ∷ []))) place r
-        (now («work_items» .entry)) (now («work_items» .exit)) (now («work_values» .entry)) (now («work_values» .exit)) ⌝ }
+    ensures { λ r. ⌜ AnsweredIn format (call (definitionsIn ends defined (format .limit)) op count
+        (takenIn «work_items» «work_values» a b c count)) place r «work_items» «work_values» ⌝ }
 {
     let kind = kinds(
         op,
@@ -388,10 +390,11 @@ fn run_op(
     work_values: &mut [i32],
 ) -> Step
     requires { ⌜ (op < 32) × (n ≤ stackLimit) × Known format (now ends) (now defined) ⌝ }
-    requires { ⌜ Roomy format (now «work_items») (now «work_values») × OperandsFormed format (now «work_items») (now «work_values») a b c n (operandCount op) ⌝ }
-    ensures { λ r. ⌜ ((f : ℕ → Val) → Operands (now («work_items» .entry)) (now («work_values» .entry)) a b c n (operandCount op) f
-        → Steps format n (stepOp (applyOp (definitionsIn ends defined (format .limit))) op (stackOf f n)) f r
-        (now («work_items» .entry)) (now («work_items» .exit)) (now («work_values» .entry)) (now («work_values» .exit))) ⌝ }
+    requires { ⌜ Roomy format (now «work_items») (now «work_values»)
+        × OperandsFormed format (now «work_items») (now «work_values») a b c n (operandCount op) ⌝ }
+    ensures { λ r. ⌜ ((f : ℕ → Val) → OperandsIn «work_items» «work_values» a b c n (operandCount op) f
+        → StepsIn format n (stepOp (applyOp (definitionsIn ends defined (format .limit))) op (stackOf f n)) f r
+        «work_items» «work_values») ⌝ }
 {
     let count = kind_table::operands(op);
     if count == 0 {
@@ -432,14 +435,15 @@ pub fn run_step(
     work_items: &mut [u16],
     work_values: &mut [i32],
 ) -> Step
-    requires { ⌜ Inputs format (now pack) (now ends) (now defined) [] (now «slot_items») (now «slot_values») × Formed (format .limit) (now «slot_items») (now «slot_values») slot ⌝ }
+    requires { ⌜ Inputs format (now pack) (now ends) (now defined) [] (now «slot_items») (now «slot_values»)
+        × Formed (format .limit) (now «slot_items») (now «slot_values») slot ⌝ }
     requires { ⌜ Allowed (literalCount (now pack)) (instrOf i) × (n ≤ stackLimit) ⌝ }
-    requires { ⌜ Roomy format (now «work_items») (now «work_values») × IfOp (instrOf i) (λ o. OperandsFormed format (now «work_items») (now «work_values») a b c n (operandCount o)) ⌝ }
+    requires { ⌜ Roomy format (now «work_items») (now «work_values»)
+        × IfOp (instrOf i) (λ o. OperandsFormed format (now «work_items») (now «work_values») a b c n (operandCount o)) ⌝ }
     ensures { λ r. ⌜ ((slots : Slots) → SlotIs slots slot (instrOf i)
-        → (f : ℕ → Val) → IfOp (instrOf i) (λ o. Operands (now («work_items» .entry)) (now («work_values» .entry)) a b c n (operandCount o) f)
-        → Steps format n (step (valuePushed (literalOf (decoded format (now (pack .entry)))) (map (valIn «slot_items» «slot_values») slots))
-        (applyOp (definitionsIn ends defined (format .limit))) (instrOf i) (stackOf f n)) f r
-        (now («work_items» .entry)) (now («work_items» .exit)) (now («work_values» .entry)) (now («work_values» .exit))) ⌝ }
+        → (f : ℕ → Val) → IfOp (instrOf i) (λ o. OperandsIn «work_items» «work_values» a b c n (operandCount o) f)
+        → StepsIn format n (stepIn format pack ends defined (map (valIn «slot_items» «slot_values») slots) (instrOf i) (stackOf f n)) f r
+        «work_items» «work_values») ⌝ }
 {
     match i {
         Instruction::Op(op) => run_op(

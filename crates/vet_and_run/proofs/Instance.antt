@@ -28,7 +28,7 @@ use Rattle.pack.specs.Read.{endsOf, definitionsOf, literalOf, sheetOf}
 use Rattle.pack.specs.declared.format.Format.{Format}
 use Rattle.sheet.specs.Foretold.{Verdict, passed, turned, verdict}
 use Rattle.sheet.specs.Machine.{ended, stopped, step, runFrom, run, vet}
-use Rattle.sheet.specs.Whole.{opened, started, countOf}
+use Rattle.sheet.specs.Whole.{opened, Suffices, started, countOf}
 use Rattle.sheet.proofs.Whole.{opened-all}
 use Rattle.vetting.specs.Vet.{forecastLimit, verdictOf, CountIs, memory as vettingMemory}
 use Rattle.vetting.specs.declared.Vetted.{Vetted}
@@ -36,19 +36,19 @@ use Rattle.vetting.specs.declared.Vetted.the-variants as Vet
 use Rattle.stepping.specs.Steps.{workLimit}
 use Rattle.running.specs.Run.{memory, ranTo, endAfter}
 use Rattle.running.specs.declared.Ran.the-variants as Rn
-use Rattle.vet_and_run.specs.Both.{Ready, ForetoldAnswer, Both}
+use Rattle.vet_and_run.specs.Both.{ForetoldAnswer, Both}
 use Rattle.vet_and_run.specs.declared.VettedRun.{VettedRun}
 
 abbrev sixteen : {A : Type 0} → A → List A
 sixteen a = a ∷ a ∷ a ∷ a ∷ a ∷ a ∷ a ∷ a ∷ a ∷ a ∷ a ∷ a ∷ a ∷ a ∷ a ∷ a ∷ []
 
 module _ (F : Format) (p : List ℕ) where
-  pub vetting-ready : (f : List ℕ) → forecastLimit ≤ length f → Ready F p (vettingMemory (sixteen 4) f)
+  pub vetting-ready : (f : List ℕ) → forecastLimit ≤ length f → Suffices F p (vettingMemory (sixteen 4) f)
   unfolding vettingMemory _and_
   vetting-ready f h d e = rw (le-leb forecastLimit (length f) h)
 
   pub run-ready : (wi ri : List ℕ) (wv rv : List ℤ) → workLimit F ≤ length wi → workLimit F ≤ length wv → F .limit ≤ length ri → F .limit ≤ length rv
-      → Ready F p (memory F (sixteen Is.Void) [] [] wi wv ri rv)
+      → Suffices F p (memory F (sixteen Is.Void) [] [] wi wv ri rv)
   unfolding memory _and_ formed bitsBelow
   run-ready wi ri wv rv a b c h d e =
       rw (lt-ltb 0 (2 ^ length (endsOf d)) (pow-pos (length (endsOf d))), le-leb (workLimit F) (length wi) a, le-leb (workLimit F) (length wv) b, le-leb (F .limit) (length ri) c, le-leb (F .limit) (length rv) h)

@@ -11,12 +11,11 @@ use Rattle.ink_list.specs.Filled.{over}
 use Rattle.ink_value.specs.Val.{Val, Kind, kindOf, kindAt}
 use Rattle.pack.specs.Bodies.{Pack}
 use Rattle.pack.specs.Instruction.{Instr}
-use Rattle.pack.specs.Judge.{judge}
 use Rattle.pack.specs.Format.{instructionLimit}
 use Rattle.pack.specs.declared.format.Format.{Format}
 use Rattle.sheet.specs.Machine.{stackLimit, vet}
 use Rattle.sheet.specs.Stack.{stackOf}
-use Rattle.sheet.specs.Whole.{opened, countOf, sheetRun, sheetVet}
+use Rattle.sheet.specs.Whole.{opened, Suffices, countOf, sheetRun, sheetVet}
 use Rattle.sheet.specs.Foretold.{Verdict, passed, turned, verdict, Begins, forecast, Foretold}
 use Rattle.vetting.specs.declared.Vetted.{Vetted}
 use Rattle.vetting.specs.declared.Vetted.the-variants as Vet
@@ -60,9 +59,9 @@ pub record Answers (F : Format) (p : List ℕ) (s : ℕ) (codes : List ℕ) (v :
   pub counted : CountIs v (countOf (opened F p s (memory codes old)) s)
   pub written : new ≡ left (verdictOf v) (sheetVet F p s (memory codes old) (map kindAt codes) .stacks) old
   -- demand 3: with memory long enough for both calls, of every run on slot values of these kinds
-  pub foretold : (ready : Pack → Bool) (slots : List Val) → ((d : Pack) → judge F p ≡ gives d → memory codes old d ≡ true)
-      → ((d : Pack) → judge F p ≡ gives d → ready d ≡ true) → map kindOf slots ≡ map kindAt codes
-      → Foretold (countOf (opened F p s (memory codes old)) s) (verdictOf v) new (sheetRun F p s ready slots)
+  pub foretold : (runs : Pack → Bool) (slots : List Val) → Suffices F p (memory codes old) → Suffices F p runs
+      → map kindOf slots ≡ map kindAt codes
+      → Foretold (countOf (opened F p s (memory codes old)) s) (verdictOf v) new (sheetRun F p s runs slots)
 
 -- ---- the parts
 

@@ -5,11 +5,12 @@ use native.Mathlib.Omega.{arith}
 use Rattle.ink_number.specs.Answer.{Answer}
 use Rattle.ink_list.specs.Entries.{Rising, itemNumbers}
 use Rattle.ink_value.specs.Val.{Val, kindAt}
-use Rattle.ink_value.specs.Value.{valOf, written}
+use Rattle.ink_value.specs.Value.{written}
 use Rattle.native_function_call.specs.Apply.{compute}
 use Rattle.native_function_call.specs.Lists.{definitions}
 use Rattle.ink_value.proofs.Reading.{formed-limit}
-use Rattle.stepping.proofs.Operating.{operandsOf, call-rises, call-computes, call-stops, answered-is}
+use Rattle.stepping.specs.Steps.{taken}
+use Rattle.stepping.proofs.Operating.{call-rises, call-computes, call-stops, answered-is}
 use borrow.Author.Needs.{needs}
 use Rattle.stepping.proofs.operate.Statement.{statement}
 use Rattle.stepping.proofs.operate.Tie as tie
@@ -42,7 +43,7 @@ list-result-requires c κs =
     let u = definitions (s .args .ends .now) (s .args .defined .now) (s .args .format .limit) in
     let few = c .before .before .before .if1 .left in
     let g = c .before .before .before .before .kinds .ensures .counted (omega arith) in
-    let e = call-computes is vs (s .args .a) (s .args .b) (s .args .c) u (s .args .op) (s .args .count) (c .before .before .before .before .before .before .before .kind .ensures .0) (c .before .before .before .before .before .before .kind2 .ensures .0) (c .before .before .before .before .before .kind3 .ensures .0) (c .before .before .before .before .kinds .ensures) (omega arith) ∙ ap (λ (j : ℕ). compute u (s .args .op) (operandsOf is vs (s .args .a) (s .args .b) (s .args .c) (s .args .count)) (kindAt j)) (c .before .before .if2 .taken) in
+    let e = call-computes is vs (s .args .a) (s .args .b) (s .args .c) u (s .args .op) (s .args .count) (c .before .before .before .before .before .before .before .kind .ensures .0) (c .before .before .before .before .before .before .kind2 .ensures .0) (c .before .before .before .before .before .kind3 .ensures .0) (c .before .before .before .before .kinds .ensures) (omega arith) ∙ ap (λ (j : ℕ). compute u (s .args .op) (taken is vs (s .args .a) (s .args .b) (s .args .c) (s .args .count)) (kindAt j)) (c .before .before .if2 .taken) in
     let up = call-rises is vs (s .args .a) (s .args .b) (s .args .c) u (s .args .op) (s .args .count) (s .args .format .limit) (s .pre .0 .1 .format .some) (s .pre .1) refl (s .pre .0 .0 .within) in
     ((s .pre .0 .0, s .pre .0 .1, g .0, g .1, s .pre .0 .2), (s .pre .1, subst (λ (x : Answer Val). Rising (s .args .format .limit) (written x)) e up))
 
@@ -59,7 +60,7 @@ returns-2 c =
     let vs = s .args .work-values .now in
     let u = definitions (s .args .ends .now) (s .args .defined .now) (s .args .format .limit) in
     let few = c .before .before .before .before .before .before .before .if1 .left in
-    answered-is _ _ _ _ _ _ _ _ (call-computes is vs (s .args .a) (s .args .b) (s .args .c) u (s .args .op) (s .args .count) (c .before .before .before .before .before .before .before .before .before .before .before .kind .ensures .0) (c .before .before .before .before .before .before .before .before .before .before .kind2 .ensures .0) (c .before .before .before .before .before .before .before .before .before .kind3 .ensures .0) (c .before .before .before .before .before .before .before .before .kinds .ensures) (omega arith) ∙ ap (λ (j : ℕ). compute u (s .args .op) (operandsOf is vs (s .args .a) (s .args .b) (s .args .c) (s .args .count)) (kindAt j)) (c .before .before .before .before .before .before .if2 .taken)) (c .before .before .before .list-result .ensures)
+    answered-is _ _ _ _ _ _ _ _ (call-computes is vs (s .args .a) (s .args .b) (s .args .c) u (s .args .op) (s .args .count) (c .before .before .before .before .before .before .before .before .before .before .before .kind .ensures .0) (c .before .before .before .before .before .before .before .before .before .before .kind2 .ensures .0) (c .before .before .before .before .before .before .before .before .before .kind3 .ensures .0) (c .before .before .before .before .before .before .before .before .kinds .ensures) (omega arith) ∙ ap (λ (j : ℕ). compute u (s .args .op) (taken is vs (s .args .a) (s .args .b) (s .args .c) (s .args .count)) (kindAt j)) (c .before .before .before .before .before .before .if2 .taken)) (c .before .before .before .list-result .ensures)
 
 scalar-result-requires : tie.Need-scalar-result-requires
 scalar-result-requires c κs =
@@ -82,7 +83,7 @@ returns-3 c =
     let vs = s .args .work-values .now in
     let u = definitions (s .args .ends .now) (s .args .defined .now) (s .args .format .limit) in
     let few = c .before .before .before .before .if1 .left in
-    answered-is _ _ _ _ _ _ _ _ (call-computes is vs (s .args .a) (s .args .b) (s .args .c) u (s .args .op) (s .args .count) (c .before .before .before .before .before .before .before .before .kind .ensures .0) (c .before .before .before .before .before .before .before .kind2 .ensures .0) (c .before .before .before .before .before .before .kind3 .ensures .0) (c .before .before .before .before .before .kinds .ensures) (omega arith)) (c .scalar-result .ensures (s .args .format) u (valOf is vs (s .args .c)))
+    answered-is _ _ _ _ _ _ _ _ (call-computes is vs (s .args .a) (s .args .b) (s .args .c) u (s .args .op) (s .args .count) (c .before .before .before .before .before .before .before .before .kind .ensures .0) (c .before .before .before .before .before .before .before .kind2 .ensures .0) (c .before .before .before .before .before .before .kind3 .ensures .0) (c .before .before .before .before .before .kinds .ensures) (omega arith)) (c .scalar-result .ensures u (s .args .c) (s .args .format) is vs)
 
 pub operate-spec : {M : Type 1} → statement M
 operate-spec =

@@ -77,8 +77,8 @@ returns c =
     let s = c .before .before .before .before .before .before .before .before .before .before .before .before .before in
     let is = s .args .items .now in
     let vs = s .args .values .now in
-    λ F u x. scalar-put _ (s .args .place) _ is vs (s .pre .0 .3) (λ q. omega arith)
-    (computes-two u (s .args .op) (s .args .n) (valOf is vs (s .args .a)) (valOf is vs (s .args .b)) x (s .pre .0 .1) (s .pre .0 .2) (ap kindAt (c .before .match .keys1)) ∙ sym (ap (λ (t : Bool). gives (bool t)) (c .test .ensures (s .args .a) (s .args .b)
+    λ u x F wi wv. scalar-put _ (s .args .place) _ wi wv (s .pre .0 .3) (λ q. omega arith)
+    (computes-two u (s .args .op) (s .args .n) (valOf is vs (s .args .a)) (valOf is vs (s .args .b)) (valOf is vs x) (s .pre .0 .1) (s .pre .0 .2) (ap kindAt (c .before .match .keys1)) ∙ sym (ap (λ (t : Bool). gives (bool t)) (c .test .ensures (s .args .a) (s .args .b)
     (operand-in is vs (s .args .a) (c .before .before .before .before .before .before .before .before .start-of .ensures) (c .before .before .before .before .before .before .before .len-of .ensures) (s .pre .1 .0) (c .before .before .before .before .before .before .before .before .before .before .before .kind .ensures .0) (returned (c .before .before .before .before .before .before .before .before .before .before .whole-in .ok) ∙ c .before .before .before .before .before .before .before .before .before .before .whole-in .ensures) (c .before .before .before .before .before .before .before .before .before .real-in .ensures))
     (λ t. operand-in is vs (s .args .b) (c .before .before .before .start-of2 .ensures) (c .before .before .len-of2 .ensures) (s .pre .1 .1 t) (c .before .before .before .before .before .before .kind2 .ensures .0) (returned (c .before .before .before .before .before .whole-in2 .ok) ∙ c .before .before .before .before .before .whole-in2 .ensures) (c .before .before .before .before .real-in2 .ensures)))))
 
@@ -88,10 +88,10 @@ returns-2 c =
     let s = c .before .before .before .before .before .before .before .before .before .before .before .before .before .before in
     let is = s .args .items .now in
     let vs = s .args .values .now in
-    λ F u x. answered-is _ _ (s .args .place) _ is is vs vs
-    (computes-two u (s .args .op) (s .args .n) (valOf is vs (s .args .a)) (valOf is vs (s .args .b)) x (s .pre .0 .1) (s .pre .0 .2) (ap kindAt (c .before .before .match .keys2)) ∙ sym (c .before .whole .ensures (s .args .a) (s .args .b) is
+    λ u x F wi wv. answered-is _ _ (s .args .place) _ wi wi wv wv
+    (computes-two u (s .args .op) (s .args .n) (valOf is vs (s .args .a)) (valOf is vs (s .args .b)) (valOf is vs x) (s .pre .0 .1) (s .pre .0 .2) (ap kindAt (c .before .before .match .keys2)) ∙ sym (c .before .whole .ensures (s .args .a) (s .args .b) is
     (operand-in is vs (s .args .a) (c .before .before .before .before .before .before .before .before .before .start-of .ensures) (c .before .before .before .before .before .before .before .before .len-of .ensures) (s .pre .1 .0) (c .before .before .before .before .before .before .before .before .before .before .before .before .kind .ensures .0) (returned (c .before .before .before .before .before .before .before .before .before .before .before .whole-in .ok) ∙ c .before .before .before .before .before .before .before .before .before .before .before .whole-in .ensures) (c .before .before .before .before .before .before .before .before .before .before .real-in .ensures))
-    (λ t. operand-in is vs (s .args .b) (c .before .before .before .before .start-of2 .ensures) (c .before .before .before .len-of2 .ensures) (s .pre .1 .1 t) (c .before .before .before .before .before .before .before .kind2 .ensures .0) (returned (c .before .before .before .before .before .before .whole-in2 .ok) ∙ c .before .before .before .before .before .before .whole-in2 .ensures) (c .before .before .before .before .before .real-in2 .ensures)))) (c .whole-result .ensures F is vs)
+    (λ t. operand-in is vs (s .args .b) (c .before .before .before .before .start-of2 .ensures) (c .before .before .before .len-of2 .ensures) (s .pre .1 .1 t) (c .before .before .before .before .before .before .before .kind2 .ensures .0) (returned (c .before .before .before .before .before .before .whole-in2 .ok) ∙ c .before .before .before .before .before .before .whole-in2 .ensures) (c .before .before .before .before .before .real-in2 .ensures)))) (c .whole-result .ensures F wi wv)
 
 returns-3 : tie.Need-returns-3
 unfolding compute
@@ -99,8 +99,8 @@ returns-3 c =
     let s = c .before .before .before .before .before .before .before .before .before .before .before .before .before in
     let is = s .args .items .now in
     let vs = s .args .values .now in
-    λ F u x. scalar-put _ (s .args .place) _ is vs (s .pre .0 .3) (λ q. omega arith)
-    (computes-two u (s .args .op) (s .args .n) (valOf is vs (s .args .a)) (valOf is vs (s .args .b)) x (s .pre .0 .1) (s .pre .0 .2) (ap kindAt (c .before .match .keys3)) ∙ sym (ap (λ (y : Float). gives (float y)) (c .real .ensures (s .args .a) (s .args .b) is
+    λ u x F wi wv. scalar-put _ (s .args .place) _ wi wv (s .pre .0 .3) (λ q. omega arith)
+    (computes-two u (s .args .op) (s .args .n) (valOf is vs (s .args .a)) (valOf is vs (s .args .b)) (valOf is vs x) (s .pre .0 .1) (s .pre .0 .2) (ap kindAt (c .before .match .keys3)) ∙ sym (ap (λ (y : Float). gives (float y)) (c .real .ensures (s .args .a) (s .args .b) is
     (operand-in is vs (s .args .a) (c .before .before .before .before .before .before .before .before .start-of .ensures) (c .before .before .before .before .before .before .before .len-of .ensures) (s .pre .1 .0) (c .before .before .before .before .before .before .before .before .before .before .before .kind .ensures .0) (returned (c .before .before .before .before .before .before .before .before .before .before .whole-in .ok) ∙ c .before .before .before .before .before .before .before .before .before .before .whole-in .ensures) (c .before .before .before .before .before .before .before .before .before .real-in .ensures))
     (λ t. operand-in is vs (s .args .b) (c .before .before .before .start-of2 .ensures) (c .before .before .len-of2 .ensures) (s .pre .1 .1 t) (c .before .before .before .before .before .before .kind2 .ensures .0) (returned (c .before .before .before .before .before .whole-in2 .ok) ∙ c .before .before .before .before .before .whole-in2 .ensures) (c .before .before .before .before .real-in2 .ensures)))))
 
@@ -110,8 +110,8 @@ returns-4 c =
     let s = c .before .before .before .before .before .before .before .before .before .before .before .before in
     let is = s .args .items .now in
     let vs = s .args .values .now in
-    λ F u x. scalar-put _ (s .args .place) _ is vs (s .pre .0 .3) (λ q. omega arith)
-    (computes-two u (s .args .op) (s .args .n) (valOf is vs (s .args .a)) (valOf is vs (s .args .b)) x (s .pre .0 .1) (s .pre .0 .2) (kind-other (s .args .kind) (c .match .rest .0 .0 .1) (c .match .rest .0 .1) (c .match .rest .1) (s .pre .0 .0)))
+    λ u x F wi wv. scalar-put _ (s .args .place) _ wi wv (s .pre .0 .3) (λ q. omega arith)
+    (computes-two u (s .args .op) (s .args .n) (valOf is vs (s .args .a)) (valOf is vs (s .args .b)) (valOf is vs x) (s .pre .0 .1) (s .pre .0 .2) (kind-other (s .args .kind) (c .match .rest .0 .0 .1) (c .match .rest .0 .1) (c .match .rest .1) (s .pre .0 .0)))
 
 pub scalar-result-spec : {M : Type 1} → statement M
 scalar-result-spec =
