@@ -3,3 +3,4 @@ pub mod Steps
 pub mod CodeTests
 pub mod Going
 pub mod Written
+pub mod Asking
