@@ -1,19 +1,18 @@
 -- A direct call and the conversions on the bytes of a pack: questions 1 to 5 and 7 come before those of the operator. Assumes nothing.
 use mathlib.Core.Bool.{Bool}
 use mathlib.Core.List.{List, [], _∷_, map}
-use Prim.Native.Nat.{ℕ, _≤_}
+use Prim.Native.Nat.{ℕ}
 use lib.Dec.{leb}
 use lib.IntN.{ℤ}
 use lib.ListN.{length, take}
 use Rattle.ink_number.specs.Answer.{Answer, ask, andThen}
 use Rattle.ink_list.specs.Every.{_and_}
-use Rattle.list_definitions.specs.Defs.{ListDefinitions, Tables}
+use Rattle.list_definitions.specs.Defs.{ListDefinitions}
 use Rattle.ink_value.specs.Val.{Val}
 use Rattle.ink_value.specs.Convert.{cast}
 use Rattle.ink_value.specs.Value.{valOf, allFormed}
 use Rattle.ink_value.specs.declared.Value.{Value}
 use Rattle.native_function_call.specs.Apply.{call}
-use Rattle.pack.specs.Format.{definitionLimit}
 use Rattle.pack.specs.Judge.{judge}
 use Rattle.pack.specs.Read.{definitionsOf}
 use Rattle.pack.specs.declared.format.Format.{Format}
@@ -42,9 +41,3 @@ module _ (is : List ℕ) (vs : List ℤ) where
 -- questions 1 to 5 first: "a direct call 1 to 5, 7, 8, 10 to 16; a conversion 1 to 5, 7, 18"
 abbrev pub onPack : Format → List ℕ → (ListDefinitions → Answer Val) → Answer Val
 onPack F p f = andThen (judge F p) (λ d. f (definitionsOf d F))
-
--- tables of a pack whose items are at most a limit
-pub record PackLists (limit : ℕ) (ends : List ℕ) (defined : List ℤ) : Type 0 where
-  pub tables : Tables ends defined
-  pub few : length ends ≤ definitionLimit
-  pub within : length defined ≤ limit

@@ -25,7 +25,8 @@ ghost use Rattle.ink_value.specs.declared.Value.the-variants as Is;
 ghost use Rattle.pack.specs.Bodies.{decoded};
 ghost use Rattle.pack.specs.Format.{format1, Runnable};
 ghost use Rattle.pack.specs.Judge.{Sound};
-ghost use Rattle.calls.specs.Call.{operandsOk, PackLists};
+ghost use Rattle.calls.specs.Call.{operandsOk};
+ghost use Rattle.pack.specs.Read.{PackLists};
 ghost use Rattle.calls.specs.Slices.{formedIn, calledIn, castIn, coercedIn, onPackIn};
 
 // Question 7 of a value, with its two slices equally long.

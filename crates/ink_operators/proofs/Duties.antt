@@ -18,7 +18,8 @@ use Rattle.pack.specs.declared.format.Format.{Format}
 use Rattle.pack.specs.Read.{endsOf, definedOf}
 use Rattle.pack.proofs.Judged.{judged}
 use Rattle.pack.proofs.Values.{pack-tables}
-use Rattle.calls.specs.Call.{onPack, PackLists}
+use Rattle.calls.specs.Call.{onPack}
+use Rattle.pack.specs.Read.{PackLists}
 use Rattle.ink_operators.specs.Answers.{Passed, Reads, Ready}
 
 -- the part of a slice that was written

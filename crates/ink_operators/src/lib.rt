@@ -17,7 +17,8 @@ ghost use Rattle.native_function_call.specs.Lists.{definitions, definitionsIn};
 ghost use Rattle.pack.specs.Bodies.{decoded};
 ghost use Rattle.pack.specs.Format.{format1};
 ghost use Rattle.pack.specs.Judge.{judge};
-ghost use Rattle.calls.specs.Call.{operandsOk, PackLists};
+ghost use Rattle.calls.specs.Call.{operandsOk};
+ghost use Rattle.pack.specs.Read.{PackLists};
 ghost use Rattle.calls.specs.Slices.{calledIn, castIn, coercedIn, onPackIn};
 ghost use Rattle.running.specs.Slices.{Kept};
 ghost use Rattle.value_words.specs.Words.{valueAt};
@@ -70,7 +71,7 @@ pub extern "C" fn ink_run(
     ensures { λ r. ⌜ RunSaysAny format1 pack sheet slots «slot_items» «slot_values» r answer «work_items» «work_values» «result_items» «result_values» ⌝ }
 {
     let values = words::slots_in(slots);
-    let ran = run_any::run(
+    let ran = run_bytes::run(
         pack,
         sheet,
         values,

@@ -34,6 +34,9 @@ module _ (F : Format) (p : List ℕ) where
   pub passed : (r : Checked) → r ≡ Passed → checked r (decoded F p) ≡ judge F p → Sound F p
   passed r h e = judged (decoded F p) (rw h at (sym e)) .0
 
+  pub given : (r : Checked) → r ≡ Passed → checked r (decoded F p) ≡ judge F p → judge F p ≡ gives (decoded F p)
+  given r h e = rw h at (sym e)
+
   -- `check` refused it
   pub turned : (r : Checked) (n : ℕ) → r ≡ Refused n → checked r (decoded F p) ≡ judge F p → judge F p ≡ refuses n
   turned r n h e = rw h at (sym e)

@@ -18,7 +18,7 @@ ghost use Rattle.pack.specs.Bytes.{i32, number};
 ghost use Rattle.pack.specs.Contents.{definitionCount, literalCount, sheetCount};
 ghost use Rattle.pack.specs.Format.{Narrow};
 ghost use Rattle.pack.specs.Judge.{question5, Framed, Placed, Sound};
-ghost use Rattle.pack.specs.Read.{literalOf, Tabled, Stored, SheetSpan};
+ghost use Rattle.pack.specs.Read.{literalOf, Tabled, EntriesRead, SheetSpan};
 
 // Copies n values that stand one after another from a position, into the places from an index on.
 fn copy_values(p: &[u8], at: usize, n: usize, out: &mut [i32], from: usize)
@@ -136,7 +136,7 @@ pub fn read_literal(
     requires { ⌜ l < literalCount (now p) ⌝ }
     requires { ⌜ from + length (literalOf (decoded format (now p)) l .entries) ≤ length (now items) ⌝ }
     requires { ⌜ from + length (literalOf (decoded format (now p)) l .entries) ≤ length (now values) ⌝ }
-    ensures { λ r. ⌜ Stored (literalOf (decoded format (now (p .entry))) l .entries) from r (now (items .entry)) (now (items .exit)) (now (values .entry)) (now (values .exit)) ⌝ }
+    ensures { λ r. ⌜ EntriesRead (literalOf (decoded format (now (p .entry))) l .entries) from r (now (items .entry)) (now (items .exit)) (now (values .entry)) (now (values .exit)) ⌝ }
 {
     let n = literal_len(p, l, format);
     let at = offset(p, byte_at(p, 1) + l) + 8;

@@ -1,7 +1,3 @@
--- The laws of running.
+-- The laws of the work on a sheet's instructions.
 pub mod Filling
 pub mod Working
-pub mod Clearing
-pub mod Ending
-pub mod Forming
-pub mod Opening

@@ -33,13 +33,14 @@ use Rattle.pack.specs.Instruction.{Instr, op, push, pushBool, pushInt, pushFloa
 use Rattle.pack.specs.declared.instruction.Instruction.{Instruction}
 use Rattle.pack.specs.Read.{program, sheetEnd, literalOf, Standing, Reads}
 use Rattle.pack.proofs.Programs.{last-of}
-use Rattle.sheet.specs.Machine.{Run, ended, stopped, stackLimit, finish, onward, step, runFrom, valuePushed, run}
-use Rattle.sheet.specs.Stack.{stackOf}
-use Rattle.sheet.proofs.Stack.{stack-put, run-more, run-stop, run-done}
-use Rattle.stepping.specs.Steps.{placedAt, startAt, Roomy, Grown, Operands, OperandsFormed, Inputs, IfOp, IfSlot, SlotIs}
+use Rattle.machine.specs.Machine.{Run, ended, stopped, stackLimit, finish, onward, step, runFrom, valuePushed, run}
+use Rattle.machine.specs.Stack.{stackOf}
+use Rattle.machine.proofs.Stack.{stack-put, run-more, run-stop, run-done}
+use Rattle.stepping.specs.Steps.{Grown, Operands, OperandsFormed, Inputs, IfOp, IfSlot, SlotIs}
+use Rattle.operating.specs.Stacked.{placedAt, startAt, Roomy}
 use Rattle.running.specs.Work.{Outside, Touched, Longest}
 use Rattle.running.proofs.Filling.{part-filled, part-before, getD-outside}
-use Rattle.stepping.proofs.Putting.{place-fits, formed-none}
+use Rattle.operating.proofs.Putting.{place-fits, formed-none}
 
 -- ---- what an instruction takes
 

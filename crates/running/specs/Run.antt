@@ -18,9 +18,9 @@ use Rattle.pack.specs.Bodies.{Pack, decoded}
 use Rattle.pack.specs.Format.{Runnable}
 use Rattle.pack.specs.Read.{endsOf, definedOf, definitionsOf, literalOf, sheetOf, program}
 use Rattle.pack.specs.declared.format.Format.{Format}
-use Rattle.sheet.specs.Machine.{End, ended, stopped, run}
-use Rattle.sheet.specs.Whole.{started}
-use Rattle.stepping.specs.Steps.{workLimit}
+use Rattle.machine.specs.Machine.{End, ended, stopped, run}
+use Rattle.machine.specs.Whole.{started}
+use Rattle.operating.specs.Stacked.{workLimit}
 use Rattle.running.specs.declared.Ran.{Ran}
 use Rattle.running.specs.declared.Ran.the-variants as Rn
 
@@ -30,8 +30,8 @@ longEnough F wi wv ri rv =
     leb (F .limit) (length ri) and leb (F .limit) (length rv) and leb (workLimit F) (length wi) and leb (workLimit F) (length wv)
 
 -- 7, of a run: "Are .. slot .. lists formed as literals with their two slices equally long", and those slices long enough
-unfoldable pub memory : Format → List Value → List ℕ → List ℤ → List ℕ → List ℤ → List ℕ → List ℤ → Pack → Bool
-memory F slots si sv wi wv ri rv d = allFormed (length (definedOf d)) (length (endsOf d)) si sv slots and longEnough F wi wv ri rv
+unfoldable pub runMemory : Format → List Value → List ℕ → List ℤ → List ℕ → List ℤ → List ℕ → List ℤ → Pack → Bool
+runMemory F slots si sv wi wv ri rv d = allFormed (length (definedOf d)) (length (endsOf d)) si sv slots and longEnough F wi wv ri rv
 
 -- the answer of each end: a List's entries stand from the start of the result slices
 abbrev pub ranTo : End Val → Ran
@@ -39,9 +39,9 @@ ranTo (ended v) = Rn.Ended (placedVal v)
 ranTo (stopped r k) = Rn.Stopped r k
 
 -- the entries that an end writes
-abbrev pub left : End Val → List Entry
-left (ended v) = entriesOf v
-left (stopped r k) = []
+abbrev pub endEntries : End Val → List Entry
+endEntries (ended v) = entriesOf v
+endEntries (stopped r k) = []
 
 -- "From 8 on, ended or refused, a run leaves the first 16,384 places of its work slices zero and later ones unchanged; before that, all are
 -- untouched."
@@ -52,8 +52,8 @@ workAfter n zero (refuses r) old = old
 -- an end is answered, and its entries are written from the start of the two result slices, which are else as they were
 pub record RanTo (e : End Val) (r : Ran) (ri ri′ : List ℕ) (rv rv′ : List ℤ) : Type 0 where
   pub answered : r ≡ ranTo e
-  pub items-out : ri′ ≡ over (items (left e)) ri
-  pub values-out : rv′ ≡ over (values (left e)) rv
+  pub items-out : ri′ ≡ over (items (endEntries e)) ri
+  pub values-out : rv′ ≡ over (values (endEntries e)) rv
 
 -- ---- a run whose questions 1 to 7 say yes
 

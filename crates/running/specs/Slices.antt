@@ -5,7 +5,7 @@ use mathlib.Core.Bool.{Bool}
 use mathlib.Core.List.{List, map}
 use Prim.Native.Nat.{ℕ}
 use denote.Ref.{now}
-use lib.IntN.{ℤ, pos}
+use lib.IntN.{ℤ}
 use Rattle.ink_number.specs.Answer.{Answer}
 use Rattle.ink_list.specs.Slices.{Slice}
 use Rattle.ink_value.specs.Slices.{valIn}
@@ -15,10 +15,10 @@ use Rattle.native_function_call.specs.Lists.{definitionsIn}
 use Rattle.pack.specs.Bodies.{Pack, decoded}
 use Rattle.pack.specs.Read.{literalOf, program}
 use Rattle.pack.specs.declared.format.Format.{Format}
-use Rattle.sheet.specs.Machine.{End, stackLimit, run}
-use Rattle.sheet.specs.Whole.{askedSeven, askedSix, opened}
-use Rattle.running.specs.Run.{longEnough, memory, RanTo, runOf, Runs}
-use Rattle.running.specs.Work.{cleared, Worked}
+use Rattle.machine.specs.Machine.{End, run}
+use Rattle.machine.specs.Whole.{askedSeven, askedSix, opened}
+use Rattle.running.specs.Run.{longEnough, runMemory, RanTo, runOf, Runs}
+use Rattle.running.specs.Work.{Worked}
 use Rattle.running.specs.declared.Ran.{Ran}
 
 -- ---- the work
@@ -31,12 +31,6 @@ workIn F pack ends defined s slots =
 -- the work comes to that end, a List that is left standing in the work slices; `used` has how far each place of the stack was written
 abbrev pub WorkedIn : Format → End Val → Ran → Slice ℕ → Slice ℕ → Slice ℤ → Type 0
 WorkedIn F e r used wi wv = Worked F e r (now (used .exit)) (now (wi .entry)) (now (wi .exit)) (now (wv .entry)) (now (wv .exit))
-
--- the places of the work slices that `used` has are zero
-abbrev pub ClearedIn : Format → Slice ℕ → Slice ℕ → Slice ℤ → Type 0
-ClearedIn F used wi wv =
-    (now (wi .exit) ≡ cleared F 0 (now (used .entry)) stackLimit (now (wi .entry)))
-    × (now (wv .exit) ≡ cleared F (pos 0) (now (used .entry)) stackLimit (now (wv .entry)))
 
 -- ---- a run whose questions 1 to 7 say yes
 
@@ -59,9 +53,9 @@ abbrev pub longEnoughIn : Format → Slice ℕ → Slice ℤ → Slice ℕ → S
 longEnoughIn F wi wv ri rv = longEnough F (now (wi .entry)) (now (wv .entry)) (now (ri .entry)) (now (rv .entry))
 
 -- question 7, of the slices as they were lent
-abbrev pub memoryIn : Format → List Value → Slice ℕ → Slice ℤ → Slice ℕ → Slice ℤ → Slice ℕ → Slice ℤ → Pack → Bool
-memoryIn F slots si sv wi wv ri rv =
-    memory F slots (now (si .entry)) (now (sv .entry)) (now (wi .entry)) (now (wv .entry)) (now (ri .entry)) (now (rv .entry))
+abbrev pub runMemoryIn : Format → List Value → Slice ℕ → Slice ℤ → Slice ℕ → Slice ℤ → Slice ℕ → Slice ℤ → Pack → Bool
+runMemoryIn F slots si sv wi wv ri rv =
+    runMemory F slots (now (si .entry)) (now (sv .entry)) (now (wi .entry)) (now (wv .entry)) (now (ri .entry)) (now (rv .entry))
 
 -- what a run comes to from the answer of questions 1 to 7: its end, and what it leaves in the work and the result slices
 abbrev pub RunsIn : Format → Answer Pack → ℕ → List Val → Ran → Slice ℕ → Slice ℤ → Slice ℕ → Slice ℤ → Type 0
@@ -73,7 +67,7 @@ RunsIn F a s slots r wi wv ri rv =
 module _ (asked : (Pack → Bool) → Answer Pack) (F : Format) (sheet : ℕ) (slots : List Value) (si : Slice ℕ) (sv : Slice ℤ) (r : Ran)
     (wi : Slice ℕ) (wv : Slice ℤ) (ri : Slice ℕ) (rv : Slice ℤ) where
   abbrev pub RunsAsked : Type 0
-  RunsAsked = RunsIn F (asked (memoryIn F slots si sv wi wv ri rv)) sheet (map (valIn si sv) slots) r wi wv ri rv
+  RunsAsked = RunsIn F (asked (runMemoryIn F slots si sv wi wv ri rv)) sheet (map (valIn si sv) slots) r wi wv ri rv
 
 -- of any bytes: questions 1 to 7 asked, and what it comes to
 abbrev pub RunsAny : Format → Slice ℕ → ℕ → List Value → Slice ℕ → Slice ℤ → Ran → Slice ℕ → Slice ℤ → Slice ℕ → Slice ℤ → Type 0
@@ -81,8 +75,8 @@ RunsAny F pack sheet = RunsAsked (opened F (now (pack .entry)) sheet) F sheet
 
 -- of a pack that passed: questions 6 and 7 asked
 abbrev pub RunsSix : Format → Slice ℕ → ℕ → List Value → Slice ℕ → Slice ℤ → Ran → Slice ℕ → Slice ℤ → Slice ℕ → Slice ℤ → Type 0
-RunsSix F pack sheet = RunsAsked (λ memory. askedSix sheet memory (decoded F (now (pack .entry)))) F sheet
+RunsSix F pack sheet = RunsAsked (λ runMemory. askedSix sheet runMemory (decoded F (now (pack .entry)))) F sheet
 
 -- of a pack that passed and has the sheet: question 7 asked
 abbrev pub RunsSeven : Format → Slice ℕ → ℕ → List Value → Slice ℕ → Slice ℤ → Ran → Slice ℕ → Slice ℤ → Slice ℕ → Slice ℤ → Type 0
-RunsSeven F pack sheet = RunsAsked (λ memory. askedSeven memory (decoded F (now (pack .entry)))) F sheet
+RunsSeven F pack sheet = RunsAsked (λ runMemory. askedSeven runMemory (decoded F (now (pack .entry)))) F sheet

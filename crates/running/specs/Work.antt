@@ -1,17 +1,16 @@
--- The words of the inner contracts: the places of the work slices that a run has used, those places cleared, and how the work ends.
+-- The words of the inner contracts: the places of the work slices that a run has used, and how the work ends.
 -- Assumes nothing.
 use mathlib.Core.Path.{_≡_}
 use mathlib.Core.Logic.{_⊎_}
 use mathlib.Core.List.{List}
-use Prim.Native.Nat.{ℕ, zero, suc, _+_, _≤_, _<_}
+use Prim.Native.Nat.{ℕ, _+_, _≤_, _<_}
 use lib.IntN.{ℤ, pos}
-use lib.ListN.{length, getD, replicate}
-use Rattle.ink_list.specs.Filled.{fill}
+use lib.ListN.{length, getD}
 use Rattle.ink_value.specs.Val.{Val}
 use Rattle.ink_value.specs.Value.{valOf, Formed}
 use Rattle.pack.specs.declared.format.Format.{Format}
-use Rattle.sheet.specs.Machine.{End, ended, stopped, stackLimit}
-use Rattle.stepping.specs.Steps.{startAt}
+use Rattle.machine.specs.Machine.{End, ended, stopped, stackLimit}
+use Rattle.operating.specs.Stacked.{startAt}
 use Rattle.running.specs.declared.Ran.{Ran}
 use Rattle.running.specs.declared.Ran.the-variants as Rn
 
@@ -32,11 +31,6 @@ pub record Longest (used used′ : List ℕ) (place n : ℕ) : Type 0 where
   pub kept : (q : ℕ) → getD used q 0 ≤ getD used′ q 0
   pub covers : n ≤ getD used′ place 0
   pub few : (m : ℕ) → ((q : ℕ) → getD used q 0 ≤ m) → n ≤ m → (q : ℕ) → getD used′ q 0 ≤ m
-
--- the places below n of the stack, cleared
-unfoldable pub cleared : {X : Type 0} → Format → X → List ℕ → ℕ → List X → List X
-cleared F d used zero l = l
-cleared F d used (suc n) l = fill (startAt F n) (replicate (getD used n 0) d) (cleared F d used n l)
 
 -- ---- how the work ends
 

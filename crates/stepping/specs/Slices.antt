@@ -6,9 +6,7 @@ use denote.Ref.{now}
 use lib.IntN.{ℤ}
 use Rattle.ink_number.specs.Answer.{Answer}
 use Rattle.ink_list.specs.Slices.{Slice}
-use Rattle.ink_value.specs.Slices.{valIn}
 use Rattle.ink_value.specs.Val.{Val, list}
-use Rattle.ink_value.specs.Value.{Formed}
 use Rattle.ink_value.specs.declared.Value.{Value}
 use Rattle.native_function_call.specs.Apply.{applyOp}
 use Rattle.native_function_call.specs.Lists.{definitionsIn}
@@ -16,25 +14,11 @@ use Rattle.pack.specs.Bodies.{decoded}
 use Rattle.pack.specs.Instruction.{Instr}
 use Rattle.pack.specs.Read.{literalOf}
 use Rattle.pack.specs.declared.format.Format.{Format}
-use Rattle.sheet.specs.Machine.{step, valuePushed}
-use Rattle.stepping.specs.Steps.{Put, Answered, Steps, Operands, taken}
-use Rattle.stepping.specs.declared.Step.{Step}
+use Rattle.machine.specs.Machine.{step, valuePushed}
+use Rattle.stepping.specs.Steps.{Steps, Operands}
+use Rattle.operating.specs.declared.Step.{Step}
 
--- a value that two slices hold well formed is put into two others, from `to` on, in every format
-abbrev pub StoredIn : Slice ℕ → Slice ℤ → Value → ℕ → Value → Slice ℕ → Slice ℤ → Type 0
-StoredIn items values v to r oi ov =
-    (F : Format) → Formed (F .limit) (now (items .entry)) (now (values .entry)) v
-    → Put F (valIn items values v) to r (now (oi .entry)) (now (oi .exit)) (now (ov .entry)) (now (ov .exit))
-
--- the answer is put at a place of the stack, its entries in the work slices; or it is a no, and nothing is written
-abbrev pub AnsweredIn : Format → Answer Val → ℕ → Step → Slice ℕ → Slice ℤ → Type 0
-AnsweredIn F a place r wi wv = Answered F a place r (now (wi .entry)) (now (wi .exit)) (now (wv .entry)) (now (wv .exit))
-
--- the first n of three operands, as the work slices hold them
-abbrev pub takenIn : Slice ℕ → Slice ℤ → Value → Value → Value → ℕ → List Val
-takenIn wi wv a b c n = taken (now (wi .entry)) (now (wv .entry)) a b c n
-
--- they are the topmost of a stack of n whose values, from below, are those of f
+-- an operator's operands are the topmost of a stack of n whose values, from below, are those of f
 abbrev pub OperandsIn : Slice ℕ → Slice ℤ → Value → Value → Value → ℕ → ℕ → (ℕ → Val) → Type 0
 OperandsIn wi wv a b c n count f = Operands (now (wi .entry)) (now (wv .entry)) a b c n count f
 

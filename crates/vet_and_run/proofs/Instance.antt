@@ -26,15 +26,15 @@ use Rattle.pack.specs.Instruction.{Instr, op, push, pushInt, instruction, instr
 use Rattle.pack.specs.Judge.{question1, question2, question3, question4, question5, judge}
 use Rattle.pack.specs.Read.{endsOf, definitionsOf, literalOf, sheetOf}
 use Rattle.pack.specs.declared.format.Format.{Format}
-use Rattle.sheet.specs.Foretold.{Verdict, passed, turned, verdict}
-use Rattle.sheet.specs.Machine.{ended, stopped, step, runFrom, run, vet}
-use Rattle.sheet.specs.Whole.{opened, Suffices, started, countOf}
-use Rattle.sheet.proofs.Whole.{opened-all}
-use Rattle.vetting.specs.Vet.{forecastLimit, verdictOf, CountIs, memory as vettingMemory}
+use Rattle.machine.specs.Foretold.{Verdict, passed, turned, verdict}
+use Rattle.machine.specs.Machine.{ended, stopped, step, runFrom, run, vet}
+use Rattle.machine.specs.Whole.{opened, Suffices, started, countOf}
+use Rattle.machine.proofs.Whole.{opened-all}
+use Rattle.vetting.specs.Vet.{forecastLimit, verdictOf, CountIs, vetMemory}
 use Rattle.vetting.specs.declared.Vetted.{Vetted}
 use Rattle.vetting.specs.declared.Vetted.the-variants as Vet
-use Rattle.stepping.specs.Steps.{workLimit}
-use Rattle.running.specs.Run.{memory, ranTo, endAfter}
+use Rattle.operating.specs.Stacked.{workLimit}
+use Rattle.running.specs.Run.{runMemory, ranTo, endAfter}
 use Rattle.running.specs.declared.Ran.the-variants as Rn
 use Rattle.vet_and_run.specs.Both.{ForetoldAnswer, Both}
 use Rattle.vet_and_run.specs.declared.VettedRun.{VettedRun}
@@ -43,13 +43,13 @@ abbrev sixteen : {A : Type 0} → A → List A
 sixteen a = a ∷ a ∷ a ∷ a ∷ a ∷ a ∷ a ∷ a ∷ a ∷ a ∷ a ∷ a ∷ a ∷ a ∷ a ∷ a ∷ []
 
 module _ (F : Format) (p : List ℕ) where
-  pub vetting-ready : (f : List ℕ) → forecastLimit ≤ length f → Suffices F p (vettingMemory (sixteen 4) f)
-  unfolding vettingMemory _and_
+  pub vetting-ready : (f : List ℕ) → forecastLimit ≤ length f → Suffices F p (vetMemory (sixteen 4) f)
+  unfolding vetMemory _and_
   vetting-ready f h d e = rw (le-leb forecastLimit (length f) h)
 
   pub run-ready : (wi ri : List ℕ) (wv rv : List ℤ) → workLimit F ≤ length wi → workLimit F ≤ length wv → F .limit ≤ length ri → F .limit ≤ length rv
-      → Suffices F p (memory F (sixteen Is.Void) [] [] wi wv ri rv)
-  unfolding memory _and_ formed bitsBelow
+      → Suffices F p (runMemory F (sixteen Is.Void) [] [] wi wv ri rv)
+  unfolding runMemory _and_ formed bitsBelow
   run-ready wi ri wv rv a b c h d e =
       rw (lt-ltb 0 (2 ^ length (endsOf d)) (pow-pos (length (endsOf d))), le-leb (workLimit F) (length wi) a, le-leb (workLimit F) (length wv) b, le-leb (F .limit) (length ri) c, le-leb (F .limit) (length rv) h)
 
@@ -100,7 +100,7 @@ counted-three (Vet.Refused r k) e c =
 module _ (F : Format) (b : VettedRun) (f f′ wi wi′ : List ℕ) (wv wv′ : List ℤ) (ri ri′ : List ℕ) (rv rv′ : List ℤ) (w : Both F (bytes F) 0 (sixteen 4) (sixteen Is.Void) [] [] b f f′ wi wi′ wv wv′ ri ri′ rv rv′) where
   pub vetted-is : forecastLimit ≤ length f → b .vetted ≡ Vet.Passed 3
   vetted-is h =
-      let m = vettingMemory (sixteen 4) f in
+      let m = vetMemory (sixteen 4) f in
       let q : opened F (bytes F) 0 m ≡ gives pack = opened-all F (bytes F) 0 m pack (accepted F) (omega arith) (vetting-ready F (bytes F) f h pack (accepted F)) in
       counted-three (b .vetted)
       (w .vetted .right ∙ ap (λ (x : Answer Pack). verdict (started x (λ (d : Pack). vet (sheetOf d 0) (sixteen voidK)) .end)) q ∙ ap verdict passes)
@@ -108,6 +108,6 @@ module _ (F : Format) (b : VettedRun) (f f′ wi wi′ : List ℕ) (wv wv′ : L
 
   pub ran-is : workLimit F ≤ length wi → workLimit F ≤ length wv → F .limit ≤ length ri → F .limit ≤ length rv → b .ran ≡ Rn.Stopped 15 2
   ran-is h i j k =
-      let m = memory F (sixteen Is.Void) [] [] wi wv ri rv in
+      let m = runMemory F (sixteen Is.Void) [] [] wi wv ri rv in
       let q : opened F (bytes F) 0 m ≡ gives pack = opened-all F (bytes F) 0 m pack (accepted F) (omega arith) (run-ready F (bytes F) wi ri wv rv h i j k pack (accepted F)) in
       w .ran .ran .answered ∙ ap (λ (x : Answer Pack). ranTo (endAfter F 0 (sixteen void) x)) q ∙ ap ranTo (stops (definitionsOf pack F) (literalOf pack))

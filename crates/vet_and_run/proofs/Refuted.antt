@@ -11,11 +11,11 @@ use Rattle.pack.specs.Bodies.{Pack}
 use Rattle.pack.specs.Judge.{judge}
 use Rattle.pack.specs.Read.{sheetOf}
 use Rattle.pack.specs.declared.format.Format.{Format}
-use Rattle.sheet.specs.Foretold.{Verdict, passed, turned, verdict}
-use Rattle.sheet.specs.Machine.{vet}
-use Rattle.sheet.specs.Whole.{opened, started}
-use Rattle.sheet.proofs.Whole.{opened-six}
-use Rattle.vetting.specs.Vet.{Answers, memory as vettingMemory}
+use Rattle.machine.specs.Foretold.{Verdict, passed, turned, verdict}
+use Rattle.machine.specs.Machine.{vet}
+use Rattle.machine.specs.Whole.{opened, started}
+use Rattle.machine.proofs.Whole.{opened-six}
+use Rattle.vetting.specs.Vet.{Vets, vetMemory}
 use Rattle.vetting.specs.declared.Vetted.the-variants as Vet
 use Rattle.running.specs.Run.{Runs}
 use Rattle.running.specs.declared.Ran.{Ran}
@@ -26,9 +26,9 @@ numberIn (turned r k) = r
 
 -- question 7 answered before 6
 pub seven-before-six : (F : Format) (p : List ℕ) (s : ℕ) (codes f f′ : List ℕ) (d : Pack) → judge F p ≡ gives d → length (d .sheets) ≤ s
-    → Answers F p s codes (Vet.Refused 7 0) f f′ → ⊥
+    → Vets F p s codes (Vet.Refused 7 0) f f′ → ⊥
 seven-before-six F p s codes f f′ d e h a =
-    let q : opened F p s (vettingMemory codes f) ≡ refuses 6 = opened-six F p s (vettingMemory codes f) d e h in
+    let q : opened F p s (vetMemory codes f) ≡ refuses 6 = opened-six F p s (vetMemory codes f) d e h in
     let r : turned 7 0 ≡ turned 6 0 = a .right ∙ ap (λ (x : Answer Pack). verdict (started x (λ (y : Pack). vet (sheetOf y s) (map kindAt codes)) .end)) q in
     let z : _≡_ {A = ℕ} 7 6 = ap numberIn r in
     absurd (omega (arith, z))

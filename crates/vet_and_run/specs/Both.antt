@@ -13,12 +13,12 @@ use Rattle.ink_value.specs.Value.{valOf, codeOfValue}
 use Rattle.ink_value.specs.declared.Value.{Value}
 use Rattle.pack.specs.Bodies.{Pack}
 use Rattle.pack.specs.declared.format.Format.{Format}
-use Rattle.sheet.specs.Foretold.{ByValue, Foretold}
-use Rattle.sheet.specs.Whole.{opened, Suffices, countOf, sheetRun}
-use Rattle.vetting.specs.Vet.{Answers, verdictOf, memory as vettingMemory}
+use Rattle.machine.specs.Foretold.{ByValue, Foretold}
+use Rattle.machine.specs.Whole.{opened, Suffices, countOf, sheetRun}
+use Rattle.vetting.specs.Vet.{Vets, verdictOf, vetMemory}
 use Rattle.vetting.specs.declared.Vetted.{Vetted}
 use Rattle.vetting.specs.declared.Vetted.the-variants as Vet
-use Rattle.running.specs.Run.{memory, Runs}
+use Rattle.running.specs.Run.{runMemory, Runs}
 use Rattle.running.specs.declared.Ran.{Ran}
 use Rattle.running.specs.declared.Ran.the-variants as Rn
 use Rattle.vet_and_run.specs.declared.VettedRun.{VettedRun}
@@ -37,16 +37,16 @@ ForetoldAnswer (Vet.Refused q k) f r = StoppedByValue (λ i. i < k) r ⊎ (r ≡
 module _ (F : Format) (p : List ℕ) (s : ℕ) (codes : List ℕ) (slots : List Value) (si : List ℕ) (sv : List ℤ) (b : VettedRun)
     (f f′ wi wi′ : List ℕ) (wv wv′ : List ℤ) (ri ri′ : List ℕ) (rv rv′ : List ℤ) where
   -- question 7 of the run
-  abbrev pub runMemory : Pack → Bool
-  runMemory = memory F slots si sv wi wv ri rv
+  abbrev pub runAsks : Pack → Bool
+  runAsks = runMemory F slots si sv wi wv ri rv
 
   pub record Both : Type 0 where
-    pub vetted : Answers F p s codes (b .vetted) f f′
-    pub ran : Runs F (opened F p s runMemory) s (map (valOf si sv) slots) (b .ran) wi wi′ wv wv′ ri ri′ rv rv′
+    pub vetted : Vets F p s codes (b .vetted) f f′
+    pub ran : Runs F (opened F p s runAsks) s (map (valOf si sv) slots) (b .ran) wi wi′ wv wv′ ri ri′ rv rv′
     -- demand 3, of the two answers and the forecast's bytes as the calls leave them: "memory long enough", slots of those kinds
-    pub foretold : Suffices F p (vettingMemory codes f) → Suffices F p runMemory → map kindOf (map (valOf si sv) slots) ≡ map kindAt codes
-        → Foretold (countOf (opened F p s (vettingMemory codes f)) s) (verdictOf (b .vetted)) f′
-        (sheetRun F p s runMemory (map (valOf si sv) slots))
+    pub foretold : Suffices F p (vetMemory codes f) → Suffices F p runAsks → map kindOf (map (valOf si sv) slots) ≡ map kindAt codes
+        → Foretold (countOf (opened F p s (vetMemory codes f)) s) (verdictOf (b .vetted)) f′
+        (sheetRun F p s runAsks (map (valOf si sv) slots))
         × ForetoldAnswer (b .vetted) f′ (b .ran)
 
 -- the same of the slices that are lent, each as it was at entry and as it is at exit

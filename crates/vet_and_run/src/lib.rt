@@ -30,7 +30,7 @@ pub fn vet_and_run(
         forecast «work_items» «work_values» «result_items» «result_values» ⌝ }
 {
     let vetted = vetting::vet(pack, sheet, kinds, forecast);
-    let ran = run_any::run(
+    let ran = run_bytes::run(
         pack,
         sheet,
         slots,

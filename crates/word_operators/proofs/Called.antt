@@ -18,7 +18,8 @@ use Rattle.kind_table.specs.Kinds.{kindCall, decoded}
 use Rattle.native_function_call.specs.Lists.{definitions, Room}
 use Rattle.native_function_call.specs.Apply.{call, compute}
 use Rattle.native_function_call.proofs.Calling.{call-gives, call-refuses, decoded-kind, decoded-no, two-of}
-use Rattle.calls.specs.Call.{operandsOk, called, PackLists}
+use Rattle.calls.specs.Call.{operandsOk, called}
+use Rattle.pack.specs.Read.{PackLists}
 use Rattle.calls.proofs.Forms.{first-of, goes-on, map-take}
 use Rattle.list_definitions.specs.Defs.{ListDefinitions}
 use Rattle.value_words.specs.Words.{unheld, valueAt}

@@ -3,8 +3,8 @@ use mathlib.Core.List.{map}
 use Rattle.ink_value.specs.Value.{valOf}
 use Rattle.pack.specs.Format.{format1}
 use Rattle.pack.proofs.Formats.{runnable1}
-use Rattle.sheet.specs.Whole.{opened}
-use Rattle.running.specs.Run.{memory, endAfter}
+use Rattle.machine.specs.Whole.{opened}
+use Rattle.running.specs.Run.{runMemory, endAfter}
 use Rattle.ink_operators.proofs.Ending.{run-says, small-ran, end-wf}
 use borrow.Author.Needs.{needs}
 use Rattle.ink_operators.proofs.ink_run_checked.Statement.{statement}
@@ -22,7 +22,7 @@ ran-requires : tie.Need-ran-requires
 ran-requires c κs =
     let s = c .before .before .before .before .before .before .before .before .before .before .before .before .before .before .before .before .before .before in
     let l = c .before .before .before .before .before .before .before .before .before .before .before .before .slots-in .result in
-    small-ran runnable1 (endAfter format1 (s .args .sheet) (map (valOf (s .args .slot-items .now) (s .args .slot-values .now)) l) (opened format1 (s .args .pack .now) (s .args .sheet) (memory format1 l (s .args .slot-items .now) (s .args .slot-values .now) (s .args .work-items .now) (s .args .work-values .now) (s .args .result-items .now) (s .args .result-values .now)))) _ (c .before .before .before .before .before .before .before .run-ready .ensures .0 .ran .answered) (end-wf format1 runnable1 (s .args .pack .now) (s .args .sheet) l (s .args .slot-items .now) (s .args .slot-values .now) (s .args .work-items .now) (s .args .work-values .now) (s .args .result-items .now) (s .args .result-values .now))
+    small-ran runnable1 (endAfter format1 (s .args .sheet) (map (valOf (s .args .slot-items .now) (s .args .slot-values .now)) l) (opened format1 (s .args .pack .now) (s .args .sheet) (runMemory format1 l (s .args .slot-items .now) (s .args .slot-values .now) (s .args .work-items .now) (s .args .work-values .now) (s .args .result-items .now) (s .args .result-values .now)))) _ (c .before .before .before .before .before .before .before .run-ready .ensures .0 .ran .answered) (end-wf format1 runnable1 (s .args .pack .now) (s .args .sheet) l (s .args .slot-items .now) (s .args .slot-values .now) (s .args .work-items .now) (s .args .work-values .now) (s .args .result-items .now) (s .args .result-values .now))
 
 same-length : tie.Need-same-length
 same-length c = search needs

@@ -13,8 +13,8 @@ use Rattle.pack.proofs.Allowed.{allowed}
 use Rattle.pack.proofs.Programs.{whole}
 use Rattle.native_function_call.specs.Apply.{applyOp}
 use Rattle.pack.specs.Bodies.{decoded}
-use Rattle.sheet.specs.Machine.{stackLimit, step, valuePushed}
-use Rattle.sheet.specs.Stack.{stackOf}
+use Rattle.machine.specs.Machine.{stackLimit, step, valuePushed}
+use Rattle.machine.specs.Stack.{stackOf}
 use Rattle.stepping.specs.Steps.{Steps}
 use Rattle.running.specs.Work.{Longest}
 use Rattle.running.proofs.Working.{Working, slot-is, inputs-none, allowed-op, allowed-slot, begin, valueOn, operands, operands-formed, roomy, advance, refused, one-left, not-one, width-some}

@@ -1,5 +1,6 @@
 -- `stepping::push_value` meets its contract: question 9. Assumes nothing.
-use Rattle.stepping.proofs.Putting.{put-plain, push-put, push-no}
+use Rattle.stepping.proofs.Pushing.{push-put, push-no}
+use Rattle.operating.proofs.Putting.{put-plain}
 use Rattle.stepping.proofs.push_value.Statement.{statement}
 use Rattle.stepping.proofs.push_value.Tie as tie
 

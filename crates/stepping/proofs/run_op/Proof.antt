@@ -5,7 +5,7 @@ use native.Mathlib.Omega.{arith}
 use Rattle.ink_value.specs.Value.{FirstFormed}
 use Rattle.native_function_call.specs.Lists.{definitions}
 use Rattle.stepping.specs.Steps.{Operands}
-use Rattle.stepping.proofs.Operating.{no-operator, no-operands, operands-topped, steps-of}
+use Rattle.stepping.proofs.Stepping.{no-operator, no-operands, operands-topped, steps-of}
 use borrow.Author.Needs.{needs}
 use Rattle.stepping.proofs.run_op.Statement.{statement}
 use Rattle.stepping.proofs.run_op.Tie as tie

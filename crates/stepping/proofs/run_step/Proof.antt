@@ -13,9 +13,9 @@ use Rattle.pack.specs.Contents.{literalCount}
 use Rattle.pack.specs.Instruction.{pushBool, pushInt, pushFloat, pushList, pushSlot, pushVoid, instrOf, Allowed}
 use Rattle.pack.specs.Read.{literalOf}
 use Rattle.pack.specs.declared.instruction.Instruction.{Instruction}
-use Rattle.sheet.specs.Machine.{valuePushed}
+use Rattle.machine.specs.Machine.{valuePushed}
 use Rattle.stepping.specs.Steps.{Operands, OperandsFormed, IfOp, SlotIs}
-use Rattle.stepping.proofs.Operating.{push-steps, op-steps, slot-value, known-of}
+use Rattle.stepping.proofs.Stepping.{push-steps, op-steps, slot-value, known-of}
 use borrow.Author.Needs.{needs}
 use Rattle.stepping.proofs.run_step.Statement.{statement}
 use Rattle.stepping.proofs.run_step.Tie as tie

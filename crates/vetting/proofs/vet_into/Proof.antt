@@ -14,8 +14,8 @@ use Rattle.pack.specs.Read.{program, sheetEnd, Standing}
 use Rattle.pack.proofs.Allowed.{allowed}
 use Rattle.pack.proofs.Programs.{whole, last-of}
 use Rattle.pack.proofs.Steps.{wide-some}
-use Rattle.sheet.specs.Machine.{step, kindPushed}
-use Rattle.sheet.specs.Stack.{stackOf}
+use Rattle.machine.specs.Machine.{step, kindPushed}
+use Rattle.machine.specs.Stack.{stackOf}
 use Rattle.vetting.specs.Vet.{kindOn}
 use Rattle.vetting.proofs.Going.{Going, begin, advance, refused, not-one, one, count-is, begins}
 use borrow.Author.Needs.{needs}
