@@ -88,7 +88,7 @@ module _ (F : Format) (p ends : List ℕ) (defined : List ℤ) (slots : List Val
             (each-at (length defined) (length ends) si sv slots (Is.Bool false) (and-right _ _ e) k h);
       }
 
--- the slices are long enough, and the work slices were cleared
+-- the slices that a run writes are long enough
 pub record Long (F : Format) (wi : List ℕ) (wv : List ℤ) (ri : List ℕ) (rv : List ℤ) : Type 0 where
   pub work-items : workLimit F ≤ length wi
   pub work-values : workLimit F ≤ length wv

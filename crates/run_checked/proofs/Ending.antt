@@ -4,11 +4,14 @@ use mathlib.Core.List.{List}
 use Prim.Native.Nat.{ℕ}
 use native.Mathlib.Omega.{arith}
 use lib.IntN.{ℤ, pos}
+use Rattle.ink_number.specs.Answer.{gives}
 use Rattle.ink_list.specs.Entries.{items, values}
 use Rattle.ink_value.specs.Val.{Val, bool, int, float, list, void}
 use Rattle.ink_value.specs.Convert.{entriesOf}
-use Rattle.ink_value.specs.Value.{placedVal}
+use Rattle.ink_value.specs.Value.{valOf, placedVal, Gave}
 use Rattle.ink_value.specs.declared.Value.{Value}
+use Rattle.ink_value.specs.declared.Outcome.the-variants as Out
+use Rattle.ink_value.proofs.Results.{read-back}
 use Rattle.native_function_call.specs.Lists.{definitions}
 use Rattle.pack.specs.Bodies.{decoded}
 use Rattle.pack.specs.declared.format.Format.{Format}
@@ -34,18 +37,21 @@ placed-start void = refl
 module _ {F : Format} (ri ri′ : List ℕ) (rv rv′ : List ℤ) where
   ran-ended : (x : Val) (v : Value) → Put F x 0 v ri ri′ rv rv′ → RanTo (ended x) (Rn.Ended v) ri ri′ rv rv′
   ran-ended x v w =
+      let g : Gave (gives x) (Out.Value v) ri ri′ rv rv′ =
       record {
-        answered = ap Rn.Ended (w .value-is ∙ placed-start x);
+        answered = ap Out.Value (w .value-is ∙ placed-start x);
         items-out = w .items-in ∙ fill-over (items (entriesOf x)) ri;
         values-out = w .values-in ∙ fill-over (values (entriesOf x)) rv;
-      }
+      } in
+      let e : gives (valOf ri′ rv′ v) ≡ gives x = read-back (gives x) (Out.Value v) ri ri′ rv rv′ g in
+      record { end-is = cc; answered = ap Rn.Ended (w .value-is ∙ placed-start x); items-out = g .items-out; values-out = g .values-out }
 
   pub ran-value : (e : End Val) (x : Val) (v : Value) → ended x ≡ e → Put F x 0 v ri ri′ rv rv′ → RanTo e (Rn.Ended v) ri ri′ rv rv′
   ran-value e x v q w = subst (λ (z : End Val). RanTo z (Rn.Ended v) ri ri′ rv rv′) q (ran-ended x v w)
 
 pub ran-stopped : (e : End Val) (n k : ℕ) (ri : List ℕ) (rv : List ℤ) → stopped n k ≡ e → RanTo e (Rn.Stopped n k) ri ri rv rv
 ran-stopped e n k ri rv q =
-    subst (λ (z : End Val). RanTo z (Rn.Stopped n k) ri ri rv rv) q (record { answered = refl; items-out = refl; values-out = refl })
+    subst (λ (z : End Val). RanTo z (Rn.Stopped n k) ri ri rv rv) q (record { end-is = refl; answered = refl; items-out = refl; values-out = refl })
 
 -- the tables are the pack's own
 pub same-run : (F : Format) (p ends : List ℕ) (defined : List ℤ) (slots : List Value) (si : List ℕ) (sv : List ℤ) → Inputs F p ends defined slots si sv → (s : ℕ) (vs : List Val)

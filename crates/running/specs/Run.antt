@@ -12,7 +12,7 @@ use Rattle.ink_list.specs.Every.{_and_}
 use Rattle.ink_list.specs.Filled.{over}
 use Rattle.ink_value.specs.Val.{Val}
 use Rattle.ink_value.specs.Convert.{entriesOf}
-use Rattle.ink_value.specs.Value.{placedVal, allFormed}
+use Rattle.ink_value.specs.Value.{valOf, placedVal, allFormed}
 use Rattle.ink_value.specs.declared.Value.{Value}
 use Rattle.pack.specs.Bodies.{Pack, decoded}
 use Rattle.pack.specs.Format.{Runnable}
@@ -33,6 +33,11 @@ longEnough F wi wv ri rv =
 unfoldable pub runMemory : Format → List Value → List ℕ → List ℤ → List ℕ → List ℤ → List ℕ → List ℤ → Pack → Bool
 runMemory F slots si sv wi wv ri rv d = allFormed (length (definedOf d)) (length (endsOf d)) si sv slots and longEnough F wi wv ri rv
 
+-- the end that an answer stands for, a List's entries in two slices
+abbrev pub endOf : List ℕ → List ℤ → Ran → End Val
+endOf is vs (Rn.Ended v) = ended (valOf is vs v)
+endOf is vs (Rn.Stopped r k) = stopped r k
+
 -- the answer of each end: a List's entries stand from the start of the result slices
 abbrev pub ranTo : End Val → Ran
 ranTo (ended v) = Rn.Ended (placedVal v)
@@ -49,8 +54,10 @@ abbrev pub workAfter {ℓ} : {A : Type ℓ} → ℕ → A → Answer Pack → Li
 workAfter n zero (gives d) old = over (replicate n zero) old
 workAfter n zero (refuses r) old = old
 
--- an end is answered, and its entries are written from the start of the two result slices, which are else as they were
+-- an end is answered, and its entries are written from the start of the two result slices, which are else as they were: with them the
+-- answer stands for the end
 pub record RanTo (e : End Val) (r : Ran) (ri ri′ : List ℕ) (rv rv′ : List ℤ) : Type 0 where
+  pub end-is : endOf ri′ rv′ r ≡ e
   pub answered : r ≡ ranTo e
   pub items-out : ri′ ≡ over (items (endEntries e)) ri
   pub values-out : rv′ ≡ over (values (endEntries e)) rv

@@ -21,7 +21,7 @@ ghost use Rattle.operating.specs.Stacked.{Roomy};
 ghost use Rattle.running.specs.Slices.{workIn, WorkedIn};
 ghost use Rattle.running.specs.Work.{Longest};
 
-// A run's answer. A List's entries stand in the result slices, from the start.
+// A run's answer. A List's entries stand in the result slices, from the start (those of `work` in the work slices).
 pub enum Ran {
     Ended(Value),
     Stopped { number: u8, index: usize },
