@@ -1,5 +1,4 @@
 -- `sheet_report::report` is safe: where `check` passes a pack, the pack is sound. Assumes nothing.
-use Rattle.pack.specs.Format.{format1}
 use Rattle.pack.proofs.Judged.{passed}
 use borrow.Author.Needs.{needs}
 use Rattle.sheet_report.proofs.report.Statement.{statement}
@@ -13,7 +12,7 @@ enum-told c = search needs
 
 sheet-lines-requires : tie.Need-sheet-lines-requires
 sheet-lines-requires c κs =
-    passed format1 (c .before .before .before .before .args .pack .now) (c .before .before .check .result) (c .enum-told .given .1) (c .before .before .check .ensures) .contents .frame
+    passed _ (c .before .before .before .before .args .pack .now) (c .before .before .check .result) (c .enum-told .given .1) (c .before .before .check .ensures) .contents .frame
 
 enum-known-number : tie.Need-enum-known-number
 enum-known-number c = search needs
