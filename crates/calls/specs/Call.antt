@@ -1,4 +1,5 @@
 -- A direct call and the conversions on the bytes of a pack: questions 1 to 5 and 7 come before those of the operator. Assumes nothing.
+use mathlib.Core.Path.{_≡_}
 use mathlib.Core.Bool.{Bool}
 use mathlib.Core.List.{List, [], _∷_, map}
 use Prim.Native.Nat.{ℕ}
@@ -10,7 +11,8 @@ use Rattle.ink_list.specs.Every.{_and_}
 use Rattle.list_definitions.specs.Defs.{ListDefinitions}
 use Rattle.ink_value.specs.Val.{Val}
 use Rattle.ink_value.specs.Convert.{cast}
-use Rattle.ink_value.specs.Value.{valOf, allFormed}
+use Rattle.ink_value.specs.Value.{valOf, allFormed, placed, outcomeOf, Gave}
+use Rattle.ink_value.specs.declared.Outcome.{Outcome}
 use Rattle.ink_value.specs.declared.Value.{Value}
 use Rattle.native_function_call.specs.Apply.{call}
 use Rattle.pack.specs.Judge.{judge}
@@ -41,3 +43,15 @@ module _ (is : List ℕ) (vs : List ℤ) where
 -- questions 1 to 5 first: "a direct call 1 to 5, 7, 8, 10 to 16; a conversion 1 to 5, 7, 18"
 abbrev pub onPack : Format → List ℕ → (ListDefinitions → Answer Val) → Answer Val
 onPack F p f = andThen (judge F p) (λ d. f (definitionsOf d F))
+
+-- ---- what is returned
+
+-- an answer is returned and written as `Gave` says, and with the result slices at exit the outcome stands for it
+pub record Returned (a : Answer Val) (r : Outcome) (oi oi′ : List ℕ) (ov ov′ : List ℤ) : Type 0 where
+  pub gave : Gave a r oi oi′ ov ov′
+  pub stands : outcomeOf oi′ ov′ r ≡ a
+
+-- an answer that is no List is returned: the outcome stands for it, whatever the slices hold
+pub record ReturnedPlain (a : Answer Val) (r : Outcome) : Type 0 where
+  pub answered : r ≡ placed a
+  pub stands : (is : List ℕ) (vs : List ℤ) → outcomeOf is vs r ≡ a

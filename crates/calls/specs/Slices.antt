@@ -9,9 +9,10 @@ use Rattle.ink_list.specs.Slices.{Slice}
 use Rattle.list_definitions.specs.Defs.{ListDefinitions}
 use Rattle.ink_value.specs.Val.{Val}
 use Rattle.ink_value.specs.Value.{allFormed}
+use Rattle.ink_value.specs.declared.Outcome.{Outcome}
 use Rattle.ink_value.specs.declared.Value.{Value}
 use Rattle.pack.specs.declared.format.Format.{Format}
-use Rattle.calls.specs.Call.{called, castTo, coerced, onPack}
+use Rattle.calls.specs.Call.{called, castTo, coerced, onPack, Returned}
 
 -- 7, of values: their lists are formed as literals of a pack with so many items and definitions
 abbrev pub formedIn : ℕ → ℕ → Slice ℕ → Slice ℤ → List Value → Bool
@@ -32,3 +33,7 @@ coercedIn is vs = coerced (now (is .entry)) (now (vs .entry))
 -- questions 1 to 5 first
 abbrev pub onPackIn : Format → Slice ℕ → (ListDefinitions → Answer Val) → Answer Val
 onPackIn F pack = onPack F (now (pack .entry))
+
+-- an answer is returned, and written to the two result slices
+abbrev pub ReturnedIn : Answer Val → Outcome → Slice ℕ → Slice ℤ → Type 0
+ReturnedIn a r oi ov = Returned a r (now (oi .entry)) (now (oi .exit)) (now (ov .entry)) (now (ov .exit))

@@ -10,6 +10,7 @@ use Rattle.pack.specs.declared.Checked.{Checked}
 use Rattle.pack.proofs.Formats.{runnable1}
 use Rattle.pack.proofs.Judged.{passed, turned}
 use Rattle.calls.proofs.Forms.{coerce-ill, coerce-refused, coerce-goes}
+use Rattle.calls.proofs.Standing.{float-plain, coerces}
 use borrow.Author.Needs.{needs}
 use Rattle.calls.proofs.coerce_to_float.Statement.{statement}
 use Rattle.calls.proofs.coerce_to_float.Tie as tie
@@ -31,7 +32,7 @@ returns : tie.Need-returns
 returns c =
     let s = c .before .before .before .before .before .before .before in
     let p = s .args .pack .now in
-    ap placed (coerce-ill format1 p (s .args .items .now) (s .args .values .now) coerceFloat (s .args .v) (sym (c .before .before .before .before .check .ensures) ∙ ap (λ (r : Checked). checked r (decoded format1 p)) (c .before .before .enum-told .given .1)) (sym (c .before .operand-formed .ensures) ∙ not-true _ (c .if1 .taken)))
+    coerces coerceFloat float-plain _ _ _ _ _ _ (ap placed (coerce-ill format1 p (s .args .items .now) (s .args .values .now) coerceFloat (s .args .v) (sym (c .before .before .before .before .check .ensures) ∙ ap (λ (r : Checked). checked r (decoded format1 p)) (c .before .before .enum-told .given .1)) (sym (c .before .operand-formed .ensures) ∙ not-true _ (c .if1 .taken))))
 
 coerce-to-float-requires : tie.Need-coerce-to-float-requires
 coerce-to-float-requires c κs = search needs
@@ -40,13 +41,13 @@ returns-2 : tie.Need-returns-2
 returns-2 c =
     let s = c .before .before .before .before .before .before in
     let p = s .args .pack .now in
-    ap placed (coerce-refused format1 p (s .args .items .now) (s .args .values .now) coerceFloat (s .args .v) (c .before .number .given .0 .0) (turned format1 p (c .before .before .before .check .result) (c .before .number .given .0 .0) (c .before .number .given .1) (c .before .before .before .check .ensures)))
+    coerces coerceFloat float-plain _ _ _ _ _ _ (ap placed (coerce-refused format1 p (s .args .items .now) (s .args .values .now) coerceFloat (s .args .v) (c .before .number .given .0 .0) (turned format1 p (c .before .before .before .check .result) (c .before .number .given .0 .0) (c .before .number .given .1) (c .before .before .before .check .ensures))))
 
 returns-3 : tie.Need-returns-3
 returns-3 c =
     let s = c .before .before .before .before .before .before .before .before in
     let p = s .args .pack .now in
-    c .coerce-to-float .ensures (s .args .items .now) (s .args .values .now) ∙ ap placed (coerce-goes format1 p (s .args .items .now) (s .args .values .now) coerceFloat (s .args .v) (sym (c .before .before .before .before .before .check .ensures) ∙ ap (λ (r : Checked). checked r (decoded format1 p)) (c .before .before .before .enum-told .given .1)) (sym (c .before .before .operand-formed .ensures) ∙ not-false _ (c .before .if1 .left)))
+    coerces coerceFloat float-plain _ _ _ _ _ _ (c .coerce-to-float .ensures (s .args .items .now) (s .args .values .now) ∙ ap placed (coerce-goes format1 p (s .args .items .now) (s .args .values .now) coerceFloat (s .args .v) (sym (c .before .before .before .before .before .check .ensures) ∙ ap (λ (r : Checked). checked r (decoded format1 p)) (c .before .before .before .enum-told .given .1)) (sym (c .before .before .operand-formed .ensures) ∙ not-false _ (c .before .if1 .left))))
 
 pub coerce-to-float-spec : {M : Type 1} → statement M
 coerce-to-float-spec =

@@ -21,7 +21,7 @@ outcome-requires : tie.Need-outcome-requires
 outcome-requires c κs =
     let s = c .before .before .before .before .before .before .before .before .before .before .before in
     let f = castTo (s .args .items .now) (s .args .values .now) (s .args .result-items .now) (s .args .result-values .now) (s .args .code) (c .before .before .before .before .before .before .before .value-in .result) in
-    small-outcome (format1 .limit) (omega arith) (onPack format1 (s .args .pack .now) f) _ (c .before .before .before .before .cast .ensures .answered) (pack-few format1 (runnable1 .narrow) (s .args .pack .now) f (λ ends defined within. cast-to-few (format1 .limit) ends defined within (s .args .items .now) (s .args .values .now) (c .before .before .before .before .before .before .before .value-in .result) (s .args .result-items .now) (s .args .result-values .now) (s .args .code)))
+    small-outcome (format1 .limit) (omega arith) (onPack format1 (s .args .pack .now) f) _ (c .before .before .before .before .cast .ensures .gave .answered) (pack-few format1 (runnable1 .narrow) (s .args .pack .now) f (λ ends defined within. cast-to-few (format1 .limit) ends defined within (s .args .items .now) (s .args .values .now) (c .before .before .before .before .before .before .before .value-in .result) (s .args .result-items .now) (s .args .result-values .now) (s .args .code)))
 
 same-length : tie.Need-same-length
 same-length c = search needs
@@ -32,7 +32,7 @@ same-length-2 c = search needs
 returns : tie.Need-returns
 returns c =
     let s = c .before .before .before .before .before .before .before .before .before .before .before .before in
-    calls _ _ _ _ _ _ _ _ _ (ap (λ (v : Value). onPack format1 (s .args .pack .now) (castTo (s .args .items .now) (s .args .values .now) (s .args .result-items .now) (s .args .result-values .now) (s .args .code) v)) (c .before .before .before .before .before .before .before .before .value-in .ensures)) (c .before .before .before .before .before .cast .ensures) (c .outcome .ensures)
+    calls _ _ _ _ _ _ _ _ _ (ap (λ (v : Value). onPack format1 (s .args .pack .now) (castTo (s .args .items .now) (s .args .values .now) (s .args .result-items .now) (s .args .result-values .now) (s .args .code) v)) (c .before .before .before .before .before .before .before .before .value-in .ensures)) (c .before .before .before .before .before .cast .ensures .gave) (c .outcome .ensures)
 
 pub ink-cast-spec : {M : Type 1} → statement M
 ink-cast-spec =

@@ -23,12 +23,12 @@ outcome-requires : tie.Need-outcome-requires
 outcome-requires c κs =
     let s = c .before .before .before .before .before in
     let f = coerced (s .args .items .now) (s .args .values .now) coerceFloat (c .before .before .value-in .result) in
-    small-outcome (format1 .limit) (omega arith) (onPack format1 (s .args .pack .now) f) _ (c .before .coerce-to-float .ensures) (pack-few format1 (runnable1 .narrow) (s .args .pack .now) f (λ ends defined within. coerced-few (format1 .limit) (s .args .items .now) (s .args .values .now) coerceFloat (c .before .before .value-in .result) (definitions ends defined (format1 .limit)) (float-few (format1 .limit))))
+    small-outcome (format1 .limit) (omega arith) (onPack format1 (s .args .pack .now) f) _ (c .before .coerce-to-float .ensures .answered) (pack-few format1 (runnable1 .narrow) (s .args .pack .now) f (λ ends defined within. coerced-few (format1 .limit) (s .args .items .now) (s .args .values .now) coerceFloat (c .before .before .value-in .result) (definitions ends defined (format1 .limit)) (float-few (format1 .limit))))
 
 returns : tie.Need-returns
 returns c =
     let s = c .before .before .before .before .before .before in
-    says _ _ _ _ _ (ap (λ (v : Value). onPack format1 (s .args .pack .now) (coerced (s .args .items .now) (s .args .values .now) coerceFloat v)) (c .before .before .before .value-in .ensures)) (c .before .before .coerce-to-float .ensures) (c .outcome .ensures)
+    says _ _ _ _ _ (ap (λ (v : Value). onPack format1 (s .args .pack .now) (coerced (s .args .items .now) (s .args .values .now) coerceFloat v)) (c .before .before .before .value-in .ensures)) (c .before .before .coerce-to-float .ensures .answered) (c .outcome .ensures)
 
 pub ink-coerce-to-float-spec : {M : Type 1} → statement M
 ink-coerce-to-float-spec =
