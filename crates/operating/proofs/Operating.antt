@@ -88,5 +88,6 @@ pub computes-two : (u : ListDefinitions) (o n : ℕ) (a b x : Val) {k k′ : Kin
     → compute u o (take n (a ∷ b ∷ x ∷ [])) k ≡ compute u o (take n (a ∷ b ∷ [])) k′
 computes-two u o n a b x {k} h m e = ap (λ (vs : List Val). compute u o vs k) (sym (two-of n a b x h m)) ∙ ap (compute u o (take n (a ∷ b ∷ []))) e
 
-pub answered-is : {F : Format} (a b : Answer Val) (place : ℕ) (r : Step) (wi wi′ : List ℕ) (wv wv′ : List ℤ) → b ≡ a → Answered F a place r wi wi′ wv wv′ → Answered F b place r wi wi′ wv wv′
+pub answered-is : {F : Format} (a b : Answer Val) (place : ℕ) (r : Step) (wi wi′ : List ℕ) (wv wv′ : List ℤ) → b ≡ a
+    → Answered F a place r wi wi′ wv wv′ → Answered F b place r wi wi′ wv wv′
 answered-is {F} a b place r wi wi′ wv wv′ e w = subst (λ (x : Answer Val). Answered F x place r wi wi′ wv wv′) (sym e) w

@@ -68,7 +68,8 @@ module _ (F : Format) (is : List ℕ) (vs : List ℤ) (v : Value) (f : Formed (F
 
 -- ---- results
 
-pub refusal : {F : Format} (a : Answer Val) (r : Outcome) (place : ℕ) (wi : List ℕ) (wv : List ℤ) → r ≡ placed a → (q : ℕ) → r ≡ Out.Refused q → Answered F a place (St.No q) wi wi wv wv
+pub refusal : {F : Format} (a : Answer Val) (r : Outcome) (place : ℕ) (wi : List ℕ) (wv : List ℤ) → r ≡ placed a → (q : ℕ) → r ≡ Out.Refused q
+    → Answered F a place (St.No q) wi wi wv wv
 refusal (gives x) r place wi wv e q s = let z : _≡_ {A = ℕ} 0 1 = cc in absurd (omega arith)
 refusal (refuses n) r place wi wv e q s = record { by = record { refused = cc; items-same = refl; values-same = refl } }
 

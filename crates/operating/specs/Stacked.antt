@@ -64,7 +64,7 @@ taken wi wv a b c n = take n (valOf wi wv a ∷ valOf wi wv b ∷ valOf wi wv c 
 abbrev pub listGiven : ListDefinitions → ℕ → List Val → Answer Val
 listGiven u o vs = compute u o vs listK
 
--- "a no": the question's number, and nothing is written
+-- a no: the question's number, and nothing is written
 pub record Refuses {X : Type 0} (a : Answer X) (q : ℕ) (wi wi′ : List ℕ) (wv wv′ : List ℤ) : Type 0 where
   pub refused : a ≡ refuses q
   pub items-same : wi′ ≡ wi
@@ -82,6 +82,7 @@ abbrev pub AnswerCase : Format → Answer Val → ℕ → Step → List ℕ → 
 AnswerCase F a place (St.Put p v) wi wi′ wv wv′ = PutAt F a place p v wi wi′ wv wv′
 AnswerCase F a place (St.No q) wi wi′ wv wv′ = Refuses a q wi wi′ wv wv′
 
+-- an operator's answer: its value is put at the place, or it is a no
 pub record Answered (F : Format) (a : Answer Val) (place : ℕ) (r : Step) (wi wi′ : List ℕ) (wv wv′ : List ℤ) : Type 0 where
   pub by : AnswerCase F a place r wi wi′ wv wv′
 

@@ -116,7 +116,8 @@ module _ (F : Format) {A : Type 0} (z : A) (l : List A) (h : workLimit F ≤ len
       subst (λ (i : ℕ). getD (fill 0 (replicate (workLimit F) z) l) i z ≡ z) (zero-add j)
       (getD-inside 0 (replicate (workLimit F) z) l fits j z (omega (arith, length-replicate (workLimit F) z)) ∙ getD-replicate (workLimit F) j z z k)
 
-pub zeroed-memory : (F : Format) → Runnable F → (wi wi′ : List ℕ) (wv wv′ : List ℤ) (ri : List ℕ) (rv : List ℤ) → Long F wi wv ri rv → wi′ ≡ fill 0 (replicate (workLimit F) 0) wi
+pub zeroed-memory : (F : Format) → Runnable F → (wi wi′ : List ℕ) (wv wv′ : List ℤ) (ri : List ℕ) (rv : List ℤ)
+    → Long F wi wv ri rv → wi′ ≡ fill 0 (replicate (workLimit F) 0) wi
     → wv′ ≡ fill 0 (replicate (workLimit F) (pos 0)) wv → Memory F wi′ wv′ ri rv
 zeroed-memory F f wi wi′ wv wv′ ri rv l hi hv =
     rw (hi, hv)

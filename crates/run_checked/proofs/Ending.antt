@@ -54,13 +54,15 @@ ran-stopped e n k ri rv q =
     subst (λ (z : End Val). RanTo z (Rn.Stopped n k) ri ri rv rv) q (record { end-is = refl; answered = refl; items-out = refl; values-out = refl })
 
 -- the tables are the pack's own
-pub same-run : (F : Format) (p ends : List ℕ) (defined : List ℤ) (slots : List Value) (si : List ℕ) (sv : List ℤ) → Inputs F p ends defined slots si sv → (s : ℕ) (vs : List Val)
+pub same-run : (F : Format) (p ends : List ℕ) (defined : List ℤ) (slots : List Value) (si : List ℕ) (sv : List ℤ)
+    → Inputs F p ends defined slots si sv → (s : ℕ) (vs : List Val)
     → run (definitions ends defined (F .limit)) (program p s) (literalOf (decoded F p)) vs .end ≡ runOf F p s vs
 same-run F p ends defined slots si sv g s vs =
     ap (λ (es : List ℕ). run (definitions es defined (F .limit)) (program p s) (literalOf (decoded F p)) vs .end) (g .ends-are)
     ∙ ap (λ (ds : List ℤ). run (definitions (endsOf (decoded F p)) ds (F .limit)) (program p s) (literalOf (decoded F p)) vs .end) (g .defined-are)
 
-module _ {F : Format} (e : End Val) (r : Ran) (used wi wi′ : List ℕ) (wv wv′ : List ℤ) (ri : List ℕ) (rv : List ℤ) (m : Memory F wi wv ri rv) (w : Worked F e r used wi wi′ wv wv′) where
+module _ {F : Format} (e : End Val) (r : Ran) (used wi wi′ : List ℕ) (wv wv′ : List ℤ) (ri : List ℕ) (rv : List ℤ)
+    (m : Memory F wi wv ri rv) (w : Worked F e r used wi wi′ wv wv′) where
   pub roomy-after : Roomy F wi′ wv′
   roomy-after =
       record { format = m .format; items-room = omega (arith, m .items-room, w .items-touched .long); values-room = omega (arith, m .values-room, w .values-touched .long) }

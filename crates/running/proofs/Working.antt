@@ -80,7 +80,8 @@ allowed-slot L (push (pushSlot s)) a = a
 allowed-slot L (push pushVoid) a = tt
 
 -- the inputs but for the slots
-pub inputs-none : {F : Format} {p ends : List ℕ} {defined : List ℤ} {slots : List Value} {si : List ℕ} {sv : List ℤ} → Inputs F p ends defined slots si sv → Inputs F p ends defined [] si sv
+pub inputs-none : {F : Format} {p ends : List ℕ} {defined : List ℤ} {slots : List Value} {si : List ℕ} {sv : List ℤ}
+    → Inputs F p ends defined slots si sv → Inputs F p ends defined [] si sv
 inputs-none g = record { sound = g .sound; ends-are = g .ends-are; defined-are = g .defined-are; slots-formed = λ k h. absurd (omega arith) }
 
 -- ---- a value after it is put, and the values below
@@ -226,7 +227,10 @@ pub record Working (F : Format) (p : List ℕ) (s : ℕ) (u : ListDefinitions) (
   pub values-touched : Touched F (pos 0) used wv₀ wv
 
 none-used : (q : ℕ) → _≡_ {A = ℕ} (getD (replicate stackLimit 0) q 0) 0
-none-used q = ⊎-elim (λ h. getD-replicate {A = ℕ} stackLimit q 0 0 h) (λ h. List·getD-eq-default {A = ℕ} (replicate stackLimit 0) 0 {n = q} (omega (arith, length-replicate {A = ℕ} stackLimit 0))) (lt-or-le q stackLimit)
+none-used q =
+    ⊎-elim (λ h. getD-replicate {A = ℕ} stackLimit q 0 0 h)
+    (λ h. List·getD-eq-default {A = ℕ} (replicate stackLimit 0) 0 {n = q} (omega (arith, length-replicate {A = ℕ} stackLimit 0)))
+    (lt-or-le q stackLimit)
 
 pub begin : {F : Format} (p : List ℕ) (s : ℕ) (u : ListDefinitions) (slots : List Val) (wi : List ℕ) (wv : List ℤ) (used : List ℕ) (stack : List Value) (at : ℕ)
     → Standing p s 0 at → length stack ≡ stackLimit → used ≡ replicate stackLimit 0 → Working F p s u slots wi wv used wi wv stack 0 at 0

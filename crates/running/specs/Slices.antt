@@ -75,8 +75,8 @@ RunsAny F pack sheet = RunsAsked (opened F (now (pack .entry)) sheet) F sheet
 
 -- of a pack that passed: questions 6 and 7 asked
 abbrev pub RunsSix : Format → Slice ℕ → ℕ → List Value → Slice ℕ → Slice ℤ → Ran → Slice ℕ → Slice ℤ → Slice ℕ → Slice ℤ → Type 0
-RunsSix F pack sheet = RunsAsked (λ runMemory. askedSix sheet runMemory (decoded F (now (pack .entry)))) F sheet
+RunsSix F pack sheet = RunsAsked (λ memory. askedSix sheet memory (decoded F (now (pack .entry)))) F sheet
 
 -- of a pack that passed and has the sheet: question 7 asked
 abbrev pub RunsSeven : Format → Slice ℕ → ℕ → List Value → Slice ℕ → Slice ℤ → Ran → Slice ℕ → Slice ℤ → Slice ℕ → Slice ℤ → Type 0
-RunsSeven F pack sheet = RunsAsked (λ runMemory. askedSeven runMemory (decoded F (now (pack .entry)))) F sheet
+RunsSeven F pack sheet = RunsAsked (λ memory. askedSeven memory (decoded F (now (pack .entry)))) F sheet

@@ -110,7 +110,8 @@ pub slot-value : (is : List ℕ) (vs : List ℤ) (slots : List Value) (k : ℕ) 
 slot-value is vs slots k h = ap (valOf is vs) (getD-any slots k (Is.Bool false) Is.Void h) ∙ sym (List·getD-map (valOf is vs) slots k Is.Void)
 
 -- the tables of a pack that passed
-pub known-of : (F : Format) → Narrow F → (p ends : List ℕ) (defined : List ℤ) (slots : List Value) (si : List ℕ) (sv : List ℤ) → Inputs F p ends defined slots si sv → PackLists (F .limit) ends defined
+pub known-of : (F : Format) → Narrow F → (p ends : List ℕ) (defined : List ℤ) (slots : List Value) (si : List ℕ) (sv : List ℤ)
+    → Inputs F p ends defined slots si sv → PackLists (F .limit) ends defined
 known-of F narrow p ends defined slots si sv g =
     let t = pack-tables F p narrow (g .sound) in
     rw (g .ends-are, g .defined-are)

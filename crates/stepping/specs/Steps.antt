@@ -1,5 +1,4 @@
--- The words of the contracts: what a run goes by, and one step on a stack that is held in an array.
--- Assumes nothing.
+-- The words of the contracts: what a run goes by, and one step on a stack that is held in an array. Assumes nothing.
 use mathlib.Core.Path.{_≡_}
 use mathlib.Core.Bool.{false}
 use mathlib.Core.List.{List, _∷_}
@@ -23,14 +22,14 @@ use Rattle.operating.specs.Stacked.{startAt, Put, Refuses}
 use Rattle.operating.specs.declared.Step.{Step}
 use Rattle.operating.specs.declared.Step.the-variants as St
 
--- ---- one step
-
 -- what a run goes by: a pack that passed, its definitions' tables, and slots whose lists stand well formed in their slices
 pub record Inputs (F : Format) (p ends : List ℕ) (defined : List ℤ) (slots : List Value) (si : List ℕ) (sv : List ℤ) : Type 0 where
   pub sound : Sound F p
   pub ends-are : ends ≡ endsOf (decoded F p)
   pub defined-are : defined ≡ definedOf (decoded F p)
   pub slots-formed : (k : ℕ) → k < length slots → Formed (F .limit) si sv (getD slots k (Is.Bool false))
+
+-- ---- one step
 
 -- a push on a stack of n: question 9
 abbrev pub pushed : ℕ → Val → Answer Val
@@ -49,6 +48,7 @@ abbrev pub StepCase : Format → ℕ → Answer (List Val) → (ℕ → Val) →
 StepCase F n a f (St.Put p v) wi wi′ wv wv′ = Grown F n a f p v wi wi′ wv wv′
 StepCase F n a f (St.No q) wi wi′ wv wv′ = Refuses a q wi wi′ wv wv′
 
+-- the stack that an instruction gives: a value is put on top of what is left of it, or it is a no
 pub record Steps (F : Format) (n : ℕ) (a : Answer (List Val)) (f : ℕ → Val) (r : Step) (wi wi′ : List ℕ) (wv wv′ : List ℤ) : Type 0 where
   pub by : StepCase F n a f r wi wi′ wv wv′
 
@@ -60,7 +60,7 @@ pub record Operands (wi : List ℕ) (wv : List ℤ) (a b c : Value) (n count : �
   pub two : 2 ≤ count → count ≤ n → f (n - count + 1) ≡ valOf wi wv b
   pub three : 3 ≤ count → count ≤ n → f (n - count + 2) ≡ valOf wi wv c
 
--- and they are well formed
+-- they are well formed
 abbrev pub OperandsFormed : Format → List ℕ → List ℤ → Value → Value → Value → ℕ → ℕ → Type 0
 OperandsFormed F wi wv a b c n count = count ≤ n → FirstFormed (F .limit) wi wv count a b c
 

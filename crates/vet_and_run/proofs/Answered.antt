@@ -46,7 +46,8 @@ answered (Vet.Passed m) n f b r c a g =
     subst (λ (k : ℕ). ForetoldAnswer (Vet.Passed k) f r) (sym c) (ends (b .end) r a f n m (length (b .stacks) ≡ n) (g .1))
 answered (Vet.Refused q k) n f b r c a g = stops (b .end) r a f q k g
 
-pub both : {F : Format} (p : List ℕ) (s : ℕ) (codes : List ℕ) (slots : List Value) (si : List ℕ) (sv : List ℤ) (b : VettedRun) (f f′ wi wi′ : List ℕ) (wv wv′ : List ℤ) (ri ri′ : List ℕ) (rv rv′ : List ℤ)
+pub both : {F : Format} (p : List ℕ) (s : ℕ) (codes : List ℕ) (slots : List Value) (si : List ℕ) (sv : List ℤ) (b : VettedRun)
+    (f f′ wi wi′ : List ℕ) (wv wv′ : List ℤ) (ri ri′ : List ℕ) (rv rv′ : List ℤ)
     → Vets F p s codes (b .vetted) f f′
     → Runs F (opened F p s (runMemory F slots si sv wi wv ri rv)) s (map (valOf si sv) slots) (b .ran) wi wi′ wv wv′ ri ri′ rv rv′
     → Both F p s codes slots si sv b f f′ wi wi′ wv wv′ ri ri′ rv rv′

@@ -53,7 +53,12 @@ module _ (F : Format) (p : List ℕ) where
   pub run-suffices : (wi ri : List ℕ) (wv rv : List ℤ) → Long F wi wv ri rv → Suffices F p (runMemory F (sixteen Is.Void) [] [] wi wv ri rv)
   unfolding runMemory _and_ formed bitsBelow
   run-suffices wi ri wv rv l d e =
-      rw (lt-ltb 0 (2 ^ length (endsOf d)) (pow-pos (length (endsOf d))), le-leb (workLimit F) (length wi) (l .work-items), le-leb (workLimit F) (length wv) (l .work-values), le-leb (F .limit) (length ri) (l .result-items), le-leb (F .limit) (length rv) (l .result-values))
+      let t = lt-ltb 0 (2 ^ length (endsOf d)) (pow-pos (length (endsOf d))) in
+      let a = le-leb (workLimit F) (length wi) (l .work-items) in
+      let b = le-leb (workLimit F) (length wv) (l .work-values) in
+      let g = le-leb (F .limit) (length ri) (l .result-items) in
+      let h = le-leb (F .limit) (length rv) (l .result-values) in
+      rw (t, a, b, g, h)
 
 pub kinds-agree : map kindOf (map (valOf [] []) (sixteen Is.Void)) ≡ map kindAt (sixteen 4)
 kinds-agree = refl

@@ -27,8 +27,8 @@ use Rattle.vet_and_run.specs.declared.VettedRun.{VettedRun}
 abbrev pub StoppedByValue : (ℕ → Type 0) → Ran → Type 0
 StoppedByValue = ByValue Rn.Stopped
 
--- what vetting's answer, with the forecast's bytes f, says of the run's answer. Passed: "the run ends in one value of the kind forecast last
--- or stops with 15 or 16"; turned back with q at k: "the run stops before k with 15 or 16, or exactly at k with" q
+-- what vetting's answer, with the forecast's bytes f, says of the run's answer. Passed: "the run ends in one value of the kind forecast
+-- last or stops with 15 or 16"; turned back with q at k: "the run stops before k with 15 or 16, or exactly at k with" q
 abbrev pub ForetoldAnswer : Vetted → List ℕ → Ran → Type 0
 ForetoldAnswer (Vet.Passed n) f r =
     ((v : Value) × (r ≡ Rn.Ended v) × (codeOfValue v ≡ getD f (2 * n - 1) 0)) ⊎ StoppedByValue (λ i. i < n) r
@@ -54,4 +54,5 @@ abbrev pub BothIn : Format → Slice ℕ → ℕ → List ℕ → List Value →
     → Slice ℕ → Slice ℕ → Slice ℤ → Slice ℕ → Slice ℤ → Type 0
 BothIn F pack sheet kinds slots si sv b f wi wv ri rv =
     Both F (now (pack .entry)) sheet kinds slots (now (si .entry)) (now (sv .entry)) b (now (f .entry)) (now (f .exit))
-    (now (wi .entry)) (now (wi .exit)) (now (wv .entry)) (now (wv .exit)) (now (ri .entry)) (now (ri .exit)) (now (rv .entry)) (now (rv .exit))
+    (now (wi .entry)) (now (wi .exit)) (now (wv .entry)) (now (wv .exit))
+    (now (ri .entry)) (now (ri .exit)) (now (rv .entry)) (now (rv .exit))

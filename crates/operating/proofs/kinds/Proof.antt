@@ -1,4 +1,4 @@
--- `operating::kinds` meets its contract. Assumes nothing.
+-- `operating::kinds` meets its contract: range has a rule of its own, all others the table. Assumes nothing.
 use mathlib.Core.Path.{sym}
 use Rattle.ink_value.specs.Val.{kindAt}
 use Rattle.native_function_call.proofs.Applying.{below-range}

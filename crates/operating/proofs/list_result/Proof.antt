@@ -1,4 +1,4 @@
--- `operating::list_result` meets its contract. Assumes nothing.
+-- `operating::list_result` meets its contract: either pair of slices is as long as the format's limit. Assumes nothing.
 use native.Mathlib.Omega.{arith}
 use borrow.Author.Needs.{needs}
 use Rattle.operating.proofs.list_result.Statement.{statement}

@@ -1,4 +1,4 @@
--- `operating::list_through` meets its contract. Assumes nothing.
+-- `operating::list_through` meets its contract: the list is read back from where its operator wrote it, and put in its place. Assumes nothing.
 use native.Mathlib.Omega.{arith}
 use Rattle.ink_list.specs.Entries.{itemNumbers}
 use Prim.Native.Nat.{zero-le}

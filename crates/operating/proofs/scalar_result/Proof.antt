@@ -1,4 +1,4 @@
--- `operating::scalar_result` meets its contract. Assumes nothing.
+-- `operating::scalar_result` meets its contract: one operator for each kind of result, on the operands in parts. Assumes nothing.
 use mathlib.Core.Path.{sym, ap, _∙_}
 use mathlib.Core.Bool.{Bool}
 use native.Mathlib.Omega.{arith}

@@ -1,4 +1,4 @@
--- `operating::whole_result` meets its contract. Assumes nothing.
+-- `operating::whole_result` meets its contract: an Int has no entries, and the no is 15. Assumes nothing.
 use mathlib.Core.Path.{refl, sym, ap, _∙_}
 use native.Mathlib.Omega.{arith}
 use lib.IntN.{ℤ}

@@ -1,4 +1,4 @@
--- `run_bytes::long_enough` meets its contract. Assumes nothing.
+-- `run_bytes::long_enough` meets its contract: the first slice that is too short decides. Assumes nothing.
 use native.Mathlib.Omega.{arith}
 use borrow.Author.Tests.{lt-leb, le-leb}
 use Rattle.ink_list.specs.Every.{_and_}

@@ -1,4 +1,5 @@
--- `run_checked::clear` meets its contract. The invariant: the places passed are zero as far as they were used, and the others as they were. Assumes nothing.
+-- `run_checked::clear` meets its contract. The invariant: the places passed are zero as far as they were used, and the others as they were.
+-- Assumes nothing.
 use mathlib.Core.Path.{_≡_, sym, ap, _∙_}
 use Prim.Native.Nat.{ℕ, zero-le, _-_, _≤_}
 use native.Mathlib.Omega.{arith}

@@ -1,4 +1,5 @@
--- `running::work` meets its contract. Assumes nothing.
+-- `running::work` meets its contract. The invariant (`Working`): what is left of the sheet, from the stack as it stands, ends as the whole
+-- does. Assumes nothing.
 use mathlib.Core.Path.{refl, sym, ap, _∙_, subst}
 use Prim.Native.Nat.{ℕ, _-_, _<_}
 use native.Mathlib.Omega.{arith}

@@ -1,4 +1,4 @@
--- `stepping::run_op` meets its contract. Assumes nothing.
+-- `stepping::run_op` meets its contract: questions 8 and 10, and then the operator's answer on the stack below its operands. Assumes nothing.
 use mathlib.Core.Path.{sym, _∙_, subst}
 use Prim.Native.Nat.{ℕ}
 use native.Mathlib.Omega.{arith}

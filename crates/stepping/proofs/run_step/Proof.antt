@@ -1,4 +1,4 @@
--- `stepping::run_step` meets its contract. Assumes nothing.
+-- `stepping::run_step` meets its contract: each kind of instruction is its case of the definition. Assumes nothing.
 use mathlib.Core.Path.{refl, ap, subst, _∙_}
 use mathlib.Core.List.{[], map}
 use mir.ValLaws.{toZ-ofZ}

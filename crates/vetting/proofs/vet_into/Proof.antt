@@ -1,5 +1,6 @@
--- `vetting::vet_into` meets its contract. The invariant (proofs/Going.antt): what is left of vetting from the stack as it stands is the end of vetting the sheet,
--- and the bytes written are the forecast of the instructions passed. The measure is what is left of the sheet's bytes. Assumes nothing.
+-- `vetting::vet_into` meets its contract. The invariant (proofs/Going.antt): what is left of vetting from the stack as it stands is the end of
+-- vetting the sheet, and the bytes written are the forecast of the instructions passed. The measure is what is left of the sheet's bytes.
+-- Assumes nothing.
 use mathlib.Core.Path.{_≡_, sym, ap, _∙_}
 use mathlib.Core.List.{_∷_, map}
 use Prim.Native.Nat.{_-_, _≤_, _<_}
