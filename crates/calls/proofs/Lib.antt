@@ -1,2 +1,3 @@
 -- The laws of direct calls.
 pub mod Forms
+pub mod Standing

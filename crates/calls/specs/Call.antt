@@ -1,19 +1,20 @@
 -- A direct call and the conversions on the bytes of a pack: questions 1 to 5 and 7 come before those of the operator. Assumes nothing.
+use mathlib.Core.Path.{_≡_}
 use mathlib.Core.Bool.{Bool}
 use mathlib.Core.List.{List, [], _∷_, map}
-use Prim.Native.Nat.{ℕ, _≤_}
+use Prim.Native.Nat.{ℕ}
 use lib.Dec.{leb}
 use lib.IntN.{ℤ}
 use lib.ListN.{length, take}
 use Rattle.ink_number.specs.Answer.{Answer, refuses, ask, andThen}
 use Rattle.slices.specs.Every.{_and_}
-use Rattle.list_definitions.specs.Defs.{ListDefinitions, Tables}
+use Rattle.list_definitions.specs.Defs.{ListDefinitions}
 use Rattle.ink_value.specs.Val.{Val}
 use Rattle.ink_value.specs.Convert.{cast}
-use Rattle.ink_value.specs.Value.{valOf, allFormed}
+use Rattle.ink_value.specs.Value.{valOf, allFormed, placed, outcomeOf, Gave}
+use Rattle.ink_value.specs.declared.Outcome.{Outcome}
 use Rattle.ink_value.specs.declared.Value.{Value}
 use Rattle.native_function_call.specs.Apply.{call}
-use Rattle.pack.specs.Format.{definitionLimit}
 use Rattle.pack.specs.Judge.{judge}
 use Rattle.pack.specs.Read.{definitionsOf}
 use Rattle.pack.specs.declared.Checked.{Checked}
@@ -50,8 +51,14 @@ abbrev pub afterAsked : Checked → Answer Val → Answer Val
 afterAsked Passed a = a
 afterAsked (Refused n) a = refuses n
 
--- tables of a pack whose items are at most a limit
-pub record PackLists (limit : ℕ) (ends : List ℕ) (defined : List ℤ) : Type 0 where
-  pub tables : Tables ends defined
-  pub few : length ends ≤ definitionLimit
-  pub within : length defined ≤ limit
+-- ---- what is returned
+
+-- an answer is returned and written as `Gave` says, and with the result slices at exit the outcome stands for it
+pub record Returned (a : Answer Val) (r : Outcome) (oi oi′ : List ℕ) (ov ov′ : List ℤ) : Type 0 where
+  pub gave : Gave a r oi oi′ ov ov′
+  pub stands : outcomeOf oi′ ov′ r ≡ a
+
+-- an answer that is no List is returned: the outcome stands for it, whatever the slices hold
+pub record ReturnedPlain (a : Answer Val) (r : Outcome) : Type 0 where
+  pub answered : r ≡ placed a
+  pub stands : (is : List ℕ) (vs : List ℤ) → outcomeOf is vs r ≡ a

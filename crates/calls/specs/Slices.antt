@@ -13,12 +13,13 @@ use Rattle.list_definitions.specs.Defs.{ListDefinitions}
 use Rattle.ink_value.specs.Val.{Val}
 use Rattle.ink_value.specs.Slices.{valIn}
 use Rattle.ink_value.specs.Value.{allFormed}
+use Rattle.ink_value.specs.declared.Outcome.{Outcome}
 use Rattle.ink_value.specs.declared.Value.{Value}
 use Rattle.pack.specs.declared.format.Format.{Format}
 use Rattle.pack.specs.declared.Checked.{Checked}
 use Rattle.pack.specs.Bodies.{decoded}
 use Rattle.pack.specs.Read.{definitionsOf}
-use Rattle.calls.specs.Call.{operandsOk, called, castTo, coerced, onPack, afterAsked}
+use Rattle.calls.specs.Call.{operandsOk, called, castTo, coerced, onPack, afterAsked, Returned}
 
 -- 7, of values: their lists are formed as literals of a pack with so many items and definitions
 abbrev pub formedIn : ℕ → ℕ → Slice ℕ → Slice ℤ → List Value → Bool
@@ -55,3 +56,7 @@ operandOk F pack is vs v = operandsOk (packDefinitions F pack) (now (is .entry))
 -- r has the first no of questions 1 to 5 and 7, which every conversion without result slices asks
 abbrev pub Asked : Format → Slice ℕ → Slice ℕ → Slice ℤ → Value → Checked → Type 0
 Asked F pack is vs v r = (f : Val → Answer Val) → onPackIn F pack (coercedIn is vs f v) ≡ afterAsked r (f (valIn is vs v))
+
+-- an answer is returned, and written to the two result slices
+abbrev pub ReturnedIn : Answer Val → Outcome → Slice ℕ → Slice ℤ → Type 0
+ReturnedIn a r oi ov = Returned a r (now (oi .entry)) (now (oi .exit)) (now (ov .entry)) (now (ov .exit))

@@ -16,13 +16,13 @@ ghost use Rattle.ink_list.specs.Entries.{itemNumbers};
 ghost use denote.Ref.{now};
 ghost use Rattle.native_function_call.specs.Lists.{definitions, definitionsIn};
 ghost use Rattle.ink_value.specs.Convert.{cast, coerceBool, coerceInt, coerceFloat};
-ghost use Rattle.ink_value.specs.Value.{placed};
+ghost use Rattle.pack.specs.Read.{PackLists};
 ghost use Rattle.ink_value.specs.Slices.{Gives};
 ghost use Rattle.ink_value.specs.declared.Value.the-variants as Is;
 ghost use Rattle.pack.specs.Format.{format1, Runnable};
 ghost use Rattle.pack.specs.Judge.{Sound};
-ghost use Rattle.calls.specs.Call.{operandsOk, PackLists};
-ghost use Rattle.calls.specs.Slices.{formedIn, lentWell, calledIn, castIn, coercedIn, onPackIn, packDefinitions, operandOk, Asked};
+ghost use Rattle.calls.specs.Call.{operandsOk, ReturnedPlain};
+ghost use Rattle.calls.specs.Slices.{formedIn, lentWell, calledIn, castIn, coercedIn, onPackIn, packDefinitions, operandOk, Asked, ReturnedIn};
 
 // Question 7 of a value, with its two slices equally long.
 fn one_formed(v: Value, items: &[u16], values: &[i32], total: usize, definitions: usize) -> bool
@@ -252,7 +252,7 @@ pub fn call(
     result_items: &mut [u16],
     result_values: &mut [i32],
 ) -> Outcome
-    ensures { λ r. ⌜ Gives (onPackIn format1 pack (calledIn items values «result_items» «result_values» op count (a ∷ b ∷ c ∷ [])))
+    ensures { λ r. ⌜ ReturnedIn (onPackIn format1 pack (calledIn items values «result_items» «result_values» op count (a ∷ b ∷ c ∷ [])))
         r «result_items» «result_values» ⌝ }
 {
     match pack_check::check(pack) {
@@ -323,7 +323,7 @@ pub fn cast(
     result_items: &mut [u16],
     result_values: &mut [i32],
 ) -> Outcome
-    ensures { λ r. ⌜ Gives (onPackIn format1 pack (castIn items values «result_items» «result_values» to v))
+    ensures { λ r. ⌜ ReturnedIn (onPackIn format1 pack (castIn items values «result_items» «result_values» to v))
         r «result_items» «result_values» ⌝ }
 {
     match pack_check::check(pack) {
@@ -358,7 +358,7 @@ fn operand_asked(pack: &[u8], v: Value, items: &[u16], values: &[i32]) -> Checke
 
 // `coerce_to_bool`: Bool and Int only, and only Int 1 is true.
 pub fn coerce_to_bool(pack: &[u8], v: Value, items: &[u16], values: &[i32]) -> Outcome
-    ensures { λ r. ⌜ r ≡ placed (onPackIn format1 pack (coercedIn items values coerceBool v)) ⌝ }
+    ensures { λ r. ⌜ ReturnedPlain (onPackIn format1 pack (coercedIn items values coerceBool v)) r ⌝ }
 {
     match operand_asked(pack, v, items, values) {
         Checked::Refused(number) => Outcome::Refused(number),
@@ -368,7 +368,7 @@ pub fn coerce_to_bool(pack: &[u8], v: Value, items: &[u16], values: &[i32]) -> O
 
 // `coerce_to_int`: not List or Void.
 pub fn coerce_to_int(pack: &[u8], v: Value, items: &[u16], values: &[i32]) -> Outcome
-    ensures { λ r. ⌜ r ≡ placed (onPackIn format1 pack (coercedIn items values coerceInt v)) ⌝ }
+    ensures { λ r. ⌜ ReturnedPlain (onPackIn format1 pack (coercedIn items values coerceInt v)) r ⌝ }
 {
     match operand_asked(pack, v, items, values) {
         Checked::Refused(number) => Outcome::Refused(number),
@@ -378,7 +378,7 @@ pub fn coerce_to_int(pack: &[u8], v: Value, items: &[u16], values: &[i32]) -> Ou
 
 // `coerce_to_float`: not List or Void.
 pub fn coerce_to_float(pack: &[u8], v: Value, items: &[u16], values: &[i32]) -> Outcome
-    ensures { λ r. ⌜ r ≡ placed (onPackIn format1 pack (coercedIn items values coerceFloat v)) ⌝ }
+    ensures { λ r. ⌜ ReturnedPlain (onPackIn format1 pack (coercedIn items values coerceFloat v)) r ⌝ }
 {
     match operand_asked(pack, v, items, values) {
         Checked::Refused(number) => Outcome::Refused(number),

@@ -9,10 +9,10 @@ use Rattle.ink_value.specs.Val.{Val}
 use Rattle.pack.specs.Bodies.{Pack, decoded}
 use Rattle.pack.specs.Format.{Runnable}
 use Rattle.pack.specs.declared.format.Format.{Format}
-use Rattle.stepping.specs.Steps.{workLimit}
+use Rattle.operating.specs.Stacked.{workLimit}
 use Rattle.running.specs.Run.{RanTo, Memory, runOf, Runs}
 use Rattle.running.specs.declared.Ran.{Ran}
-use Rattle.running.proofs.Opening.{Long}
+use Rattle.run_bytes.proofs.Opening.{Long}
 use Rattle.ink_operators.specs.Answers.{Clear}
 
 pub clear-memory : (F : Format) → Runnable F → (wi : List ℕ) (wv : List ℤ) (ri : List ℕ) (rv : List ℤ) → Clear F wi wv → Long F wi wv ri rv → Memory F wi wv ri rv

@@ -17,10 +17,10 @@ use Rattle.pack.specs.Bodies.{decoded}
 use Rattle.slices.proofs.Filled.{over-front}
 use Rattle.pack.specs.Format.{Narrow, definitionLimit}
 use Rattle.pack.specs.declared.format.Format.{Format}
-use Rattle.pack.specs.Read.{endsOf, definedOf, Tabled}
+use Rattle.pack.specs.Read.{endsOf, definedOf, Tabled, PackLists}
 use Rattle.pack.proofs.Judged.{judged}
 use Rattle.pack.proofs.Values.{pack-tables}
-use Rattle.calls.specs.Call.{onPack, PackLists}
+use Rattle.calls.specs.Call.{onPack}
 use Rattle.ink_operators.specs.Answers.{Passed, Reads, Ready, tablesLong}
 
 module _ (F : Format) (p ends : List ℕ) (defined : List ℤ) (counts : List ℕ) where

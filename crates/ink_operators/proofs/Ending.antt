@@ -26,10 +26,10 @@ use Rattle.pack.specs.Read.{definedOf, endsOf, definitionsOf, literalOf, sheetO
 use Rattle.pack.proofs.Judged.{judged}
 use Rattle.pack.proofs.Listed.{literal-formed, literals-long}
 use Rattle.pack.proofs.Values.{pack-tables}
-use Rattle.sheet.specs.Machine.{End, ended, stopped, Run, finish, onward, step, runFrom, valuePushed}
-use Rattle.sheet.specs.Whole.{opened}
-use Rattle.sheet.proofs.Wellformed.{WfStep, step-wf}
-use Rattle.running.specs.Run.{memory, endAfter, ranTo, Runs}
+use Rattle.machine.specs.Machine.{End, ended, stopped, Run, finish, onward, step, runFrom, valuePushed}
+use Rattle.machine.specs.Whole.{opened}
+use Rattle.machine.proofs.Wellformed.{WfStep, step-wf}
+use Rattle.running.specs.Run.{runMemory, endAfter, ranTo, Runs}
 use Rattle.running.specs.declared.Ran.{Ran}
 use Rattle.value_words.proofs.Few.{all-wf, few-items}
 use Rattle.ink_operators.specs.Answers.{SmallRan, ranNumber, ranWords, RunSays}
@@ -72,26 +72,26 @@ module _ (F : Format) (f : Runnable F) (p : List ℕ) (s : Sound F p) (slots : L
 
 -- a run ends in a value that is well formed
 pub end-wf : (F : Format) → Runnable F → (p : List ℕ) (s : ℕ) (l : List Value) (si : List ℕ) (sv : List ℤ) (wi : List ℕ) (wv : List ℤ) (ri : List ℕ) (rv : List ℤ)
-    → WfEnd F (endAfter F s (map (valOf si sv) l) (opened F p s (memory F l si sv wi wv ri rv)))
-unfolding opened memory
+    → WfEnd F (endAfter F s (map (valOf si sv) l) (opened F p s (runMemory F l si sv wi wv ri rv)))
+unfolding opened runMemory
 end-wf F f p s l si sv wi wv ri rv = first (judge F p) refl
   where
     vals : List Val
     vals = map (valOf si sv) l
 
-    seventh : (d : Pack) → Sound F p → d ≡ decoded F p → (t : Bool) → memory F l si sv wi wv ri rv d ≡ t → WfEnd F (endAfter F s vals (ask 7 t (gives d)))
+    seventh : (d : Pack) → Sound F p → d ≡ decoded F p → (t : Bool) → runMemory F l si sv wi wv ri rv d ≡ t → WfEnd F (endAfter F s vals (ask 7 t (gives d)))
     seventh d k q true m =
         subst (λ (x : Pack). WfEnd F (endAfter F s vals (gives x))) (sym q)
         (from-wf F f p k vals (all-wf (F .limit) si sv (length (definedOf (decoded F p))) (length (endsOf (decoded F p))) (few-items F p (f .narrow) k) l
         (and-right _ _ (and-left _ _ (rw q at m)))) 0 (sheetOf (decoded F p) s) [] tt)
     seventh d k q false m = tt
 
-    sixth : (d : Pack) → Sound F p → d ≡ decoded F p → (t : Bool) → WfEnd F (endAfter F s vals (ask 6 t (ask 7 (memory F l si sv wi wv ri rv d) (gives d))))
-    sixth d k q true = seventh d k q (memory F l si sv wi wv ri rv d) refl
+    sixth : (d : Pack) → Sound F p → d ≡ decoded F p → (t : Bool) → WfEnd F (endAfter F s vals (ask 6 t (ask 7 (runMemory F l si sv wi wv ri rv d) (gives d))))
+    sixth d k q true = seventh d k q (runMemory F l si sv wi wv ri rv d) refl
     sixth d k q false = tt
 
     first : (a : Answer Pack) → judge F p ≡ a
-        → WfEnd F (endAfter F s vals (andThen a (λ (d : Pack). ask 6 (ltb s (length (d .sheets))) (ask 7 (memory F l si sv wi wv ri rv d) (gives d)))))
+        → WfEnd F (endAfter F s vals (andThen a (λ (d : Pack). ask 6 (ltb s (length (d .sheets))) (ask 7 (runMemory F l si sv wi wv ri rv d) (gives d)))))
     first (gives d) e = let j = judged F p d e in sixth d (j .0) (j .1) (ltb s (length (d .sheets)))
     first (refuses r) e = tt
 
@@ -106,21 +106,21 @@ few-end f (stopped r k) h = tt
 -- so that it stands whole in its words
 pub runs-small : {F : Format} → Runnable F → (p : List ℕ) (s : ℕ) (l : List Value) (si : List ℕ) (sv : List ℤ) (r : Ran) (wi wi′ : List ℕ) (wv wv′ : List ℤ)
     (ri ri′ : List ℕ) (rv rv′ : List ℤ)
-    → Runs F (opened F p s (memory F l si sv wi wv ri rv)) s (map (valOf si sv) l) r wi wi′ wv wv′ ri ri′ rv rv′ → SmallRan r
+    → Runs F (opened F p s (runMemory F l si sv wi wv ri rv)) s (map (valOf si sv) l) r wi wi′ wv wv′ ri ri′ rv rv′ → SmallRan r
 runs-small {F} f p s l si sv r wi wi′ wv wv′ ri ri′ rv rv′ w =
-    let e = endAfter F s (map (valOf si sv) l) (opened F p s (memory F l si sv wi wv ri rv)) in
+    let e = endAfter F s (map (valOf si sv) l) (opened F p s (runMemory F l si sv wi wv ri rv)) in
     subst SmallRan (sym (w .ran .answered)) (few-end f e (end-wf F f p s l si sv wi wv ri rv))
 
 -- a run whose slots are those of the words
 pub run-says : {F : Format} (p : List ℕ) (s : ℕ) (l m : List Value) (si : List ℕ) (sv : List ℤ) (r : Ran) (n : ℕ) (ws wi wi′ : List ℕ) (wv wv′ : List ℤ)
     (ri ri′ : List ℕ) (rv rv′ : List ℤ) → l ≡ m
-    → Runs F (opened F p s (memory F l si sv wi wv ri rv)) s (map (valOf si sv) l) r wi wi′ wv wv′ ri ri′ rv rv′
+    → Runs F (opened F p s (runMemory F l si sv wi wv ri rv)) s (map (valOf si sv) l) r wi wi′ wv wv′ ri ri′ rv rv′
     → (n ≡ ranNumber r) × (ws ≡ ranWords r)
-    → RunSays F (opened F p s (memory F m si sv wi wv ri rv)) s (map (valOf si sv) m) n ws wi wi′ wv wv′ ri ri′ rv rv′
+    → RunSays F (opened F p s (runMemory F m si sv wi wv ri rv)) s (map (valOf si sv) m) n ws wi wi′ wv wv′ ri ri′ rv rv′
 run-says {F} p s l m si sv r n ws wi wi′ wv wv′ ri ri′ rv rv′ q w h =
-    subst (λ (x : List Value). RunSays F (opened F p s (memory F x si sv wi wv ri rv)) s (map (valOf si sv) x) n ws wi wi′ wv wv′ ri ri′ rv rv′) q
+    subst (λ (x : List Value). RunSays F (opened F p s (runMemory F x si sv wi wv ri rv)) s (map (valOf si sv) x) n ws wi wi′ wv wv′ ri ri′ rv rv′) q
     (record {
       number = h .0 ∙ ap ranNumber (w .ran .answered);
       words = h .1 ∙ ap ranWords (w .ran .answered);
-      leaves = subst (λ (x : Ran). Runs F (opened F p s (memory F l si sv wi wv ri rv)) s (map (valOf si sv) l) x wi wi′ wv wv′ ri ri′ rv rv′) (w .ran .answered) w;
+      leaves = subst (λ (x : Ran). Runs F (opened F p s (runMemory F l si sv wi wv ri rv)) s (map (valOf si sv) l) x wi wi′ wv wv′ ri ri′ rv rv′) (w .ran .answered) w;
     })

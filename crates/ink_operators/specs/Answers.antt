@@ -15,12 +15,11 @@ use Rattle.pack.specs.Format.{definitionLimit}
 use Rattle.pack.specs.declared.format.Format.{Format}
 use Rattle.pack.specs.Judge.{judge}
 use Rattle.pack.specs.Read.{endsOf, definedOf}
-use Rattle.stepping.specs.Steps.{workLimit}
-use Rattle.calls.specs.Call.{PackLists}
+use Rattle.operating.specs.Stacked.{workLimit}
 use Rattle.running.specs.Run.{ranTo, endAfter, Runs}
 use Rattle.running.specs.declared.Ran.{Ran}
 use Rattle.running.specs.declared.Ran.the-variants as Rn
-use Rattle.vetting.specs.Vet.{Answers}
+use Rattle.vetting.specs.Vet.{Vets}
 use Rattle.vetting.specs.declared.Vetted.{Vetted}
 use Rattle.vetting.specs.declared.Vetted.the-variants as Vet
 use Rattle.value_words.specs.Words.{wordsOf, Small}
@@ -60,7 +59,7 @@ vettedIndex (Vet.Refused r k) = k
 
 pub record VetSays (F : Format) (p : List ℕ) (s : ℕ) (codes : List ℕ) (n index : ℕ) (old new : List ℕ) : Type 0 where
   pub vetted : Vetted
-  pub answers : Answers F p s codes vetted old new
+  pub answers : Vets F p s codes vetted old new
   pub number : n ≡ vettedNumber vetted
   pub index-is : index ≡ vettedIndex vetted
 

@@ -9,18 +9,18 @@ use Rattle.ink_value.specs.Slices.{valIn}
 use Rattle.ink_value.specs.Val.{Val}
 use Rattle.pack.specs.Bodies.{decoded}
 use Rattle.pack.specs.declared.format.Format.{Format}
-use Rattle.sheet.specs.Whole.{opened}
 use Rattle.calls.specs.Slices.{calledIn, castIn, coercedIn, onPackIn}
-use Rattle.running.specs.Slices.{memoryIn}
+use Rattle.running.specs.Slices.{runMemoryIn}
 use Rattle.value_words.specs.Words.{slotsIn, valueAt}
 use Rattle.value_words.specs.Calls.{operandsIn}
 use Rattle.value_words.specs.Slices.{SaysIn, CallsIn}
 use Rattle.ink_operators.specs.Answers.{RunSays, VetSays, Reads, tablesLong}
+use Rattle.machine.specs.Whole.{opened}
 
 -- a run of any bytes on slots that stand in words: questions 1 to 7 asked, the number n and the answer's words, and what it leaves
 abbrev pub RunSaysAny : Format → Slice ℕ → ℕ → Slice ℕ → Slice ℕ → Slice ℤ → ℕ → Slice ℕ → Slice ℕ → Slice ℤ → Slice ℕ → Slice ℤ → Type 0
 RunSaysAny F pack sheet slots si sv n answer wi wv ri rv =
-    RunSays F (opened F (now (pack .entry)) sheet (memoryIn F (slotsIn (now (slots .entry))) si sv wi wv ri rv))
+    RunSays F (opened F (now (pack .entry)) sheet (runMemoryIn F (slotsIn (now (slots .entry))) si sv wi wv ri rv))
     sheet (map (valIn si sv) (slotsIn (now (slots .entry)))) n (now (answer .exit))
     (now (wi .entry)) (now (wi .exit)) (now (wv .entry)) (now (wv .exit)) (now (ri .entry)) (now (ri .exit)) (now (rv .entry)) (now (rv .exit))
 

@@ -12,7 +12,7 @@ ghost use denote.Ref.{now};
 ghost use Rattle.ink_value.specs.Convert.{coerceBool, coerceInt, coerceFloat};
 ghost use Rattle.pack.specs.Format.{format1};
 ghost use Rattle.pack.specs.Judge.{judge};
-ghost use Rattle.calls.specs.Call.{PackLists};
+ghost use Rattle.pack.specs.Read.{PackLists};
 ghost use Rattle.running.specs.Slices.{Kept};
 ghost use Rattle.value_words.specs.Calls.{numberOf};
 ghost use Rattle.word_operators.specs.Slices.{CallSays};
@@ -64,7 +64,7 @@ pub extern "C" fn ink_run(
         r answer «work_items» «work_values» «result_items» «result_values» ⌝ }
 {
     let values = words::slots_in(slots);
-    let ran = run_any::run(
+    let ran = run_bytes::run(
         pack,
         sheet,
         values,

@@ -33,13 +33,13 @@ pub fn run_ready(
             index: 0,
         };
     }
-    if !run_any::all_formed(slots, slot_items, slot_values, defined.len(), ends.len()) {
+    if !run_bytes::all_formed(slots, slot_items, slot_values, defined.len(), ends.len()) {
         return Ran::Stopped {
             number: 7,
             index: 0,
         };
     }
-    if !run_any::long_enough(
+    if !run_bytes::long_enough(
         &work_items[..],
         &work_values[..],
         &result_items[..],
@@ -51,7 +51,7 @@ pub fn run_ready(
             index: 0,
         };
     }
-    running::run_checked(
+    run_checked::run_checked(
         pack,
         ends,
         defined,

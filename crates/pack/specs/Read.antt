@@ -6,13 +6,13 @@ use mathlib.Core.Path.{_≡_}
 use lib.IntN.{ℤ}
 use lib.ListN.{length, getD, drop}
 use Rattle.ink_list.specs.Entries.{Entry, items, values}
-use Rattle.list_definitions.specs.Defs.{ListDefinitions}
+use Rattle.list_definitions.specs.Defs.{ListDefinitions, Tables}
 use Rattle.slices.specs.Every.{table}
 use Rattle.slices.specs.Filled.{fill, over}
 use Rattle.pack.specs.Bodies.{Literal, Pack, sheet}
 use Rattle.pack.specs.Bytes.{number, i32}
 use Rattle.pack.specs.Contents.{literalCount, sheetCount, sheetBody, offset, size}
-use Rattle.pack.specs.Format.{instructionLimit}
+use Rattle.pack.specs.Format.{definitionLimit, instructionLimit}
 use Rattle.pack.specs.declared.format.Format.{Format}
 use Rattle.pack.specs.Instruction.{Instr, push, pushVoid, width, instruction, instructions, orNone}
 
@@ -46,6 +46,12 @@ module _ (d : Pack) where
   abbrev pub sheetOf : ℕ → List Instr
   sheetOf s = getD (d .sheets) s []
 
+-- two tables as a pack has them, its items at most a limit
+pub record PackLists (limit : ℕ) (ends : List ℕ) (defined : List ℤ) : Type 0 where
+  pub tables : Tables ends defined
+  pub few : length ends ≤ definitionLimit
+  pub within : length defined ≤ limit
+
 -- ---- what is written
 
 -- the two tables of a pack, written from the start of two slices, which are else as they were, and how many places each takes
@@ -62,8 +68,8 @@ itemFrom wide p at k = number wide p (at + (wide + 4) * k)
 abbrev pub valueFrom : ℕ → List ℕ → ℕ → ℕ → ℤ
 valueFrom wide p at k = i32 p (at + (wide + 4) * k + wide)
 
--- entries stored from a place on of two slices, which are else as they were
-pub record Stored (es : List Entry) (from count : ℕ) (oi oi′ : List ℕ) (ov ov′ : List ℤ) : Type 0 where
+-- entries read into two slices from a place on, which are else as they were, and how many they are
+pub record EntriesRead (es : List Entry) (from count : ℕ) (oi oi′ : List ℕ) (ov ov′ : List ℤ) : Type 0 where
   pub counted : count ≡ length es
   pub items-in : oi′ ≡ fill from (items es) oi
   pub values-in : ov′ ≡ fill from (values es) ov

@@ -9,7 +9,7 @@ use Rattle.slices.specs.Every.{table}
 use Rattle.slices.specs.Filled.{fill}
 use Rattle.slices.specs.Slices.{Slice}
 use Rattle.pack.specs.Bodies.{Pack}
-use Rattle.pack.specs.Read.{itemFrom, valueFrom, Tabled, Stored}
+use Rattle.pack.specs.Read.{itemFrom, valueFrom, Tabled, EntriesRead}
 use Rattle.pack_read.specs.declared.Defined.{Defined}
 
 -- the items and the values of n entries, which stand from `at` on in a pack, are written from a place on of two slices
@@ -24,5 +24,5 @@ TabledIn d r ends defined =
     Tabled d (r .definitions) (r .items) (now (ends .entry)) (now (ends .exit)) (now (defined .entry)) (now (defined .exit))
 
 -- entries are written from a place on of two slices, and how many there are is returned
-abbrev pub StoredIn : List Entry → ℕ → ℕ → Slice ℕ → Slice ℤ → Type 0
-StoredIn es from count is vs = Stored es from count (now (is .entry)) (now (is .exit)) (now (vs .entry)) (now (vs .exit))
+abbrev pub EntriesReadIn : List Entry → ℕ → ℕ → Slice ℕ → Slice ℤ → Type 0
+EntriesReadIn es from count is vs = EntriesRead es from count (now (is .entry)) (now (is .exit)) (now (vs .entry)) (now (vs .exit))

@@ -19,7 +19,7 @@ ghost use Rattle.pack.specs.Contents.{definitionCount, literalCount, sheetCount
 ghost use Rattle.pack.specs.Format.{Narrow};
 ghost use Rattle.pack.specs.Judge.{question5, Framed, Placed, Sound};
 ghost use Rattle.pack.specs.Read.{literalOf, SheetSpan};
-ghost use Rattle.pack_read.specs.Slices.{Copies, TabledIn, StoredIn};
+ghost use Rattle.pack_read.specs.Slices.{Copies, TabledIn, EntriesReadIn};
 
 // Copies n values that stand one after another from a position, into the places from an index on.
 fn copy_values(p: &[u8], at: usize, n: usize, out: &mut [i32], from: usize)
@@ -159,7 +159,7 @@ pub fn read_literal(
     requires { ⌜ l < literalCount (now p) ⌝ }
     requires { ⌜ from + length (literalOf (decoded format (now p)) l .entries) ≤ length (now items) ⌝ }
     requires { ⌜ from + length (literalOf (decoded format (now p)) l .entries) ≤ length (now values) ⌝ }
-    ensures { λ r. ⌜ StoredIn (literalOf (decoded format (now (p .entry))) l .entries) from r items values ⌝ }
+    ensures { λ r. ⌜ EntriesReadIn (literalOf (decoded format (now (p .entry))) l .entries) from r items values ⌝ }
 {
     let n = literal_len(p, l, format);
     let at = offset(p, byte_at(p, 1) + l) + 8;

@@ -1,6 +1,2 @@
--- The laws of running.
+-- The laws of the work on a sheet's instructions.
 pub mod Working
-pub mod Clearing
-pub mod Ending
-pub mod Forming
-pub mod Opening

@@ -33,12 +33,13 @@ use Rattle.pack.specs.Instruction.{Instr, op, push, pushBool, pushInt, pushFloa
 use Rattle.pack.specs.declared.instruction.Instruction.{Instruction}
 use Rattle.pack.specs.Read.{program, sheetEnd, literalOf, Standing, Reads}
 use Rattle.pack.proofs.Programs.{last-of}
-use Rattle.sheet.specs.Machine.{Run, ended, stopped, stackLimit, finish, onward, step, runFrom, valuePushed, run}
-use Rattle.sheet.specs.Stack.{stackOf}
-use Rattle.sheet.proofs.Stack.{stack-put, run-more, run-stop, run-done}
-use Rattle.stepping.specs.Steps.{placedAt, startAt, Roomy, Grown, Operands, OperandsFormed, Inputs, IfOp, IfSlot, SlotIs}
+use Rattle.stepping.specs.Steps.{Grown, Operands, OperandsFormed, Inputs, IfOp, IfSlot, SlotIs}
 use Rattle.running.specs.Work.{Touched, Longest}
-use Rattle.stepping.proofs.Putting.{place-fits, formed-none}
+use Rattle.machine.specs.Machine.{Run, ended, stopped, stackLimit, finish, onward, step, runFrom, valuePushed, run}
+use Rattle.machine.specs.Stack.{stackOf}
+use Rattle.machine.proofs.Stack.{stack-put, run-more, run-stop, run-done}
+use Rattle.operating.specs.Stacked.{placedAt, startAt, Roomy}
+use Rattle.operating.proofs.Putting.{place-fits, formed-none}
 
 -- ---- what an instruction takes
 
@@ -78,7 +79,8 @@ allowed-slot L (push (pushSlot s)) a = a
 allowed-slot L (push pushVoid) a = tt
 
 -- the inputs but for the slots
-pub inputs-none : {F : Format} {p ends : List ℕ} {defined : List ℤ} {slots : List Value} {si : List ℕ} {sv : List ℤ} → Inputs F p ends defined slots si sv → Inputs F p ends defined [] si sv
+pub inputs-none : {F : Format} {p ends : List ℕ} {defined : List ℤ} {slots : List Value} {si : List ℕ} {sv : List ℤ}
+    → Inputs F p ends defined slots si sv → Inputs F p ends defined [] si sv
 inputs-none g = record { sound = g .sound; ends-are = g .ends-are; defined-are = g .defined-are; slots-formed = λ k h. absurd (omega arith) }
 
 -- ---- a value after it is put, and the values below
@@ -224,7 +226,10 @@ pub record Working (F : Format) (p : List ℕ) (s : ℕ) (u : ListDefinitions) (
   pub values-touched : Touched F (pos 0) used wv₀ wv
 
 none-used : (q : ℕ) → _≡_ {A = ℕ} (getD (replicate stackLimit 0) q 0) 0
-none-used q = ⊎-elim (λ h. getD-replicate {A = ℕ} stackLimit q 0 0 h) (λ h. List·getD-eq-default {A = ℕ} (replicate stackLimit 0) 0 {n = q} (omega (arith, length-replicate {A = ℕ} stackLimit 0))) (lt-or-le q stackLimit)
+none-used q =
+    ⊎-elim (λ h. getD-replicate {A = ℕ} stackLimit q 0 0 h)
+    (λ h. List·getD-eq-default {A = ℕ} (replicate stackLimit 0) 0 {n = q} (omega (arith, length-replicate {A = ℕ} stackLimit 0)))
+    (lt-or-le q stackLimit)
 
 pub begin : {F : Format} (p : List ℕ) (s : ℕ) (u : ListDefinitions) (slots : List Val) (wi : List ℕ) (wv : List ℤ) (used : List ℕ) (stack : List Value) (at : ℕ)
     → Standing p s 0 at → length stack ≡ stackLimit → used ≡ replicate stackLimit 0 → Working F p s u slots wi wv used wi wv stack 0 at 0

@@ -12,15 +12,15 @@ use Rattle.slices.specs.Every.{_and_}
 use Rattle.slices.specs.Filled.{over}
 use Rattle.ink_value.specs.Val.{Val}
 use Rattle.ink_value.specs.Convert.{entriesOf}
-use Rattle.ink_value.specs.Value.{placedVal, allFormed}
+use Rattle.ink_value.specs.Value.{valOf, placedVal, allFormed}
 use Rattle.ink_value.specs.declared.Value.{Value}
 use Rattle.pack.specs.Bodies.{Pack, decoded}
 use Rattle.pack.specs.Format.{Runnable}
 use Rattle.pack.specs.Read.{endsOf, definedOf, definitionsOf, literalOf, sheetOf, program}
 use Rattle.pack.specs.declared.format.Format.{Format}
-use Rattle.sheet.specs.Machine.{End, ended, stopped, run}
-use Rattle.sheet.specs.Whole.{started}
-use Rattle.stepping.specs.Steps.{workLimit}
+use Rattle.machine.specs.Machine.{End, ended, stopped, run}
+use Rattle.machine.specs.Whole.{started}
+use Rattle.operating.specs.Stacked.{workLimit}
 use Rattle.running.specs.declared.Ran.{Ran}
 use Rattle.running.specs.declared.Ran.the-variants as Rn
 
@@ -30,8 +30,13 @@ longEnough F wi wv ri rv =
     leb (F .limit) (length ri) and leb (F .limit) (length rv) and leb (workLimit F) (length wi) and leb (workLimit F) (length wv)
 
 -- 7, of a run: "Are .. slot .. lists formed as literals with their two slices equally long", and those slices long enough
-unfoldable pub memory : Format → List Value → List ℕ → List ℤ → List ℕ → List ℤ → List ℕ → List ℤ → Pack → Bool
-memory F slots si sv wi wv ri rv d = allFormed (length (definedOf d)) (length (endsOf d)) si sv slots and longEnough F wi wv ri rv
+unfoldable pub runMemory : Format → List Value → List ℕ → List ℤ → List ℕ → List ℤ → List ℕ → List ℤ → Pack → Bool
+runMemory F slots si sv wi wv ri rv d = allFormed (length (definedOf d)) (length (endsOf d)) si sv slots and longEnough F wi wv ri rv
+
+-- the end that an answer stands for, a List's entries in two slices
+abbrev pub endOf : List ℕ → List ℤ → Ran → End Val
+endOf is vs (Rn.Ended v) = ended (valOf is vs v)
+endOf is vs (Rn.Stopped r k) = stopped r k
 
 -- the answer of each end: a List's entries stand from the start of the result slices
 abbrev pub ranTo : End Val → Ran
@@ -39,9 +44,9 @@ ranTo (ended v) = Rn.Ended (placedVal v)
 ranTo (stopped r k) = Rn.Stopped r k
 
 -- the entries that an end writes
-abbrev pub left : End Val → List Entry
-left (ended v) = entriesOf v
-left (stopped r k) = []
+abbrev pub endEntries : End Val → List Entry
+endEntries (ended v) = entriesOf v
+endEntries (stopped r k) = []
 
 -- "From 8 on, ended or refused, a run leaves the first 16,384 places of its work slices zero and later ones unchanged; before that, all are
 -- untouched."
@@ -49,11 +54,13 @@ abbrev pub workAfter {ℓ} : {A : Type ℓ} → ℕ → A → Answer Pack → Li
 workAfter n zero (gives d) old = over (replicate n zero) old
 workAfter n zero (refuses r) old = old
 
--- an end is answered, and its entries are written from the start of the two result slices, which are else as they were
+-- an end is answered, and its entries are written from the start of the two result slices, which are else as they were: with them the
+-- answer stands for the end
 pub record RanTo (e : End Val) (r : Ran) (ri ri′ : List ℕ) (rv rv′ : List ℤ) : Type 0 where
+  pub end-is : endOf ri′ rv′ r ≡ e
   pub answered : r ≡ ranTo e
-  pub items-out : ri′ ≡ over (items (left e)) ri
-  pub values-out : rv′ ≡ over (values (left e)) rv
+  pub items-out : ri′ ≡ over (items (endEntries e)) ri
+  pub values-out : rv′ ≡ over (values (endEntries e)) rv
 
 -- ---- a run whose questions 1 to 7 say yes
 
@@ -78,7 +85,8 @@ abbrev pub endAfter : Format → ℕ → List Val → Answer Pack → End Val
 endAfter F s slots a = started a (λ d. run (definitionsOf d F) (sheetOf d s) (literalOf d) slots) .end
 
 -- what a run comes to, from that answer: its end, and what it leaves in the result and the work slices
-pub record Runs (F : Format) (a : Answer Pack) (s : ℕ) (slots : List Val) (r : Ran) (wi wi′ : List ℕ) (wv wv′ : List ℤ) (ri ri′ : List ℕ) (rv rv′ : List ℤ) : Type 0 where
+pub record Runs (F : Format) (a : Answer Pack) (s : ℕ) (slots : List Val) (r : Ran) (wi wi′ : List ℕ) (wv wv′ : List ℤ)
+    (ri ri′ : List ℕ) (rv rv′ : List ℤ) : Type 0 where
   pub ran : RanTo (endAfter F s slots a) r ri ri′ rv rv′
   pub items-left : wi′ ≡ workAfter (workLimit F) 0 a wi
   pub values-left : wv′ ≡ workAfter (workLimit F) (pos 0) a wv

@@ -1,16 +1,17 @@
--- The words of the inner contracts: the places of the work slices that a run has used, those places cleared, and how the work ends.
+-- The words of the inner contracts: the places of the work slices that a run has used, and how the work ends.
 -- Assumes nothing.
 use mathlib.Core.Path.{_≡_}
 use mathlib.Core.List.{List}
-use Prim.Native.Nat.{ℕ, zero, suc, _≤_, _<_}
+use Prim.Native.Nat.{ℕ, _≤_, _<_}
 use lib.IntN.{ℤ, pos}
-use lib.ListN.{length, getD, replicate}
-use Rattle.slices.specs.Filled.{fill, Outside}
+use lib.ListN.{length, getD}
+use Rattle.slices.specs.Filled.{Outside}
 use Rattle.ink_value.specs.Val.{Val}
-use Rattle.ink_value.specs.Value.{valOf, Formed}
+use Rattle.ink_value.specs.Value.{Formed}
 use Rattle.pack.specs.declared.format.Format.{Format}
-use Rattle.sheet.specs.Machine.{End, ended, stopped, stackLimit}
-use Rattle.stepping.specs.Steps.{startAt}
+use Rattle.machine.specs.Machine.{End, stackLimit}
+use Rattle.operating.specs.Stacked.{startAt}
+use Rattle.running.specs.Run.{endOf}
 use Rattle.running.specs.declared.Ran.{Ran}
 use Rattle.running.specs.declared.Ran.the-variants as Rn
 
@@ -28,22 +29,14 @@ pub record Longest (used used′ : List ℕ) (place n : ℕ) : Type 0 where
   pub covers : n ≤ getD used′ place 0
   pub few : (m : ℕ) → ((q : ℕ) → getD used q 0 ≤ m) → n ≤ m → (q : ℕ) → getD used′ q 0 ≤ m
 
--- the places below n of the stack, cleared
-unfoldable pub cleared : {X : Type 0} → Format → X → List ℕ → ℕ → List X → List X
-cleared F d used zero l = l
-cleared F d used (suc n) l = fill (startAt F n) (replicate (getD used n 0) d) (cleared F d used n l)
-
 -- ---- how the work ends
 
--- the end that an answer stands for, a List's entries in the work slices
-abbrev pub endOf : List ℕ → List ℤ → Ran → End Val
-endOf wi wv (Rn.Ended v) = ended (valOf wi wv v)
-endOf wi wv (Rn.Stopped r k) = stopped r k
-
+-- a List that is left is well formed
 abbrev pub EndFormed : Format → List ℕ → List ℤ → Ran → Type 0
 EndFormed F wi wv (Rn.Ended v) = Formed (F .limit) wi wv v
 EndFormed F wi wv (Rn.Stopped r k) = Unit {0}
 
+-- the work comes to the end e, a List's entries in the work slices
 pub record Worked (F : Format) (e : End Val) (r : Ran) (used : List ℕ) (wi wi′ : List ℕ) (wv wv′ : List ℤ) : Type 0 where
   pub end-is : endOf wi′ wv′ r ≡ e
   pub end-formed : EndFormed F wi′ wv′ r

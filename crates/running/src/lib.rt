@@ -1,33 +1,27 @@
-// Running: a sheet's instructions worked on values. The stack's values stand in a local array, and the entries of the
-// list at place p in the work slices, from p times the format's item limit on.
+// A sheet's instructions worked on values, in order. The stack's values stand in a local array, and the entries of the list at place p in
+// the work slices, from p times the format's item limit on.
 
 use ink_value::Value;
+use machine::STACK_LIMIT;
+use operating::Step;
 use pack::format::Format;
 use pack::instruction::Instruction;
-use sheet::STACK_LIMIT;
-use stepping::Step;
 ghost use mathlib.Core.Path.{_≡_};
-ghost use mathlib.Core.List.{List, map};
-ghost use Prim.Native.Nat.{ℕ, _<_, _≤_, _+_, _-_};
-ghost use lib.IntN.{pos};
-ghost use lib.ListN.{length, getD, replicate};
-ghost use Rattle.slices.specs.Filled.{fill};
-ghost use Rattle.ink_value.specs.Val.{list};
+ghost use mathlib.Core.List.{map};
+ghost use Prim.Native.Nat.{_<_, _≤_, _+_, _-_};
+ghost use lib.ListN.{length, replicate};
 ghost use Rattle.ink_value.specs.Slices.{valIn};
 ghost use Rattle.kind_table.specs.Kinds.{operandCount};
-ghost use Rattle.native_function_call.specs.Lists.{definitions, definitionsIn};
-ghost use Rattle.pack.specs.Bodies.{decoded};
 ghost use Rattle.pack.specs.Contents.{sheetCount};
 ghost use Rattle.pack.specs.Format.{slotLimit};
 ghost use Rattle.pack.specs.Instruction.{instrOf};
-ghost use Rattle.pack.specs.Read.{literalOf, program};
-ghost use Rattle.sheet.specs.Machine.{stackLimit, step, run};
-ghost use Rattle.stepping.specs.Steps.{Inputs, Put, Roomy, IfOp, IfSlot};
-ghost use Rattle.running.specs.Run.{Memory, runOf};
-ghost use Rattle.running.specs.Slices.{RanIn, Kept};
-ghost use Rattle.running.specs.Work.{Longest, cleared, Worked};
+ghost use Rattle.machine.specs.Machine.{stackLimit};
+ghost use Rattle.stepping.specs.Steps.{Inputs, IfOp, IfSlot};
+ghost use Rattle.operating.specs.Stacked.{Roomy};
+ghost use Rattle.running.specs.Slices.{workIn, WorkedIn};
+ghost use Rattle.running.specs.Work.{Longest};
 
-// A run's answer. A List's entries stand in the result slices, from the start.
+// A run's answer. A List's entries stand in the result slices, from the start (those of `work` in the work slices).
 pub enum Ran {
     Ended(Value),
     Stopped { number: u8, index: usize },
@@ -93,48 +87,8 @@ fn keep_longest(used: &mut [usize], place: usize, len: usize)
     }
 }
 
-// Zeros the n places from an index on.
-pub fn zero_items(s: &mut [u16], from: usize, n: usize)
-    requires { ⌜ from + n ≤ length (now s) ⌝ }
-    ensures { λ _. ⌜ now (s .exit) ≡ fill from (replicate n 0) (now (s .entry)) ⌝ }
-{
-    let mut k: usize = 0;
-    while k < n {
-        s[from + k] = 0;
-        k += 1;
-    }
-}
-
-pub fn zero_values(s: &mut [i32], from: usize, n: usize)
-    requires { ⌜ from + n ≤ length (now s) ⌝ }
-    ensures { λ _. ⌜ now (s .exit) ≡ fill from (replicate n (pos 0)) (now (s .entry)) ⌝ }
-{
-    let mut k: usize = 0;
-    while k < n {
-        s[from + k] = 0;
-        k += 1;
-    }
-}
-
-// Zeros what each place of the stack has used of the work slices.
-fn clear(used: &[usize], format: Format, work_items: &mut [u16], work_values: &mut [i32])
-    requires { ⌜ (length (now used) ≡ stackLimit) × ((q : ℕ) → getD (now used) q 0 ≤ format .limit) ⌝ }
-    requires { ⌜ Roomy format (now «work_items») (now «work_values») ⌝ }
-    ensures { λ _. ⌜ (now («work_items» .exit) ≡ cleared format 0 (now (used .entry)) stackLimit (now («work_items» .entry)))
-        × (now («work_values» .exit) ≡ cleared format (pos 0) (now (used .entry)) stackLimit (now («work_values» .entry))) ⌝ }
-{
-    let mut q: usize = 0;
-    while q < STACK_LIMIT {
-        let n = used[q];
-        let from = q * format.limit;
-        zero_items(work_items, from, n);
-        zero_values(work_values, from, n);
-        q += 1;
-    }
-}
-
 // Works a sheet's instructions in order. A List that is left stands in the work slices.
-fn work(
+pub fn work(
     pack: &[u8],
     ends: &[u16],
     defined: &[i32],
@@ -150,8 +104,8 @@ fn work(
     requires { ⌜ Inputs format (now pack) (now ends) (now defined) slots (now «slot_items») (now «slot_values») ⌝ }
     requires { ⌜ (sheet < sheetCount (now pack)) × (now used ≡ replicate stackLimit 0) ⌝ }
     requires { ⌜ Roomy format (now «work_items») (now «work_values») ⌝ }
-    ensures { λ r. ⌜ Worked format (run (definitionsIn ends defined (format .limit)) (program (now (pack .entry)) sheet) (literalOf (decoded format (now (pack .entry)))) (map (valIn «slot_items» «slot_values») slots) .end) r
-        (now (used .exit)) (now («work_items» .entry)) (now («work_items» .exit)) (now («work_values» .entry)) (now («work_values» .exit)) ⌝ }
+    ensures { λ r. ⌜ WorkedIn format (workIn format pack ends defined sheet (map (valIn «slot_items» «slot_values») slots)) r used
+        «work_items» «work_values» ⌝ }
 {
     let span = pack_read::sheet_span(pack, sheet);
     let end = span.end;
@@ -208,60 +162,6 @@ fn work(
         Ran::Stopped {
             number: 17,
             index: i,
-        }
-    }
-}
-
-// Runs a sheet of a pack that has passed, its definitions read and its slots well formed, in work slices that are zero.
-pub fn run_checked(
-    pack: &[u8],
-    ends: &[u16],
-    defined: &[i32],
-    sheet: usize,
-    slots: [Value; 16],
-    slot_items: &[u16],
-    slot_values: &[i32],
-    format: Format,
-    work_items: &mut [u16],
-    work_values: &mut [i32],
-    result_items: &mut [u16],
-    result_values: &mut [i32],
-) -> Ran
-    requires { ⌜ Inputs format (now pack) (now ends) (now defined) slots (now «slot_items») (now «slot_values») × (sheet < sheetCount (now pack)) ⌝ }
-    requires { ⌜ Memory format (now «work_items») (now «work_values») (now «result_items») (now «result_values») ⌝ }
-    ensures { λ r. ⌜ RanIn (runOf format (now (pack .entry)) sheet (map (valIn «slot_items» «slot_values») slots)) r «result_items» «result_values» ⌝ }
-    ensures { λ _. ⌜ Kept «work_items» «work_values» ⌝ }
-{
-    let mut used = [0usize; STACK_LIMIT];
-    let ran = work(
-        pack,
-        ends,
-        defined,
-        sheet,
-        slots,
-        slot_items,
-        slot_values,
-        format,
-        &mut used,
-        work_items,
-        work_values,
-    );
-    match ran {
-        Ran::Ended(v) => {
-            let last = stepping::store(
-                v,
-                &work_items[..],
-                &work_values[..],
-                result_items,
-                result_values,
-                0,
-            );
-            clear(&used, format, work_items, work_values);
-            Ran::Ended(last)
-        }
-        Ran::Stopped { number, index } => {
-            clear(&used, format, work_items, work_values);
-            Ran::Stopped { number, index }
         }
     }
 }

@@ -1,12 +1,12 @@
 // What the sheets of a pack come to: "sheets" and how many there are, then a line for each, which has its number and what a run with all slots
 // Void answers, a refusal with its number and index. Of a pack that is turned back, "pack R" and the number.
 use ink_value::Value;
+use machine::STACK_LIMIT;
 use pack::Checked;
 use pack_check::format::FORMAT1;
 use printing::natural;
 use printing::text;
 use running::Ran;
-use sheet::STACK_LIMIT;
 ghost use Rattle.pack.specs.Judge.{Framed};
 
 // The most entries of a list, and the places of the work slices, in format 1.
@@ -35,7 +35,7 @@ fn sheet_line(pack: &[u8], sheet: usize) {
     let mut work_values = [0i32; WORK_LIMIT];
     let mut items = [0u16; ITEM_LIMIT];
     let mut values = [0i32; ITEM_LIMIT];
-    let r = run_any::run(
+    let r = run_bytes::run(
         pack,
         sheet,
         [Value::Void; 16],

@@ -1,3 +1,3 @@
--- The laws of one step.
-pub mod Putting
-pub mod Operating
+-- The laws of one instruction.
+pub mod Pushing
+pub mod Stepping

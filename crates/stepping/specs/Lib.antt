@@ -1,2 +1,3 @@
 -- What one instruction does.
 pub mod Steps
+pub mod Slices

@@ -9,13 +9,13 @@ use Rattle.ink_value.specs.Val.{Val, bool, int, float, list, void, kindOf, code
 use Rattle.ink_value.specs.Value.{valOf, placedVal, codeOfValue}
 use Rattle.ink_value.specs.declared.Value.{Value}
 use Rattle.pack.specs.declared.format.Format.{Format}
-use Rattle.sheet.specs.Foretold.{StopsByValue, Foretold}
-use Rattle.sheet.specs.Machine.{End, ended, stopped, Run}
-use Rattle.sheet.specs.Whole.{opened, countOf, sheetRun}
-use Rattle.vetting.specs.Vet.{Answers, verdictOf, CountIs, memory as vettingMemory}
+use Rattle.machine.specs.Foretold.{StopsByValue, Foretold}
+use Rattle.machine.specs.Machine.{End, ended, stopped, Run}
+use Rattle.machine.specs.Whole.{opened, countOf, sheetRun}
+use Rattle.vetting.specs.Vet.{Vets, verdictOf, CountIs, vetMemory}
 use Rattle.vetting.specs.declared.Vetted.{Vetted}
 use Rattle.vetting.specs.declared.Vetted.the-variants as Vet
-use Rattle.running.specs.Run.{memory, ranTo, Runs}
+use Rattle.running.specs.Run.{runMemory, ranTo, Runs}
 use Rattle.running.specs.declared.Ran.{Ran}
 use Rattle.vet_and_run.specs.Both.{StoppedByValue, ForetoldAnswer, Both}
 use Rattle.vet_and_run.specs.declared.VettedRun.{VettedRun}
@@ -46,17 +46,18 @@ answered (Vet.Passed m) n f b r c a g =
     subst (λ (k : ℕ). ForetoldAnswer (Vet.Passed k) f r) (sym c) (ends (b .end) r a f n m (length (b .stacks) ≡ n) (g .1))
 answered (Vet.Refused q k) n f b r c a g = stops (b .end) r a f q k g
 
-pub both : {F : Format} (p : List ℕ) (s : ℕ) (codes : List ℕ) (slots : List Value) (si : List ℕ) (sv : List ℤ) (b : VettedRun) (f f′ wi wi′ : List ℕ) (wv wv′ : List ℤ) (ri ri′ : List ℕ) (rv rv′ : List ℤ)
-    → Answers F p s codes (b .vetted) f f′
-    → Runs F (opened F p s (memory F slots si sv wi wv ri rv)) s (map (valOf si sv) slots) (b .ran) wi wi′ wv wv′ ri ri′ rv rv′
+pub both : {F : Format} (p : List ℕ) (s : ℕ) (codes : List ℕ) (slots : List Value) (si : List ℕ) (sv : List ℤ) (b : VettedRun)
+    (f f′ wi wi′ : List ℕ) (wv wv′ : List ℤ) (ri ri′ : List ℕ) (rv rv′ : List ℤ)
+    → Vets F p s codes (b .vetted) f f′
+    → Runs F (opened F p s (runMemory F slots si sv wi wv ri rv)) s (map (valOf si sv) slots) (b .ran) wi wi′ wv wv′ ri ri′ rv rv′
     → Both F p s codes slots si sv b f f′ wi wi′ wv wv′ ri ri′ rv rv′
 both {F} p s codes slots si sv b f f′ wi wi′ wv wv′ ri ri′ rv rv′ a w =
-    let ready = memory F slots si sv wi wv ri rv in
+    let ready = runMemory F slots si sv wi wv ri rv in
     let vs = map (valOf si sv) slots in
     record {
       vetted = a;
       ran = w;
       foretold = λ m n k.
           let g = a .foretold ready vs m n k in
-          (g, answered (b .vetted) (countOf (opened F p s (vettingMemory codes f)) s) f′ (sheetRun F p s ready vs) (b .ran) (a .counted) (w .ran .answered) g);
+          (g, answered (b .vetted) (countOf (opened F p s (vetMemory codes f)) s) f′ (sheetRun F p s ready vs) (b .ran) (a .counted) (w .ran .answered) g);
     }

@@ -1,5 +1,5 @@
--- Demand 3's conditions can be met, for every pack of every format: slots all Void, and slices long enough whatever they hold. One such pack,
--- and both answers on it. Assumes nothing.
+-- Demand 3's conditions can be met: by slots that are all Void and slices that are long enough, whatever they hold, for every pack of every
+-- format. And one pack, in any format, on which the contract gives both answers: vetting passes, and the run stops with 15. Assumes nothing.
 use mathlib.Core.Path.{_≡_, refl, ap, _∙_, subst}
 use mathlib.Core.List.{List, [], _∷_, map}
 use Prim.Native.Nat.{ℕ, _^_, _≤_}
@@ -26,44 +26,52 @@ use Rattle.pack.specs.Instruction.{Instr, op, push, pushInt, instruction, instr
 use Rattle.pack.specs.Judge.{question1, question2, question3, question4, question5, judge}
 use Rattle.pack.specs.Read.{endsOf, definitionsOf, literalOf, sheetOf}
 use Rattle.pack.specs.declared.format.Format.{Format}
-use Rattle.sheet.specs.Foretold.{Verdict, passed, turned, verdict}
-use Rattle.sheet.specs.Machine.{ended, stopped, step, runFrom, run, vet}
-use Rattle.sheet.specs.Whole.{opened, started, countOf}
-use Rattle.sheet.proofs.Whole.{opened-all}
-use Rattle.vetting.specs.Vet.{forecastLimit, verdictOf, CountIs, memory as vettingMemory}
+use Rattle.machine.specs.Foretold.{passed, verdict}
+use Rattle.machine.specs.Machine.{ended, stopped, step, runFrom, run, vet}
+use Rattle.machine.specs.Whole.{opened, Suffices, started, countOf}
+use Rattle.machine.proofs.Whole.{opened-all}
+use Rattle.vetting.specs.Vet.{forecastLimit, verdictOf, CountIs, vetMemory}
 use Rattle.vetting.specs.declared.Vetted.{Vetted}
 use Rattle.vetting.specs.declared.Vetted.the-variants as Vet
-use Rattle.stepping.specs.Steps.{workLimit}
-use Rattle.running.specs.Run.{memory, ranTo, endAfter}
+use Rattle.operating.specs.Stacked.{workLimit}
+use Rattle.running.specs.Run.{runMemory, ranTo, endAfter}
 use Rattle.running.specs.declared.Ran.the-variants as Rn
-use Rattle.vet_and_run.specs.Both.{Ready, ForetoldAnswer, Both}
+use Rattle.run_bytes.proofs.Opening.{Long}
+use Rattle.vet_and_run.specs.Both.{ForetoldAnswer, Both}
 use Rattle.vet_and_run.specs.declared.VettedRun.{VettedRun}
 
 abbrev sixteen : {A : Type 0} → A → List A
 sixteen a = a ∷ a ∷ a ∷ a ∷ a ∷ a ∷ a ∷ a ∷ a ∷ a ∷ a ∷ a ∷ a ∷ a ∷ a ∷ a ∷ []
 
-module _ (F : Format) (p : List ℕ) where
-  pub vetting-ready : (f : List ℕ) → forecastLimit ≤ length f → Ready F p (vettingMemory (sixteen 4) f)
-  unfolding vettingMemory _and_
-  vetting-ready f h d e = rw (le-leb forecastLimit (length f) h)
+-- ---- the conditions: memory that suffices for both calls, and slots of the kinds that are vetted
 
-  pub run-ready : (wi ri : List ℕ) (wv rv : List ℤ) → workLimit F ≤ length wi → workLimit F ≤ length wv → F .limit ≤ length ri → F .limit ≤ length rv
-      → Ready F p (memory F (sixteen Is.Void) [] [] wi wv ri rv)
-  unfolding memory _and_ formed bitsBelow
-  run-ready wi ri wv rv a b c h d e =
-      rw (lt-ltb 0 (2 ^ length (endsOf d)) (pow-pos (length (endsOf d))), le-leb (workLimit F) (length wi) a, le-leb (workLimit F) (length wv) b, le-leb (F .limit) (length ri) c, le-leb (F .limit) (length rv) h)
+module _ (F : Format) (p : List ℕ) where
+  pub vetting-suffices : (f : List ℕ) → forecastLimit ≤ length f → Suffices F p (vetMemory (sixteen 4) f)
+  unfolding vetMemory _and_
+  vetting-suffices f h d e = rw (le-leb forecastLimit (length f) h)
+
+  pub run-suffices : (wi ri : List ℕ) (wv rv : List ℤ) → Long F wi wv ri rv → Suffices F p (runMemory F (sixteen Is.Void) [] [] wi wv ri rv)
+  unfolding runMemory _and_ formed bitsBelow
+  run-suffices wi ri wv rv l d e =
+      let t = lt-ltb 0 (2 ^ length (endsOf d)) (pow-pos (length (endsOf d))) in
+      let a = le-leb (workLimit F) (length wi) (l .work-items) in
+      let b = le-leb (workLimit F) (length wv) (l .work-values) in
+      let g = le-leb (F .limit) (length ri) (l .result-items) in
+      let h = le-leb (F .limit) (length rv) (l .result-values) in
+      rw (t, a, b, g, h)
 
 pub kinds-agree : map kindOf (map (valOf [] []) (sixteen Is.Void)) ≡ map kindAt (sixteen 4)
 kinds-agree = refl
 
--- so demand 3 of the contract holds of both answers, for every pack
+-- so vetting's answer on every pack says what the contract says of the run's
 module _ (F : Format) (p : List ℕ) (s : ℕ) (b : VettedRun) (f f′ wi wi′ : List ℕ) (wv wv′ : List ℤ) (ri ri′ : List ℕ) (rv rv′ : List ℤ) where
-  pub foretells : Both F p s (sixteen 4) (sixteen Is.Void) [] [] b f f′ wi wi′ wv wv′ ri ri′ rv rv′
-      → forecastLimit ≤ length f → workLimit F ≤ length wi → workLimit F ≤ length wv → F .limit ≤ length ri → F .limit ≤ length rv → ForetoldAnswer (b .vetted) f′ (b .ran)
-  foretells w h a c d e =
-      w .foretold (vetting-ready F p f h) (run-ready F p wi ri wv rv a c d e) kinds-agree .1
+  pub foretells : Both F p s (sixteen 4) (sixteen Is.Void) [] [] b f f′ wi wi′ wv wv′ ri ri′ rv rv′ → forecastLimit ≤ length f → Long F wi wv ri rv
+      → ForetoldAnswer (b .vetted) f′ (b .ran)
+  foretells w h l = w .foretold (vetting-suffices F p f h) (run-suffices F p wi ri wv rv l) kinds-agree .1
 
--- a sheet that passes and whose run stops with 15: document 01's second
+-- ---- one pack, and both answers on it
+
+-- the second sheet of document 01's pack: it passes, and its run stops with 15
 abbrev program : List Instr
 program = push (pushInt (pos 7)) ∷ push (pushInt (pos 0)) ∷ op 2 ∷ []
 
@@ -86,28 +94,23 @@ pub accepted : (F : Format) → judge F (bytes F) ≡ gives pack
 unfolding number signed _and_ every table place instruction instructions itemsBelow definitionOk literalOk question1 question2 question3 question4 question5 judge
 accepted F = rw (eq-eqb (F .tag) (F .tag) refl, le-leb 0 (F .limit) (omega arith))
 
-abbrev numberIn : Verdict → ℕ
-numberIn passed = 0
-numberIn (turned r k) = 1
-
 counted-three : (v : Vetted) → verdictOf v ≡ passed → CountIs v 3 → v ≡ Vet.Passed 3
 counted-three (Vet.Passed n) e c = ap Vet.Passed c
-counted-three (Vet.Refused r k) e c =
-    let z : _≡_ {A = ℕ} 1 0 = ap numberIn e in
-    absurd (omega (arith, z))
+counted-three (Vet.Refused r k) e c = let z : _≡_ {A = ℕ} 1 0 = cc in absurd (omega arith)
 
--- the contract gives both answers on it
-module _ (F : Format) (b : VettedRun) (f f′ wi wi′ : List ℕ) (wv wv′ : List ℤ) (ri ri′ : List ℕ) (rv rv′ : List ℤ) (w : Both F (bytes F) 0 (sixteen 4) (sixteen Is.Void) [] [] b f f′ wi wi′ wv wv′ ri ri′ rv rv′) where
+-- the contract gives both answers
+module _ (F : Format) (b : VettedRun) (f f′ wi wi′ : List ℕ) (wv wv′ : List ℤ) (ri ri′ : List ℕ) (rv rv′ : List ℤ)
+    (w : Both F (bytes F) 0 (sixteen 4) (sixteen Is.Void) [] [] b f f′ wi wi′ wv wv′ ri ri′ rv rv′) where
   pub vetted-is : forecastLimit ≤ length f → b .vetted ≡ Vet.Passed 3
   vetted-is h =
-      let m = vettingMemory (sixteen 4) f in
-      let q : opened F (bytes F) 0 m ≡ gives pack = opened-all F (bytes F) 0 m pack (accepted F) (omega arith) (vetting-ready F (bytes F) f h pack (accepted F)) in
+      let m = vetMemory (sixteen 4) f in
+      let q : opened F (bytes F) 0 m ≡ gives pack = opened-all F (bytes F) 0 m pack (accepted F) (omega arith) (vetting-suffices F (bytes F) f h pack (accepted F)) in
       counted-three (b .vetted)
       (w .vetted .right ∙ ap (λ (x : Answer Pack). verdict (started x (λ (d : Pack). vet (sheetOf d 0) (sixteen voidK)) .end)) q ∙ ap verdict passes)
       (subst (λ (x : Answer Pack). CountIs (b .vetted) (countOf x 0)) q (w .vetted .counted))
 
-  pub ran-is : workLimit F ≤ length wi → workLimit F ≤ length wv → F .limit ≤ length ri → F .limit ≤ length rv → b .ran ≡ Rn.Stopped 15 2
-  ran-is h i j k =
-      let m = memory F (sixteen Is.Void) [] [] wi wv ri rv in
-      let q : opened F (bytes F) 0 m ≡ gives pack = opened-all F (bytes F) 0 m pack (accepted F) (omega arith) (run-ready F (bytes F) wi ri wv rv h i j k pack (accepted F)) in
+  pub ran-is : Long F wi wv ri rv → b .ran ≡ Rn.Stopped 15 2
+  ran-is l =
+      let m = runMemory F (sixteen Is.Void) [] [] wi wv ri rv in
+      let q : opened F (bytes F) 0 m ≡ gives pack = opened-all F (bytes F) 0 m pack (accepted F) (omega arith) (run-suffices F (bytes F) wi ri wv rv l pack (accepted F)) in
       w .ran .ran .answered ∙ ap (λ (x : Answer Pack). ranTo (endAfter F 0 (sixteen void) x)) q ∙ ap ranTo (stops (definitionsOf pack F) (literalOf pack))

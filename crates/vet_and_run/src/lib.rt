@@ -11,8 +11,8 @@ pub struct VettedRun {
     pub ran: Ran,
 }
 
-// Vets a sheet of any bytes for slots of these kinds, and runs it with these slots. Where the slots have those kinds, the vetting's answer and
-// forecast hold of the run.
+// Vets a sheet of any bytes for slots of these kinds, and runs it with these slots. Where the slots have those kinds, the vetting's
+// answer and forecast hold of the run.
 pub fn vet_and_run(
     pack: &[u8],
     sheet: usize,
@@ -26,10 +26,11 @@ pub fn vet_and_run(
     result_items: &mut [u16],
     result_values: &mut [i32],
 ) -> VettedRun
-    ensures { λ r. ⌜ BothIn format1 pack sheet kinds slots «slot_items» «slot_values» r forecast «work_items» «work_values» «result_items» «result_values» ⌝ }
+    ensures { λ r. ⌜ BothIn format1 pack sheet kinds slots «slot_items» «slot_values» r
+        forecast «work_items» «work_values» «result_items» «result_values» ⌝ }
 {
     let vetted = vetting::vet(pack, sheet, kinds, forecast);
-    let ran = run_any::run(
+    let ran = run_bytes::run(
         pack,
         sheet,
         slots,

@@ -1,5 +1,6 @@
 -- The laws of vetting.
-pub mod Steps
+pub mod KindSteps
 pub mod CodeTests
 pub mod Going
 pub mod Written
+pub mod Asking

@@ -16,14 +16,14 @@ use Rattle.pack.specs.Bodies.{Pack}
 use Rattle.pack.specs.Instruction.{Instr}
 use Rattle.pack.specs.Judge.{judge}
 use Rattle.pack.specs.declared.format.Format.{Format}
-use Rattle.sheet.specs.Machine.{Run, End, ended, stopped, kindPushed, vet}
+use Rattle.machine.specs.Machine.{Run, End, ended, stopped, kindPushed, vet}
 use Rattle.pack.specs.Read.{sheetOf}
-use Rattle.sheet.specs.Whole.{opened, started, sheetVet, sheetRun, countOf}
-use Rattle.sheet.specs.Foretold.{Verdict, passed, turned, verdict, forecast, Begins, Foretold}
+use Rattle.machine.specs.Whole.{opened, started, sheetVet, sheetRun, countOf}
+use Rattle.machine.specs.Foretold.{Verdict, passed, turned, verdict, forecast, Begins, Foretold}
 use Rattle.kind_table.specs.Kinds.{kindApply}
-use Rattle.sheet.proofs.Demand.{whole-length}
-use Rattle.sheet.proofs.Whole.{demand3-whole}
-use Rattle.vetting.specs.Vet.{memory, verdictOf, CountIs, left, Answers, Vets}
+use Rattle.machine.proofs.Demand.{whole-length}
+use Rattle.machine.proofs.Whole.{demand3-whole}
+use Rattle.vetting.specs.Vet.{vetMemory, verdictOf, CountIs, forecastAfter, Vets, VetsProgram}
 use Rattle.vetting.specs.declared.Vetted.{Vetted}
 use Rattle.vetting.specs.declared.Vetted.the-variants as Is
 
@@ -81,46 +81,46 @@ passed-not-turned r k x e p q =
 
 module _ (F : Format) (p : List ℕ) (s : ℕ) (codes old : List ℕ) where
   abbrev vetted : Run Kind
-  vetted = sheetVet F p s (memory codes old) (map kindAt codes)
+  vetted = sheetVet F p s (vetMemory codes old) (map kindAt codes)
 
-  begins-left : (v : Verdict) → v ≡ verdict (vetted .end) → (k : Kind) → vetted .end ≡ ended k → Begins (left v (vetted .stacks) old) (vetted .stacks)
+  begins-left : (v : Verdict) → v ≡ verdict (vetted .end) → (k : Kind) → vetted .end ≡ ended k → Begins (forecastAfter v (vetted .stacks) old) (vetted .stacks)
   begins-left passed e k q = begins-over (vetted .stacks) old
   begins-left (turned r i) e k q = absurd (passed-not-turned r i k (vetted .end) e q)
 
   foretells : (v : Verdict) → v ≡ verdict (vetted .end) → (ready : Pack → Bool) (slots : List Val)
-      → ((d : Pack) → judge F p ≡ gives d → memory codes old d ≡ true) → ((d : Pack) → judge F p ≡ gives d → ready d ≡ true)
+      → ((d : Pack) → judge F p ≡ gives d → vetMemory codes old d ≡ true) → ((d : Pack) → judge F p ≡ gives d → ready d ≡ true)
       → map kindOf slots ≡ map kindAt codes
-      → Foretold (countOf (opened F p s (memory codes old)) s) v (left v (vetted .stacks) old) (sheetRun F p s ready slots)
+      → Foretold (countOf (opened F p s (vetMemory codes old)) s) v (forecastAfter v (vetted .stacks) old) (sheetRun F p s ready slots)
   foretells v e ready slots h h' q =
-      let f = left v (vetted .stacks) old in
-      let w : (k : Kind) → sheetVet F p s (memory codes old) (map kindOf slots) .end ≡ ended k
-      → Begins f (sheetVet F p s (memory codes old) (map kindOf slots) .stacks) =
-      subst (λ (ks : List Kind). (k : Kind) → sheetVet F p s (memory codes old) ks .end ≡ ended k → Begins f (sheetVet F p s (memory codes old) ks .stacks))
+      let f = forecastAfter v (vetted .stacks) old in
+      let w : (k : Kind) → sheetVet F p s (vetMemory codes old) (map kindOf slots) .end ≡ ended k
+      → Begins f (sheetVet F p s (vetMemory codes old) (map kindOf slots) .stacks) =
+      subst (λ (ks : List Kind). (k : Kind) → sheetVet F p s (vetMemory codes old) ks .end ≡ ended k → Begins f (sheetVet F p s (vetMemory codes old) ks .stacks))
       (sym q) (begins-left v e) in
-      let t = demand3-whole F p s (memory codes old) ready f slots h h' w in
-      let e' : verdict (sheetVet F p s (memory codes old) (map kindOf slots) .end) ≡ v =
-      ap (λ (ks : List Kind). verdict (sheetVet F p s (memory codes old) ks .end)) q ∙ sym e in
-      subst (λ (x : Verdict). Foretold (countOf (opened F p s (memory codes old)) s) x f (sheetRun F p s ready slots)) e' t
+      let t = demand3-whole F p s (vetMemory codes old) ready f slots h h' w in
+      let e' : verdict (sheetVet F p s (vetMemory codes old) (map kindOf slots) .end) ≡ v =
+      ap (λ (ks : List Kind). verdict (sheetVet F p s (vetMemory codes old) ks .end)) q ∙ sym e in
+      subst (λ (x : Verdict). Foretold (countOf (opened F p s (vetMemory codes old)) s) x f (sheetRun F p s ready slots)) e' t
 
-  answers : (v : Vetted) (new : List ℕ) → verdictOf v ≡ verdict (vetted .end) → CountIs v (countOf (opened F p s (memory codes old)) s)
-      → new ≡ left (verdictOf v) (vetted .stacks) old → Answers F p s codes v old new
+  answers : (v : Vetted) (new : List ℕ) → verdictOf v ≡ verdict (vetted .end) → CountIs v (countOf (opened F p s (vetMemory codes old)) s)
+      → new ≡ forecastAfter (verdictOf v) (vetted .stacks) old → Vets F p s codes v old new
   answers v new e c w =
       record {
         right = e;
         counted = c;
         written = w;
         foretold = λ ready slots h h' q.
-            subst (λ (f : List ℕ). Foretold (countOf (opened F p s (memory codes old)) s) (verdictOf v) f (sheetRun F p s ready slots)) (sym w)
+            subst (λ (f : List ℕ). Foretold (countOf (opened F p s (vetMemory codes old)) s) (verdictOf v) f (sheetRun F p s ready slots)) (sym w)
             (foretells (verdictOf v) e ready slots h h' q);
       }
 
   -- questions 1 to 7 stop it
-  pub stops : (n : ℕ) → opened F p s (memory codes old) ≡ refuses n → Answers F p s codes (Is.Refused n 0) old old
+  pub stops : (n : ℕ) → opened F p s (vetMemory codes old) ≡ refuses n → Vets F p s codes (Is.Refused n 0) old old
   stops n e = answers (Is.Refused n 0) old (sym (ap (λ (a : Answer Pack). verdict (started a (λ x. vet (sheetOf x s) (map kindAt codes)) .end)) e)) tt refl
 
   -- they let it through
-  pub goes : (d : Pack) (v : Vetted) (new : List ℕ) → opened F p s (memory codes old) ≡ gives d → Vets (sheetOf d s) codes v old new
-      → Answers F p s codes v old new
+  pub goes : (d : Pack) (v : Vetted) (new : List ℕ) → opened F p s (vetMemory codes old) ≡ gives d → VetsProgram (sheetOf d s) codes v old new
+      → Vets F p s codes v old new
   goes d v new e w = answers v new (w .right ∙ sym (ap (λ (a : Answer Pack). verdict (started a (λ x. vet (sheetOf x s) (map kindAt codes)) .end)) e))
       (subst (λ (a : Answer Pack). CountIs v (countOf a s)) (sym e) (w .counted))
-      (w .written ∙ sym (ap (λ (a : Answer Pack). left (verdictOf v) (started a (λ x. vet (sheetOf x s) (map kindAt codes)) .stacks) old) e))
+      (w .written ∙ sym (ap (λ (a : Answer Pack). forecastAfter (verdictOf v) (started a (λ x. vet (sheetOf x s) (map kindAt codes)) .stacks) old) e))

@@ -1,2 +1,3 @@
 -- What vetting answers.
 pub mod Vet
+pub mod Slices

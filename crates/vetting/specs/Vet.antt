@@ -11,17 +11,16 @@ use Rattle.slices.specs.Filled.{over}
 use Rattle.ink_value.specs.Val.{Val, Kind, kindOf, kindAt}
 use Rattle.pack.specs.Bodies.{Pack}
 use Rattle.pack.specs.Instruction.{Instr}
-use Rattle.pack.specs.Judge.{judge}
 use Rattle.pack.specs.Format.{instructionLimit}
 use Rattle.pack.specs.declared.format.Format.{Format}
-use Rattle.sheet.specs.Machine.{stackLimit, vet}
-use Rattle.sheet.specs.Stack.{stackOf}
-use Rattle.sheet.specs.Whole.{opened, countOf, sheetRun, sheetVet}
-use Rattle.sheet.specs.Foretold.{Verdict, passed, turned, verdict, Begins, forecast, Foretold}
+use Rattle.machine.specs.Machine.{stackLimit, vet}
+use Rattle.machine.specs.Stack.{stackOf}
+use Rattle.machine.specs.Whole.{opened, Suffices, countOf, sheetRun, sheetVet}
+use Rattle.machine.specs.Foretold.{Verdict, passed, turned, verdict, Begins, forecast, Foretold}
 use Rattle.vetting.specs.declared.Vetted.{Vetted}
 use Rattle.vetting.specs.declared.Vetted.the-variants as Vet
-use Rattle.vetting.specs.declared.Step.{Step}
-use Rattle.vetting.specs.declared.Step.the-variants as Is
+use Rattle.vetting.specs.declared.KindStep.{KindStep}
+use Rattle.vetting.specs.declared.KindStep.the-variants as Is
 
 -- ---- question 7
 
@@ -34,8 +33,8 @@ allCodes (c ∷ cs) = leb c 4 and allCodes cs
 abbrev pub forecastLimit : ℕ
 forecastLimit = 2 * instructionLimit
 
-unfoldable pub memory : List ℕ → List ℕ → Pack → Bool
-memory codes f d = allCodes codes and leb forecastLimit (length f)
+unfoldable pub vetMemory : List ℕ → List ℕ → Pack → Bool
+vetMemory codes f d = allCodes codes and leb forecastLimit (length f)
 
 -- ---- the answer
 
@@ -50,19 +49,19 @@ CountIs (Vet.Refused r k) m = Unit {0}
 
 -- "Passed vetting writes two bytes for each instruction, count and top kind, and changes no byte beyond"; "A refusal leaves .. forecast
 -- slices unchanged"
-abbrev pub left : Verdict → List (List Kind) → List ℕ → List ℕ
-left passed sts old = over (forecast sts) old
-left (turned r k) sts old = old
+abbrev pub forecastAfter : Verdict → List (List Kind) → List ℕ → List ℕ
+forecastAfter passed sts old = over (forecast sts) old
+forecastAfter (turned r k) sts old = old
 
 -- vetting's answer v, and what it leaves in the forecast slice
-pub record Answers (F : Format) (p : List ℕ) (s : ℕ) (codes : List ℕ) (v : Vetted) (old new : List ℕ) : Type 0 where
-  pub right : verdictOf v ≡ verdict (sheetVet F p s (memory codes old) (map kindAt codes) .end)
-  pub counted : CountIs v (countOf (opened F p s (memory codes old)) s)
-  pub written : new ≡ left (verdictOf v) (sheetVet F p s (memory codes old) (map kindAt codes) .stacks) old
+pub record Vets (F : Format) (p : List ℕ) (s : ℕ) (codes : List ℕ) (v : Vetted) (old new : List ℕ) : Type 0 where
+  pub right : verdictOf v ≡ verdict (sheetVet F p s (vetMemory codes old) (map kindAt codes) .end)
+  pub counted : CountIs v (countOf (opened F p s (vetMemory codes old)) s)
+  pub written : new ≡ forecastAfter (verdictOf v) (sheetVet F p s (vetMemory codes old) (map kindAt codes) .stacks) old
   -- demand 3: with memory long enough for both calls, of every run on slot values of these kinds
-  pub foretold : (ready : Pack → Bool) (slots : List Val) → ((d : Pack) → judge F p ≡ gives d → memory codes old d ≡ true)
-      → ((d : Pack) → judge F p ≡ gives d → ready d ≡ true) → map kindOf slots ≡ map kindAt codes
-      → Foretold (countOf (opened F p s (memory codes old)) s) (verdictOf v) new (sheetRun F p s ready slots)
+  pub foretold : (runs : Pack → Bool) (slots : List Val) → Suffices F p (vetMemory codes old) → Suffices F p runs
+      → map kindOf slots ≡ map kindAt codes
+      → Foretold (countOf (opened F p s (vetMemory codes old)) s) (verdictOf v) new (sheetRun F p s runs slots)
 
 -- ---- the parts
 
@@ -75,12 +74,12 @@ abbrev pub kindOn : List ℕ → ℕ → Kind
 kindOn xs p = kindAt (getD xs p 0)
 
 -- the stack after a step, f giving the kinds below
-abbrev pub stepped : Step → (ℕ → Kind) → Answer (List Kind)
+abbrev pub stepped : KindStep → (ℕ → Kind) → Answer (List Kind)
 stepped (Is.Put p k) f = gives (kindAt k ∷ stackOf f p)
 stepped (Is.No r) f = refuses r
 
 -- a step on a stack of n puts a kind code at a place of the array, no higher than n
-abbrev pub Within : Step → ℕ → Type 0
+abbrev pub Within : KindStep → ℕ → Type 0
 Within (Is.Put p k) n = (p < stackLimit) × (p ≤ n) × (k < 5)
 Within (Is.No r) n = Unit {0}
 
@@ -90,7 +89,7 @@ Forecasts (Vet.Passed n) f sts = (length sts ≡ n) × (n ≤ instructionLimit) 
 Forecasts (Vet.Refused r k) f sts = Unit {0}
 
 -- the answer of a program that question 7 let through, and what it leaves in the forecast slice
-pub record Vets (program : List Instr) (codes : List ℕ) (v : Vetted) (old new : List ℕ) : Type 0 where
+pub record VetsProgram (program : List Instr) (codes : List ℕ) (v : Vetted) (old new : List ℕ) : Type 0 where
   pub right : verdictOf v ≡ verdict (vet program (map kindAt codes) .end)
   pub counted : CountIs v (length program)
-  pub written : new ≡ left (verdictOf v) (vet program (map kindAt codes) .stacks) old
+  pub written : new ≡ forecastAfter (verdictOf v) (vet program (map kindAt codes) .stacks) old

@@ -1,8 +1,8 @@
 // Vetting: a sheet's instructions worked on kinds alone.
 use kind_table::KindAnswer;
+use machine::STACK_LIMIT;
 use pack::Checked;
 use pack::instruction::Instruction;
-use sheet::STACK_LIMIT;
 ghost use mathlib.Core.Path.{_≡_};
 ghost use mathlib.Core.Bool.{true};
 ghost use mathlib.Core.List.{map};
@@ -16,10 +16,10 @@ ghost use Rattle.pack.specs.Format.{format1};
 ghost use Rattle.pack.specs.Instruction.{instrOf, Allowed};
 ghost use Rattle.pack.specs.Judge.{question5, Placed};
 ghost use Rattle.pack.specs.Read.{program};
-ghost use Rattle.sheet.specs.Machine.{stepOp, stepPush, step, topped, kindPushed, vet};
-ghost use Rattle.sheet.specs.Stack.{stackOf};
-ghost use Rattle.sheet.specs.Foretold.{verdict};
-ghost use Rattle.vetting.specs.Vet.{Codes, kindOn, stepped, Within, verdictOf, Forecasts, allCodes, Vets, Answers};
+ghost use Rattle.machine.specs.Machine.{stepOp, stepPush, step, topped, kindPushed, vet};
+ghost use Rattle.machine.specs.Stack.{stackOf};
+ghost use Rattle.vetting.specs.Vet.{Codes, stepped, Within, allCodes};
+ghost use Rattle.vetting.specs.Slices.{kindsIn, steppedIn, ForecastsIn, VetsProgramIn, VetsAny};
 
 // Vetting's answer: passed, with the count of instructions; or the number of the first no, and its instruction's index.
 pub enum Vetted {
@@ -28,7 +28,7 @@ pub enum Vetted {
 }
 
 // What one instruction does to the stack: a kind is put at a place, which is then the top; or a question says no.
-enum Step {
+enum KindStep {
     Put { place: usize, kind: u8 },
     No(u8),
 }
@@ -39,7 +39,7 @@ const FORECAST_LIMIT: usize = 2048;
 // The answer of an operator that takes `count` operands, on the top of a stack of n.
 fn answer(op: u8, count: usize, table: &[u8; 775], stack: &[u8; 64], n: usize) -> KindAnswer
     requires { ⌜ (op < 32) × (count ≡ operandCount op) × (1 ≤ count) × (count ≤ n) × (n ≤ 64) × Codes (now stack) × Table (now table) ⌝ }
-    ensures { λ r. ⌜ (topped (stackOf (kindOn (now (stack .entry))) (n - count)) (kindAnswer r) ≡ stepOp kindApply op (stackOf (kindOn (now (stack .entry))) n)) × Coded r ⌝ }
+    ensures { λ r. ⌜ (topped (kindsIn stack (n - count)) (kindAnswer r) ≡ stepOp kindApply op (kindsIn stack n)) × Coded r ⌝ }
 {
     let place = n - count;
     let left = stack[place];
@@ -52,44 +52,50 @@ fn answer(op: u8, count: usize, table: &[u8; 775], stack: &[u8; 64], n: usize) -
 }
 
 // An operator on a stack of n.
-fn vet_op(op: u8, table: &[u8; 775], stack: &[u8; 64], n: usize) -> Step
+fn vet_op(op: u8, table: &[u8; 775], stack: &[u8; 64], n: usize) -> KindStep
     requires { ⌜ (op < 32) × (n ≤ 64) × Codes (now stack) × Table (now table) ⌝ }
-    ensures { λ r. ⌜ (stepped r (kindOn (now (stack .entry))) ≡ stepOp kindApply op (stackOf (kindOn (now (stack .entry))) n)) × Within r n ⌝ }
+    ensures { λ r. ⌜ (steppedIn r stack ≡ stepOp kindApply op (kindsIn stack n)) × Within r n ⌝ }
 {
     let count = kind_table::operands(op);
     if count == 0 {
-        return Step::No(8);
+        return KindStep::No(8);
     }
     if n < count {
-        return Step::No(10);
+        return KindStep::No(10);
     }
     let a = answer(op, count, table, stack, n);
     match a {
-        KindAnswer::Kind(kind) => Step::Put {
+        KindAnswer::Kind(kind) => KindStep::Put {
             place: n - count,
             kind,
         },
-        KindAnswer::Refused(number) => Step::No(number),
+        KindAnswer::Refused(number) => KindStep::No(number),
     }
 }
 
 // A push of a kind on a stack of n: question 9.
-fn vet_push(kind: u8, n: usize) -> Step
+fn vet_push(kind: u8, n: usize) -> KindStep
     requires { ⌜ (kind < 5) × (n ≤ 64) ⌝ }
     ensures { λ r. ⌜ ((f : ℕ → Kind) → stepped r f ≡ stepPush (kindAt kind) (stackOf f n)) × Within r n ⌝ }
 {
     if n < STACK_LIMIT {
-        Step::Put { place: n, kind }
+        KindStep::Put { place: n, kind }
     } else {
-        Step::No(9)
+        KindStep::No(9)
     }
 }
 
 // An instruction on a stack of n.
-fn vet_step(i: Instruction, kinds: [u8; 16], table: &[u8; 775], stack: &[u8; 64], n: usize) -> Step
+fn vet_step(
+    i: Instruction,
+    kinds: [u8; 16],
+    table: &[u8; 775],
+    stack: &[u8; 64],
+    n: usize,
+) -> KindStep
     requires { ⌜ ((literals : ℕ) × Allowed literals (instrOf i)) ⌝ }
     requires { ⌜ Codes kinds × (n ≤ 64) × Codes (now stack) × Table (now table) ⌝ }
-    ensures { λ r. ⌜ (stepped r (kindOn (now (stack .entry))) ≡ step (kindPushed (map kindAt kinds)) kindApply (instrOf i) (stackOf (kindOn (now (stack .entry))) n)) × Within r n ⌝ }
+    ensures { λ r. ⌜ (steppedIn r stack ≡ step (kindPushed (map kindAt kinds)) kindApply (instrOf i) (kindsIn stack n)) × Within r n ⌝ }
 {
     match i {
         Instruction::Op(op) => vet_op(op, table, stack, n),
@@ -112,7 +118,7 @@ fn vet_into(
 ) -> Vetted
     requires { ⌜ (Placed (now pack) × (question5 (now pack) ≡ true)) × (sheet < sheetCount (now pack)) ⌝ }
     requires { ⌜ (length (now out) ≡ 2048) × Codes kinds × Table (now table) ⌝ }
-    ensures { λ r. ⌜ (verdictOf r ≡ verdict (vet (program (now (pack .entry)) sheet) (map kindAt kinds) .end)) × Forecasts r (now (out .exit)) (vet (program (now (pack .entry)) sheet) (map kindAt kinds) .stacks) × (length (now (out .exit)) ≡ 2048) ⌝ }
+    ensures { λ r. ⌜ ForecastsIn (program (now (pack .entry)) sheet) kinds r out ⌝ }
 {
     let span = pack_read::sheet_span(pack, sheet);
     let end = span.end;
@@ -125,7 +131,7 @@ fn vet_into(
         let width = pack::instruction::instruction_width(instruction);
         let step = vet_step(instruction, kinds, table, &stack, n);
         match step {
-            Step::Put { place, kind } => {
+            KindStep::Put { place, kind } => {
                 stack[place] = kind;
                 n = place + 1;
                 out[2 * i] = n as u8;
@@ -133,7 +139,7 @@ fn vet_into(
                 at += width;
                 i += 1;
             }
-            Step::No(number) => {
+            KindStep::No(number) => {
                 return Vetted::Refused { number, index: i };
             }
         }
@@ -178,7 +184,7 @@ fn are_codes(kinds: [u8; 16]) -> bool
 fn vet_sheet(pack: &[u8], sheet: usize, kinds: [u8; 16], forecast: &mut [u8]) -> Vetted
     requires { ⌜ (Placed (now pack) × (question5 (now pack) ≡ true)) × (sheet < sheetCount (now pack)) ⌝ }
     requires { ⌜ Codes kinds × (2048 ≤ length (now forecast)) ⌝ }
-    ensures { λ r. ⌜ Vets (program (now (pack .entry)) sheet) kinds r (now (forecast .entry)) (now (forecast .exit)) ⌝ }
+    ensures { λ r. ⌜ VetsProgramIn (program (now (pack .entry)) sheet) kinds r forecast ⌝ }
 {
     let mut bytes = [0u8; 2048];
     let table = kind_table::table();
@@ -194,7 +200,7 @@ fn vet_sheet(pack: &[u8], sheet: usize, kinds: [u8; 16], forecast: &mut [u8]) ->
 
 // Vets a sheet of any bytes for slots of sixteen kinds: questions 1 to 14 and 17.
 pub fn vet(pack: &[u8], sheet: usize, kinds: [u8; 16], forecast: &mut [u8]) -> Vetted
-    ensures { λ r. ⌜ Answers format1 (now (pack .entry)) sheet kinds r (now (forecast .entry)) (now (forecast .exit)) ⌝ }
+    ensures { λ r. ⌜ VetsAny format1 pack sheet kinds r forecast ⌝ }
 {
     match pack_check::check(pack) {
         Checked::Refused(number) => Vetted::Refused { number, index: 0 },

@@ -18,9 +18,10 @@ use Rattle.kind_table.specs.Kinds.{kindCall, decoded}
 use Rattle.native_function_call.specs.Lists.{definitions, Room}
 use Rattle.native_function_call.specs.Apply.{call, compute}
 use Rattle.native_function_call.proofs.Calling.{call-gives, call-refuses, decoded-kind, decoded-no, two-of}
-use Rattle.calls.specs.Call.{operandsOk, called, PackLists}
+use Rattle.calls.specs.Call.{operandsOk, called}
 use Rattle.calls.proofs.Forms.{first-of, goes-on}
 use Rattle.slices.proofs.Lists.{map-take}
+use Rattle.pack.specs.Read.{PackLists}
 use Rattle.list_definitions.specs.Defs.{ListDefinitions}
 use Rattle.value_words.specs.Words.{unheld, valueAt}
 use Rattle.value_words.specs.Calls.{operandsIn, Says, Calls}

@@ -16,10 +16,10 @@ ghost use Rattle.ink_float.specs.Real.{ofBits32};
 ghost use Rattle.ink_list.specs.Entries.{itemNumbers};
 ghost use Rattle.native_function_call.specs.Apply.{ofInt};
 ghost use Rattle.native_function_call.specs.Lists.{Room, definitions};
-ghost use Rattle.calls.specs.Call.{PackLists};
 ghost use Rattle.value_words.specs.Slices.{SaysIn};
 ghost use Rattle.word_operators.specs.Operands.{Held, OfNumbers, NumberKind, FirstIn, OperandsOk, ResultsFit};
 ghost use Rattle.word_operators.specs.Slices.{NumberSays, ScalarSays, ListSays, CallSays};
+ghost use Rattle.pack.specs.Read.{PackLists};
 
 // The kind code in a value's first word; 4 where it has none.
 fn code_in(w: u64) -> u8

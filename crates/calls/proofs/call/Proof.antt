@@ -8,6 +8,7 @@ use Rattle.pack.proofs.Formats.{runnable1}
 use Rattle.pack.proofs.Judged.{accepted, passed, turned}
 use Rattle.calls.specs.Call.{called}
 use Rattle.calls.proofs.Forms.{pack-refused, pack-passed}
+use Rattle.calls.proofs.Standing.{returned}
 use borrow.Author.Needs.{needs}
 use Rattle.calls.proofs.call.Statement.{statement}
 use Rattle.calls.proofs.call.Tie as tie
@@ -32,7 +33,7 @@ returns : tie.Need-returns
 returns c =
     let s = c .before .before .before .before .before .before .before in
     let p = s .args .pack .now in
-    gave-is (pack-refused _ p (c .before .number .given .0 .0) (called (s .args .items .now) (s .args .values .now) (s .args .result-items .now) (s .args .result-values .now) (s .args .op) (s .args .count) (s .args .a ∷ s .args .b ∷ s .args .c ∷ [])) (turned _ p (c .before .before .before .check .result) (c .before .number .given .0 .0) (c .before .number .given .1) (c .before .before .before .check .ensures))) (gave-plain (refuses (c .before .number .given .0 .0)) _ _ _ refl refl)
+    returned (gave-is (pack-refused _ p (c .before .number .given .0 .0) (called (s .args .items .now) (s .args .values .now) (s .args .result-items .now) (s .args .result-values .now) (s .args .op) (s .args .count) (s .args .a ∷ s .args .b ∷ s .args .c ∷ [])) (turned _ p (c .before .before .before .check .result) (c .before .number .given .0 .0) (c .before .number .given .1) (c .before .before .before .check .ensures))) (gave-plain (refuses (c .before .number .given .0 .0)) _ _ _ refl refl))
 
 same-length : tie.Need-same-length
 same-length c = search needs
@@ -44,7 +45,7 @@ returns-2 : tie.Need-returns-2
 returns-2 c =
     let s = c .before .before .before .before .before .before .before .before .before .before .before .before .before .before in
     let p = s .args .pack .now in
-    gave-is (pack-passed _ p (called (s .args .items .now) (s .args .values .now) (s .args .result-items .now) (s .args .result-values .now) (s .args .op) (s .args .count) (s .args .a ∷ s .args .b ∷ s .args .c ∷ [])) (accepted _ p (c .before .before .before .before .before .before .before .before .before .before .check .result) (c .before .before .before .before .before .before .before .before .enum-told .given .1) (c .before .before .before .before .before .before .before .before .before .before .check .ensures))) (c .before .before .before .before .call-checked .ensures)
+    returned (gave-is (pack-passed _ p (called (s .args .items .now) (s .args .values .now) (s .args .result-items .now) (s .args .result-values .now) (s .args .op) (s .args .count) (s .args .a ∷ s .args .b ∷ s .args .c ∷ [])) (accepted _ p (c .before .before .before .before .before .before .before .before .before .before .check .result) (c .before .before .before .before .before .before .before .before .enum-told .given .1) (c .before .before .before .before .before .before .before .before .before .before .check .ensures))) (c .before .before .before .before .call-checked .ensures))
 
 pub call-spec : {M : Type 1} → statement M
 call-spec =

@@ -6,6 +6,7 @@ use Rattle.pack.proofs.Formats.{runnable1}
 use Rattle.pack.proofs.Judged.{accepted, passed, turned}
 use Rattle.calls.specs.Call.{castTo}
 use Rattle.calls.proofs.Forms.{pack-refused, pack-passed}
+use Rattle.calls.proofs.Standing.{returned}
 use borrow.Author.Needs.{needs}
 use Rattle.calls.proofs.cast.Statement.{statement}
 use Rattle.calls.proofs.cast.Tie as tie
@@ -27,7 +28,7 @@ returns : tie.Need-returns
 returns c =
     let s = c .before .before .before .before .before .before .before in
     let p = s .args .pack .now in
-    gave-is (pack-refused _ p (c .before .number .given .0 .0) (castTo (s .args .items .now) (s .args .values .now) (s .args .result-items .now) (s .args .result-values .now) (s .args .to) (s .args .v)) (turned _ p (c .before .before .before .check .result) (c .before .number .given .0 .0) (c .before .number .given .1) (c .before .before .before .check .ensures))) (gave-plain (refuses (c .before .number .given .0 .0)) _ _ _ refl refl)
+    returned (gave-is (pack-refused _ p (c .before .number .given .0 .0) (castTo (s .args .items .now) (s .args .values .now) (s .args .result-items .now) (s .args .result-values .now) (s .args .to) (s .args .v)) (turned _ p (c .before .before .before .check .result) (c .before .number .given .0 .0) (c .before .number .given .1) (c .before .before .before .check .ensures))) (gave-plain (refuses (c .before .number .given .0 .0)) _ _ _ refl refl))
 
 same-length : tie.Need-same-length
 same-length c = search needs
@@ -39,7 +40,7 @@ returns-2 : tie.Need-returns-2
 returns-2 c =
     let s = c .before .before .before .before .before .before .before .before .before .before .before .before in
     let p = s .args .pack .now in
-    gave-is (pack-passed _ p (castTo (s .args .items .now) (s .args .values .now) (s .args .result-items .now) (s .args .result-values .now) (s .args .to) (s .args .v)) (accepted _ p (c .before .before .before .before .before .before .before .before .check .result) (c .before .before .before .before .before .before .enum-told .given .1) (c .before .before .before .before .before .before .before .before .check .ensures))) (c .before .before .before .cast-checked .ensures)
+    returned (gave-is (pack-passed _ p (castTo (s .args .items .now) (s .args .values .now) (s .args .result-items .now) (s .args .result-values .now) (s .args .to) (s .args .v)) (accepted _ p (c .before .before .before .before .before .before .before .before .check .result) (c .before .before .before .before .before .before .enum-told .given .1) (c .before .before .before .before .before .before .before .before .check .ensures))) (c .before .before .before .cast-checked .ensures))
 
 pub cast-spec : {M : Type 1} → statement M
 cast-spec =

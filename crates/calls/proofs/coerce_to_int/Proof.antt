@@ -3,6 +3,7 @@ use mathlib.Core.Path.{_∙_}
 use Rattle.ink_value.specs.Convert.{coerceInt}
 use Rattle.ink_value.specs.Value.{valOf}
 use Rattle.calls.proofs.Forms.{asked-outcome}
+use Rattle.calls.proofs.Standing.{coerces, int-plain}
 use borrow.Author.Needs.{needs}
 use Rattle.calls.proofs.coerce_to_int.Statement.{statement}
 use Rattle.calls.proofs.coerce_to_int.Tie as tie
@@ -22,12 +23,12 @@ coerce-to-int-requires c κs = search needs
 returns : tie.Need-returns
 returns c =
     let s = c .before .before .before .before .before .before in
-    asked-outcome (coerceInt (valOf (s .args .items .now) (s .args .values .now) (s .args .v))) _ _ (c .before .before .before .operand-asked .ensures coerceInt) (c .before .number .given .1)
+    coerces coerceInt int-plain _ _ _ _ _ _ (asked-outcome (coerceInt (valOf (s .args .items .now) (s .args .values .now) (s .args .v))) _ _ (c .before .before .before .operand-asked .ensures coerceInt) (c .before .number .given .1))
 
 returns-2 : tie.Need-returns-2
 returns-2 c =
     let s = c .before .before .before .before .before .before in
-    c .coerce-to-int .ensures (s .args .items .now) (s .args .values .now) ∙ asked-outcome (coerceInt (valOf (s .args .items .now) (s .args .values .now) (s .args .v))) _ _ (c .before .before .before .operand-asked .ensures coerceInt) (c .before .enum-told .given .1)
+    coerces coerceInt int-plain _ _ _ _ _ _ (c .coerce-to-int .ensures (s .args .items .now) (s .args .values .now) ∙ asked-outcome (coerceInt (valOf (s .args .items .now) (s .args .values .now) (s .args .v))) _ _ (c .before .before .before .operand-asked .ensures coerceInt) (c .before .enum-told .given .1))
 
 pub coerce-to-int-spec : {M : Type 1} → statement M
 coerce-to-int-spec =

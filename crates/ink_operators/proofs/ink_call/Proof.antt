@@ -25,7 +25,7 @@ outcome-requires c κs =
     let s = c .before .before .before .before .before .before .before .before .before .before .before .before .before in
     let l = c .before .before .before .before .before .before .before .before .before .operand-at .result ∷ c .before .before .before .before .before .before .before .before .operand-at2 .result ∷ c .before .before .before .before .before .before .before .operand-at3 .result ∷ [] in
     let f = called (s .args .items .now) (s .args .values .now) (s .args .result-items .now) (s .args .result-values .now) (s .args .op) (s .args .count) l in
-    pack-small runnable1 (s .args .pack .now) f _ (c .before .before .before .before .call .ensures .answered) (λ ends defined within. called-few _ (runnable1 .some) ends defined within (s .args .items .now) (s .args .values .now) (s .args .result-items .now) (s .args .result-values .now) (s .args .op) (s .args .count) l)
+    pack-small runnable1 (s .args .pack .now) f _ (c .before .before .before .before .call .ensures .gave .answered) (λ ends defined within. called-few _ (runnable1 .some) ends defined within (s .args .items .now) (s .args .values .now) (s .args .result-items .now) (s .args .result-values .now) (s .args .op) (s .args .count) l)
 
 same-length : tie.Need-same-length
 same-length c = search needs
@@ -36,7 +36,7 @@ same-length-2 c = search needs
 returns : tie.Need-returns
 returns c =
     let s = c .before .before .before .before .before .before .before .before .before .before .before .before .before .before in
-    calls _ _ _ _ _ _ _ _ _ (pack-operands _ (s .args .pack .now) (called (s .args .items .now) (s .args .values .now) (s .args .result-items .now) (s .args .result-values .now) (s .args .op) (s .args .count)) (c .before .before .before .before .before .before .before .before .before .before .operand-at .ensures) (c .before .before .before .before .before .before .before .before .before .operand-at2 .ensures) (c .before .before .before .before .before .before .before .before .operand-at3 .ensures)) (c .before .before .before .before .before .call .ensures) (c .outcome .ensures)
+    calls _ _ _ _ _ _ _ _ _ (pack-operands _ (s .args .pack .now) (called (s .args .items .now) (s .args .values .now) (s .args .result-items .now) (s .args .result-values .now) (s .args .op) (s .args .count)) (c .before .before .before .before .before .before .before .before .before .before .operand-at .ensures) (c .before .before .before .before .before .before .before .before .before .operand-at2 .ensures) (c .before .before .before .before .before .before .before .before .operand-at3 .ensures)) (c .before .before .before .before .before .call .ensures .gave) (c .outcome .ensures)
 
 pub ink-call-spec : {M : Type 1} → statement M
 ink-call-spec =

@@ -19,7 +19,7 @@ outcome-requires : tie.Need-outcome-requires
 outcome-requires c κs =
     let s = c .before .before .before .before .before .before .before .before .before .before .before in
     let f = castTo (s .args .items .now) (s .args .values .now) (s .args .result-items .now) (s .args .result-values .now) (s .args .code) (c .before .before .before .before .before .before .before .value-in .result) in
-    pack-small runnable1 (s .args .pack .now) f _ (c .before .before .before .before .cast .ensures .answered) (λ ends defined within. cast-to-few _ ends defined within (s .args .items .now) (s .args .values .now) (c .before .before .before .before .before .before .before .value-in .result) (s .args .result-items .now) (s .args .result-values .now) (s .args .code))
+    pack-small runnable1 (s .args .pack .now) f _ (c .before .before .before .before .cast .ensures .gave .answered) (λ ends defined within. cast-to-few _ ends defined within (s .args .items .now) (s .args .values .now) (c .before .before .before .before .before .before .before .value-in .result) (s .args .result-items .now) (s .args .result-values .now) (s .args .code))
 
 same-length : tie.Need-same-length
 same-length c = search needs
@@ -30,7 +30,7 @@ same-length-2 c = search needs
 returns : tie.Need-returns
 returns c =
     let s = c .before .before .before .before .before .before .before .before .before .before .before .before in
-    calls _ _ _ _ _ _ _ _ _ (ap (λ (v : Value). onPack _ (s .args .pack .now) (castTo (s .args .items .now) (s .args .values .now) (s .args .result-items .now) (s .args .result-values .now) (s .args .code) v)) (c .before .before .before .before .before .before .before .before .value-in .ensures)) (c .before .before .before .before .before .cast .ensures) (c .outcome .ensures)
+    calls _ _ _ _ _ _ _ _ _ (ap (λ (v : Value). onPack _ (s .args .pack .now) (castTo (s .args .items .now) (s .args .values .now) (s .args .result-items .now) (s .args .result-values .now) (s .args .code) v)) (c .before .before .before .before .before .before .before .before .value-in .ensures)) (c .before .before .before .before .before .cast .ensures .gave) (c .outcome .ensures)
 
 pub ink-cast-spec : {M : Type 1} → statement M
 ink-cast-spec =

@@ -20,12 +20,12 @@ outcome-requires : tie.Need-outcome-requires
 outcome-requires c κs =
     let s = c .before .before .before .before .before in
     let f = coerced (s .args .items .now) (s .args .values .now) coerceFloat (c .before .before .value-in .result) in
-    pack-small runnable1 (s .args .pack .now) f _ (c .before .coerce-to-float .ensures) (λ ends defined within. coerced-few _ (s .args .items .now) (s .args .values .now) coerceFloat (c .before .before .value-in .result) _ (float-few _))
+    pack-small runnable1 (s .args .pack .now) f _ (c .before .coerce-to-float .ensures .answered) (λ ends defined within. coerced-few _ (s .args .items .now) (s .args .values .now) coerceFloat (c .before .before .value-in .result) _ (float-few _))
 
 returns : tie.Need-returns
 returns c =
     let s = c .before .before .before .before .before .before in
-    says _ _ _ _ _ (ap (λ (v : Value). onPack _ (s .args .pack .now) (coerced (s .args .items .now) (s .args .values .now) coerceFloat v)) (c .before .before .before .value-in .ensures)) (c .before .before .coerce-to-float .ensures) (c .outcome .ensures)
+    says _ _ _ _ _ (ap (λ (v : Value). onPack _ (s .args .pack .now) (coerced (s .args .items .now) (s .args .values .now) coerceFloat v)) (c .before .before .before .value-in .ensures)) (c .before .before .coerce-to-float .ensures .answered) (c .outcome .ensures)
 
 pub ink-coerce-to-float-spec : {M : Type 1} → statement M
 ink-coerce-to-float-spec =

@@ -20,12 +20,12 @@ outcome-requires : tie.Need-outcome-requires
 outcome-requires c κs =
     let s = c .before .before .before .before .before in
     let f = coerced (s .args .items .now) (s .args .values .now) coerceInt (c .before .before .value-in .result) in
-    pack-small runnable1 (s .args .pack .now) f _ (c .before .coerce-to-int .ensures) (λ ends defined within. coerced-few _ (s .args .items .now) (s .args .values .now) coerceInt (c .before .before .value-in .result) _ (int-few _))
+    pack-small runnable1 (s .args .pack .now) f _ (c .before .coerce-to-int .ensures .answered) (λ ends defined within. coerced-few _ (s .args .items .now) (s .args .values .now) coerceInt (c .before .before .value-in .result) _ (int-few _))
 
 returns : tie.Need-returns
 returns c =
     let s = c .before .before .before .before .before .before in
-    says _ _ _ _ _ (ap (λ (v : Value). onPack _ (s .args .pack .now) (coerced (s .args .items .now) (s .args .values .now) coerceInt v)) (c .before .before .before .value-in .ensures)) (c .before .before .coerce-to-int .ensures) (c .outcome .ensures)
+    says _ _ _ _ _ (ap (λ (v : Value). onPack _ (s .args .pack .now) (coerced (s .args .items .now) (s .args .values .now) coerceInt v)) (c .before .before .before .value-in .ensures)) (c .before .before .coerce-to-int .ensures .answered) (c .outcome .ensures)
 
 pub ink-coerce-to-int-spec : {M : Type 1} → statement M
 ink-coerce-to-int-spec =

@@ -9,10 +9,6 @@ use borrow.Author.Needs.{needs}
 use native.Mathlib.Omega.{arith}
 use Rattle.named_packs.proofs.read.Statement.{statement}
 use Rattle.named_packs.proofs.read.Tie as tie
-use Rattle.named_packs.proofs.read.Reads as reads
-use Rattle.named_packs.proofs.read.Lts as lts
-use Rattle.named_packs.proofs.byte_at.Reads as byte-at-reads
-use Rattle.named_packs.proofs.size_at.Reads as size-at-reads
 
 ends : (s : List ℕ) (at n size : ℕ) → n ≡ getD s at 0 → size ≡ sizeAt s (at + 1 + n) → at + 1 + n + 3 + size ≡ packEnd s at
 ends s at n size e f = ap (λ (z : ℕ). at + 1 + n + 3 + z) f ∙ ap (λ (k : ℕ). at + 1 + k + 3 + sizeAt s (at + 1 + k)) e

@@ -1,4 +1,4 @@
--- `running::operand_count` meets its contract. Assumes nothing.
+-- `running::operand_count` meets its contract: one case for each kind of instruction. Assumes nothing.
 use mathlib.Core.Path.{_≡_, subst}
 use Prim.Native.Nat.{ℕ, _<_}
 use Rattle.kind_table.specs.Kinds.{operandCount}

@@ -1,4 +1,4 @@
--- `running::slot_place` meets its contract. Assumes nothing.
+-- `running::slot_place` meets its contract: one case for each kind of instruction. Assumes nothing.
 use borrow.Author.Needs.{needs}
 use mathlib.Core.Path.{_≡_, refl, subst}
 use Prim.Native.Nat.{ℕ, _<_}

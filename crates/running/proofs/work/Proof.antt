@@ -1,4 +1,5 @@
--- `running::work` meets its contract. Assumes nothing.
+-- `running::work` meets its contract. The invariant (`Working`): what is left of the sheet, from the stack as it stands, ends as the whole
+-- does. Assumes nothing.
 use mathlib.Core.Path.{refl, sym, ap, _∙_, subst}
 use Prim.Native.Nat.{ℕ, _-_, _<_}
 use native.Mathlib.Omega.{arith}
@@ -13,8 +14,8 @@ use Rattle.pack.proofs.Allowed.{allowed}
 use Rattle.pack.proofs.Programs.{whole}
 use Rattle.native_function_call.specs.Apply.{applyOp}
 use Rattle.pack.specs.Bodies.{decoded}
-use Rattle.sheet.specs.Machine.{stackLimit, step, valuePushed}
-use Rattle.sheet.specs.Stack.{stackOf}
+use Rattle.machine.specs.Machine.{stackLimit, step, valuePushed}
+use Rattle.machine.specs.Stack.{stackOf}
 use Rattle.stepping.specs.Steps.{Steps}
 use Rattle.running.specs.Work.{Longest}
 use Rattle.running.proofs.Working.{Working, slot-is, inputs-none, allowed-op, allowed-slot, begin, valueOn, operands, operands-formed, roomy, advance, refused, one-left, not-one, width-some}

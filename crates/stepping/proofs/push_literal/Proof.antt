@@ -9,7 +9,8 @@ use Rattle.pack.proofs.Listed.{literal-formed}
 use Rattle.pack.proofs.Values.{pack-tables}
 use Rattle.ink_list.proofs.Laws.{rising-limit}
 use Rattle.ink_value.specs.declared.Value.the-variants as Is
-use Rattle.stepping.proofs.Putting.{place-fits, put-literal, push-put, push-no}
+use Rattle.stepping.proofs.Pushing.{put-literal, push-put, push-no}
+use Rattle.operating.proofs.Putting.{place-fits}
 use borrow.Author.Needs.{needs}
 use Rattle.stepping.proofs.push_literal.Statement.{statement}
 use Rattle.stepping.proofs.push_literal.Tie as tie

@@ -4,7 +4,8 @@ use native.Mathlib.Omega.{arith}
 use Rattle.ink_list.specs.Entries.{itemNumbers}
 use Prim.Native.Nat.{zero-le}
 use Rattle.ink_value.proofs.Reading.{few-in, formed-limit}
-use Rattle.stepping.proofs.Putting.{place-fits, push-put, push-no}
+use Rattle.stepping.proofs.Pushing.{push-put, push-no}
+use Rattle.operating.proofs.Putting.{place-fits}
 use borrow.Author.Needs.{needs}
 use Rattle.stepping.proofs.push_slot.Statement.{statement}
 use Rattle.stepping.proofs.push_slot.Tie as tie

@@ -1,11 +1,11 @@
--- `stepping::run_op` meets its contract. Assumes nothing.
+-- `stepping::run_op` meets its contract: questions 8 and 10, and then the operator's answer on the stack below its operands. Assumes nothing.
 use mathlib.Core.Path.{sym, _∙_, subst}
 use Prim.Native.Nat.{ℕ}
 use native.Mathlib.Omega.{arith}
 use Rattle.ink_value.specs.Value.{FirstFormed}
 use Rattle.native_function_call.specs.Lists.{definitions}
 use Rattle.stepping.specs.Steps.{Operands}
-use Rattle.stepping.proofs.Operating.{no-operator, no-operands, operands-topped, steps-of}
+use Rattle.stepping.proofs.Stepping.{no-operator, no-operands, operands-topped, steps-of}
 use borrow.Author.Needs.{needs}
 use Rattle.stepping.proofs.run_op.Statement.{statement}
 use Rattle.stepping.proofs.run_op.Tie as tie

@@ -1,4 +1,4 @@
--- `stepping::run_step` meets its contract. Assumes nothing.
+-- `stepping::run_step` meets its contract: each kind of instruction is its case of the definition. Assumes nothing.
 use mathlib.Core.Path.{refl, ap, subst, _∙_}
 use mathlib.Core.List.{[], map}
 use mir.ValLaws.{toZ-ofZ}
@@ -13,9 +13,9 @@ use Rattle.pack.specs.Contents.{literalCount}
 use Rattle.pack.specs.Instruction.{pushBool, pushInt, pushFloat, pushList, pushSlot, pushVoid, instrOf, Allowed}
 use Rattle.pack.specs.Read.{literalOf}
 use Rattle.pack.specs.declared.instruction.Instruction.{Instruction}
-use Rattle.sheet.specs.Machine.{valuePushed}
+use Rattle.machine.specs.Machine.{valuePushed}
 use Rattle.stepping.specs.Steps.{Operands, OperandsFormed, IfOp, SlotIs}
-use Rattle.stepping.proofs.Operating.{push-steps, op-steps, slot-value, known-of}
+use Rattle.stepping.proofs.Stepping.{push-steps, op-steps, slot-value, known-of}
 use borrow.Author.Needs.{needs}
 use Rattle.stepping.proofs.run_step.Statement.{statement}
 use Rattle.stepping.proofs.run_step.Tie as tie
@@ -90,17 +90,17 @@ returns c =
 returns-2 : tie.Need-returns-2
 returns-2 c =
     let s = c .before .before .before .before .before .before .before .before in
-    λ slots q f t. push-steps (valuePushed (literalOf (decoded (s .args .format) (s .args .pack .now))) (map (valOf (s .args .slot-items .now) (s .args .slot-values .now)) slots)) (applyOp (definitions (s .args .ends .now) (s .args .defined .now) (s .args .format .limit))) (s .args .n) f _ _ _ _ _ (instrOf (s .args .i)) (pushBool (c .before .before .i2 .given .0 .0)) (ap instrOf (c .before .before .i2 .given .1)) (bool (c .before .before .i2 .given .0 .0)) (refl) (c .push-value .ensures (s .args .format) [] [] (s .args .work-items .now) (s .args .work-values .now))
+    λ slots q f t. push-steps (valuePushed (literalOf (decoded (s .args .format) (s .args .pack .now))) (map (valOf (s .args .slot-items .now) (s .args .slot-values .now)) slots)) (applyOp (definitions (s .args .ends .now) (s .args .defined .now) (s .args .format .limit))) (s .args .n) f _ _ _ _ _ (instrOf (s .args .i)) (pushBool (c .before .before .i2 .given .0 .0)) (ap instrOf (c .before .before .i2 .given .1)) (bool (c .before .before .i2 .given .0 .0)) (refl) (c .push-value .ensures [] [] (s .args .format) (s .args .work-items .now) (s .args .work-values .now))
 
 returns-3 : tie.Need-returns-3
 returns-3 c =
     let s = c .before .before .before .before .before .before .before .before in
-    λ slots q f t. push-steps (valuePushed (literalOf (decoded (s .args .format) (s .args .pack .now))) (map (valOf (s .args .slot-items .now) (s .args .slot-values .now)) slots)) (applyOp (definitions (s .args .ends .now) (s .args .defined .now) (s .args .format .limit))) (s .args .n) f _ _ _ _ _ (instrOf (s .args .i)) (pushInt (c .before .before .i3 .given .0 .0)) (ap instrOf (c .before .before .i3 .given .1)) (_) (ap int (toZ-ofZ w32 (c .before .before .i3 .given .0 .0) (record { sfits = c .before .known-told3 .given .0 .1 }))) (c .push-value2 .ensures (s .args .format) [] [] (s .args .work-items .now) (s .args .work-values .now))
+    λ slots q f t. push-steps (valuePushed (literalOf (decoded (s .args .format) (s .args .pack .now))) (map (valOf (s .args .slot-items .now) (s .args .slot-values .now)) slots)) (applyOp (definitions (s .args .ends .now) (s .args .defined .now) (s .args .format .limit))) (s .args .n) f _ _ _ _ _ (instrOf (s .args .i)) (pushInt (c .before .before .i3 .given .0 .0)) (ap instrOf (c .before .before .i3 .given .1)) (_) (ap int (toZ-ofZ w32 (c .before .before .i3 .given .0 .0) (record { sfits = c .before .known-told3 .given .0 .1 }))) (c .push-value2 .ensures [] [] (s .args .format) (s .args .work-items .now) (s .args .work-values .now))
 
 returns-4 : tie.Need-returns-4
 returns-4 c =
     let s = c .before .before .before .before .before .before .before .before .before in
-    λ slots q f t. push-steps (valuePushed (literalOf (decoded (s .args .format) (s .args .pack .now))) (map (valOf (s .args .slot-items .now) (s .args .slot-values .now)) slots)) (applyOp (definitions (s .args .ends .now) (s .args .defined .now) (s .args .format .limit))) (s .args .n) f _ _ _ _ _ (instrOf (s .args .i)) (pushFloat (c .before .before .before .i4 .given .0 .0)) (ap instrOf (c .before .before .before .i4 .given .1)) (_) (ap float (c .before .float-from-bits .ensures .0)) (c .push-value3 .ensures (s .args .format) [] [] (s .args .work-items .now) (s .args .work-values .now))
+    λ slots q f t. push-steps (valuePushed (literalOf (decoded (s .args .format) (s .args .pack .now))) (map (valOf (s .args .slot-items .now) (s .args .slot-values .now)) slots)) (applyOp (definitions (s .args .ends .now) (s .args .defined .now) (s .args .format .limit))) (s .args .n) f _ _ _ _ _ (instrOf (s .args .i)) (pushFloat (c .before .before .before .i4 .given .0 .0)) (ap instrOf (c .before .before .before .i4 .given .1)) (_) (ap float (c .before .float-from-bits .ensures .0)) (c .push-value3 .ensures [] [] (s .args .format) (s .args .work-items .now) (s .args .work-values .now))
 
 same-length-3 : tie.Need-same-length-3
 same-length-3 c = search needs
@@ -131,7 +131,7 @@ returns-6 c =
 returns-7 : tie.Need-returns-7
 returns-7 c =
     let s = c .before .before .before .before .before .before .before in
-    λ slots q f t. push-steps (valuePushed (literalOf (decoded (s .args .format) (s .args .pack .now))) (map (valOf (s .args .slot-items .now) (s .args .slot-values .now)) slots)) (applyOp (definitions (s .args .ends .now) (s .args .defined .now) (s .args .format .limit))) (s .args .n) f _ _ _ _ _ (instrOf (s .args .i)) (pushVoid) (ap instrOf (c .before .enum-told2 .given .1)) (void) (refl) (c .push-value4 .ensures (s .args .format) [] [] (s .args .work-items .now) (s .args .work-values .now))
+    λ slots q f t. push-steps (valuePushed (literalOf (decoded (s .args .format) (s .args .pack .now))) (map (valOf (s .args .slot-items .now) (s .args .slot-values .now)) slots)) (applyOp (definitions (s .args .ends .now) (s .args .defined .now) (s .args .format .limit))) (s .args .n) f _ _ _ _ _ (instrOf (s .args .i)) (pushVoid) (ap instrOf (c .before .enum-told2 .given .1)) (void) (refl) (c .push-value4 .ensures [] [] (s .args .format) (s .args .work-items .now) (s .args .work-values .now))
 
 pub run-step-spec : {M : Type 1} → statement M
 run-step-spec =

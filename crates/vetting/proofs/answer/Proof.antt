@@ -2,10 +2,10 @@
 use mathlib.Core.Path.{sym, _∙_, ap}
 use Prim.Native.Nat.{_-_}
 use borrow.Author.Needs.{needs}
-use Rattle.sheet.specs.Machine.{topped}
-use Rattle.sheet.specs.Stack.{stackOf}
+use Rattle.machine.specs.Machine.{topped}
+use Rattle.machine.specs.Stack.{stackOf}
 use Rattle.vetting.specs.Vet.{kindOn}
-use Rattle.vetting.proofs.Steps.{step-entry, step-range}
+use Rattle.vetting.proofs.KindSteps.{step-entry, step-range}
 use Rattle.native_function_call.proofs.Applying.{below-range}
 use Rattle.vetting.proofs.answer.Statement.{statement}
 use Rattle.vetting.proofs.answer.Tie as tie

@@ -1,5 +1,6 @@
--- `vetting::vet_into` meets its contract. The invariant (proofs/Going.antt): what is left of vetting from the stack as it stands is the end of vetting the sheet,
--- and the bytes written are the forecast of the instructions passed. The measure is what is left of the sheet's bytes. Assumes nothing.
+-- `vetting::vet_into` meets its contract. The invariant (proofs/Going.antt): what is left of vetting from the stack as it stands is the end of
+-- vetting the sheet, and the bytes written are the forecast of the instructions passed. The measure is what is left of the sheet's bytes.
+-- Assumes nothing.
 use mathlib.Core.Path.{_≡_, sym, ap, _∙_}
 use mathlib.Core.List.{_∷_, map}
 use Prim.Native.Nat.{_-_, _≤_, _<_}
@@ -14,8 +15,8 @@ use Rattle.pack.specs.Read.{program, sheetEnd, Standing}
 use Rattle.pack.proofs.Allowed.{allowed}
 use Rattle.pack.proofs.Programs.{whole, last-of}
 use Rattle.pack.proofs.Steps.{wide-some}
-use Rattle.sheet.specs.Machine.{step, kindPushed}
-use Rattle.sheet.specs.Stack.{stackOf}
+use Rattle.machine.specs.Machine.{step, kindPushed}
+use Rattle.machine.specs.Stack.{stackOf}
 use Rattle.vetting.specs.Vet.{kindOn}
 use Rattle.vetting.proofs.Going.{Going, begin, advance, refused, not-one, one, count-is, begins}
 use borrow.Author.Needs.{needs}

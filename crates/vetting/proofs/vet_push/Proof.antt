@@ -2,7 +2,7 @@
 use mathlib.Core.Path.{sym}
 use native.Mathlib.Omega.{arith}
 use Rattle.ink_value.specs.Val.{kindAt}
-use Rattle.sheet.proofs.Stack.{push-fits, push-full}
+use Rattle.machine.proofs.Stack.{push-fits, push-full}
 use Rattle.vetting.proofs.vet_push.Statement.{statement}
 use Rattle.vetting.proofs.vet_push.Tie as tie
 

@@ -6,7 +6,7 @@ use native.Mathlib.Omega.{arith}
 use Rattle.ink_value.specs.Val.{kindAt}
 use Rattle.slices.specs.Filled.{over}
 use Rattle.pack.specs.Read.{program}
-use Rattle.sheet.specs.Machine.{vet}
+use Rattle.machine.specs.Machine.{vet}
 use Rattle.vetting.proofs.Written.{passed-count, take-forecast}
 use borrow.Author.Needs.{needs}
 use Rattle.vetting.proofs.vet_sheet.Statement.{statement}

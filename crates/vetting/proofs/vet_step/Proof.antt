@@ -6,10 +6,10 @@ use Rattle.ink_value.specs.Val.{Kind, kindAt}
 use Rattle.kind_table.specs.Kinds.{kindApply}
 use Rattle.pack.specs.Instruction.{instrOf}
 use Rattle.pack.specs.declared.instruction.Instruction.{Instruction}
-use Rattle.sheet.specs.Machine.{step, stepPush, kindPushed}
-use Rattle.sheet.specs.Stack.{stackOf}
+use Rattle.machine.specs.Machine.{step, stepPush, kindPushed}
+use Rattle.machine.specs.Stack.{stackOf}
 use Rattle.vetting.specs.Vet.{kindOn}
-use Rattle.vetting.proofs.Steps.{slot-kind}
+use Rattle.vetting.proofs.KindSteps.{slot-kind}
 use borrow.Author.Needs.{needs}
 use Rattle.vetting.proofs.vet_step.Statement.{statement}
 use Rattle.vetting.proofs.vet_step.Tie as tie

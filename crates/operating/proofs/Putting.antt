@@ -1,0 +1,106 @@
+-- Values put at a place of two slices: what each leaves is what the definitions say. Assumes nothing.
+use mathlib.Core.Path.{_≡_, refl, sym, ap, _∙_, subst}
+use mathlib.Core.List.{List, []}
+use Prim.Native.Nat.{ℕ, suc, _+_, _-_, _*_, _≤_, _<_}
+use native.Mathlib.Omega.{arith}
+use native.Mathlib.Nat.{suc-mul, mul-le-mul-right}
+use lib.IntN.{ℤ}
+use lib.ListN.{length, take, drop}
+use Rattle.ink_number.specs.Answer.{Answer, gives, refuses}
+use Rattle.ink_list.specs.Entries.{Entry, entries, items, values, Rising, Stored}
+use Rattle.slices.specs.Filled.{fill}
+use Rattle.slices.proofs.Filled.{fill-nothing}
+use Rattle.ink_value.specs.Val.{Val, bool, int, float, list, void}
+use Rattle.ink_value.specs.Convert.{entriesOf}
+use Rattle.ink_value.specs.Value.{valOf, codeOfValue, startOf, lenOf, setIn, placed, placedVal, written, outcomeOf, Formed, Gave}
+use Rattle.ink_value.specs.declared.Value.{Value}
+use Rattle.ink_value.specs.declared.Value.the-variants as Is
+use Rattle.ink_value.specs.declared.Outcome.{Outcome}
+use Rattle.ink_value.specs.declared.Outcome.the-variants as Out
+use Rattle.ink_value.proofs.Reading.{lends-held, list-in, len-in, entries-in, rising-in}
+use Rattle.ink_value.proofs.Results.{read-back, formed-back}
+use Rattle.pack.specs.declared.format.Format.{Format}
+use Rattle.machine.specs.Machine.{stackLimit}
+use Rattle.operating.specs.Stacked.{workLimit, placedAt, Put, startAt, Answered}
+use Rattle.operating.specs.declared.Step.the-variants as St
+
+-- a place of the stack has room for a list
+pub place-fits : (F : Format) (place n : ℕ) → place < stackLimit → n ≤ F .limit → startAt F place + n ≤ workLimit F
+place-fits F place n h k =
+    let a : suc place * F .limit ≤ stackLimit * F .limit = mul-le-mul-right (F .limit) h in
+    omega (arith, a, suc-mul place (F .limit))
+
+-- ---- what is put
+
+-- a value without entries
+put-none : {F : Format} (x : Val) (at : ℕ) (r : Value) (oi : List ℕ) (ov : List ℤ) → entriesOf x ≡ [] → r ≡ placedAt at x → Put F x at r oi oi ov ov
+put-none {F} x at r oi ov e q =
+    record {
+      value-is = q;
+      items-in = sym (ap (λ (es : List Entry). fill at (items es) oi) e ∙ fill-nothing at oi);
+      values-in = sym (ap (λ (es : List Entry). fill at (values es) ov) e ∙ fill-nothing at ov);
+      rising = subst (Rising (F .limit)) (sym e) tt;
+    }
+
+pub put-plain : {F : Format} (at : ℕ) (is : List ℕ) (vs : List ℤ) (v : Value) (oi : List ℕ) (ov : List ℤ) → (codeOfValue v ≡ 3 → ⊥) → Put F (valOf is vs v) at v oi oi ov ov
+put-plain at is vs (Is.Bool b) oi ov h = put-none (bool b) at (Is.Bool b) oi ov refl refl
+put-plain at is vs (Is.Int z) oi ov h = put-none (int z) at (Is.Int z) oi ov refl refl
+put-plain at is vs (Is.Float x) oi ov h = put-none (float x) at (Is.Float x) oi ov refl refl
+put-plain at is vs (Is.List o s n) oi ov h = absurd (h refl)
+put-plain at is vs Is.Void oi ov h = put-none void at Is.Void oi ov refl refl
+
+-- a list that is copied from its slices
+module _ (F : Format) (is : List ℕ) (vs : List ℤ) (v : Value) (f : Formed (F .limit) is vs v) (i n to : ℕ) (p : i ≡ startOf v) (q : n ≡ lenOf v)
+    (oi oi′ : List ℕ) (ov ov′ : List ℤ) (hi : to + lenOf v ≤ length oi) (hv : to + lenOf v ≤ length ov) (m : ℕ)
+    (w : Stored to (entries (take (i + n - i) (drop i is)) (take (i + n - i) (drop i vs))) m oi oi′ ov ov′) where
+  entries-are : entries (take (i + n - i) (drop i is)) (take (i + n - i) (drop i vs)) ≡ entriesOf (valOf is vs v)
+  entries-are = lends-held (F .limit) is vs i n v p q ∙ sym (entries-in is vs v)
+
+  pub put-copied : (o : ℕ) (r : Value) → o ≡ setIn v → codeOfValue v ≡ 3 → r ≡ Is.List o to n → Put F (valOf is vs v) to r oi oi′ ov ov′
+  put-copied o r s k e =
+      record {
+        value-is = e ∙ ap (λ (x : ℕ). Is.List x to n) s ∙ ap (Is.List (setIn v) to) (q ∙ sym (len-in (F .limit) is vs v f))
+            ∙ ap (placedAt to) (sym (list-in is vs v k));
+        items-in = w .items-in ∙ ap (λ (es : List Entry). fill to (items es) oi) entries-are;
+        values-in = w .values-in ∙ ap (λ (es : List Entry). fill to (values es) ov) entries-are;
+        rising = rising-in (F .limit) is vs v f;
+      }
+
+-- ---- results
+
+pub refusal : {F : Format} (a : Answer Val) (r : Outcome) (place : ℕ) (wi : List ℕ) (wv : List ℤ) → r ≡ placed a → (q : ℕ) → r ≡ Out.Refused q
+    → Answered F a place (St.No q) wi wi wv wv
+refusal (gives x) r place wi wv e q s = let z : _≡_ {A = ℕ} 0 1 = cc in absurd (omega arith)
+refusal (refuses n) r place wi wv e q s = record { by = record { refused = cc; items-same = refl; values-same = refl } }
+
+-- ---- a List's result, in the slices lent for it
+
+pub formed-none : {L : ℕ} (is : List ℕ) (vs : List ℤ) (v : Value) → startOf v ≡ 0 → lenOf v ≡ 0 → Formed L is vs v
+formed-none is vs v s n = record { items-in = omega arith; values-in = omega arith; lent = rw (s, n) (record { long = refl; rising = tt }) }
+
+module _ (F : Format) (oi oi′ : List ℕ) (ov ov′ : List ℤ) (hi : F .limit ≤ length oi) (hv : F .limit ≤ length ov) (r : Outcome) where
+  formed-val : (x : Val) → Gave (gives x) r oi oi′ ov ov′ → Rising (F .limit) (entriesOf x) → Formed (F .limit) oi′ ov′ (placedVal x)
+  formed-val (bool b) g up = formed-none oi′ ov′ (Is.Bool b) refl refl
+  formed-val (int z) g up = formed-none oi′ ov′ (Is.Int z) refl refl
+  formed-val (float x) g up = formed-none oi′ ov′ (Is.Float x) refl refl
+  formed-val (list o es) g up = formed-back (F .limit) o es r oi oi′ ov ov′ g up hi hv
+  formed-val void g up = formed-none oi′ ov′ Is.Void refl refl
+
+  pub formed-result : (a : Answer Val) → Gave a r oi oi′ ov ov′ → Rising (F .limit) (written a) → (v : Value) → r ≡ Out.Value v → Formed (F .limit) oi′ ov′ v
+  formed-result (gives x) g up v q =
+      let s : placedVal x ≡ v = cc in
+      subst (Formed (F .limit) oi′ ov′) s (formed-val x g up)
+  formed-result (refuses n) g up v q = let z : _≡_ {A = ℕ} 0 1 = cc in absurd (omega arith)
+
+  pub result-read : (a : Answer Val) → Gave a r oi oi′ ov ov′ → (v : Value) → r ≡ Out.Value v → a ≡ gives (valOf oi′ ov′ v)
+  result-read a g v q = sym (read-back a r oi oi′ ov ov′ g) ∙ ap (outcomeOf oi′ ov′) q
+
+pub result-put : {F : Format} (a : Answer Val) (x : Val) (place : ℕ) (v : Value) (wi wi′ : List ℕ) (wv wv′ : List ℤ) → place < stackLimit → a ≡ gives x
+    → Put F x (startAt F place) v wi wi′ wv wv′ → Answered F a place (St.Put place v) wi wi′ wv wv′
+result-put a x place v wi wi′ wv wv′ h e w = record { by = record { value = x; given = e; at-place = refl; depth = h; put = w } }
+
+-- ---- a result that is no List
+
+pub scalar-put : {F : Format} (a : Answer Val) (place : ℕ) (v : Value) (wi : List ℕ) (wv : List ℤ) → place < stackLimit → (codeOfValue v ≡ 3 → ⊥) → a ≡ gives (valOf wi wv v)
+    → Answered F a place (St.Put place v) wi wi wv wv
+scalar-put {F} a place v wi wv h ne e = result-put a (valOf wi wv v) place v wi wi wv wv h e (put-plain (startAt F place) wi wv v wi wv ne)

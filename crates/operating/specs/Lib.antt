@@ -1,0 +1,3 @@
+-- What an operator of a run does.
+pub mod Stacked
+pub mod Slices

@@ -1,0 +1,3 @@
+-- The laws of the run of a pack that has passed.
+pub mod Clearing
+pub mod Ending

@@ -1,0 +1,2 @@
+-- What is cleared after a run.
+pub mod Clear
