@@ -1,4 +1,4 @@
--- `ink_operators::ink_run` meets its contract: the answer of `running::run` on the slots that the words hold. Assumes nothing.
+-- `ink_operators::ink_run` meets its contract: the answer of `run_bytes::run` on the slots that the words hold. Assumes nothing.
 use mathlib.Core.List.{map}
 use Rattle.ink_value.specs.Value.{valOf}
 use Rattle.pack.specs.Format.{format1}
