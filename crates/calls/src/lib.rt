@@ -16,7 +16,7 @@ ghost use lib.ListN.{length, take};
 ghost use Rattle.ink_list.specs.Entries.{itemNumbers};
 ghost use Rattle.ink_list.specs.Every.{_and_};
 ghost use denote.Ref.{now};
-ghost use Rattle.native_function_call.specs.Lists.{definitions, definitionsIn};
+ghost use Rattle.list_operators.specs.Lists.{definitions, definitionsIn};
 ghost use Rattle.pack.specs.Read.{definitionsOf};
 ghost use Rattle.ink_value.specs.Convert.{cast, coerceBool, coerceInt, coerceFloat};
 ghost use Rattle.ink_value.specs.Value.{placed};

@@ -12,7 +12,6 @@ pub mod Rounds
 pub mod Unique
 pub mod Sums
 pub mod Remainder
-pub mod Known
 pub mod Orders
 pub mod Fields
 pub mod Meets

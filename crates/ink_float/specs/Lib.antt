@@ -3,4 +3,3 @@ pub mod Nearest
 pub mod Operations
 pub mod Real
 pub mod Rounding
-pub mod Known

@@ -10,7 +10,7 @@ use lib.Seq.{take-append-seam}
 use Rattle.ink_number.specs.Answer.{Answer}
 use Rattle.list_definitions.specs.Defs.{ListDefinitions}
 use Rattle.ink_value.specs.Val.{Val}
-use Rattle.native_function_call.specs.Lists.{definitions}
+use Rattle.list_operators.specs.Lists.{definitions}
 use Rattle.pack.specs.Bodies.{decoded}
 use Rattle.ink_list.specs.Filled.{over}
 use Rattle.pack.specs.Format.{Narrow, definitionLimit}

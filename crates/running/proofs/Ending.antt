@@ -9,7 +9,7 @@ use Rattle.ink_value.specs.Val.{Val, bool, int, float, list, void}
 use Rattle.ink_value.specs.Convert.{entriesOf}
 use Rattle.ink_value.specs.Value.{placedVal}
 use Rattle.ink_value.specs.declared.Value.{Value}
-use Rattle.native_function_call.specs.Lists.{definitions}
+use Rattle.list_operators.specs.Lists.{definitions}
 use Rattle.pack.specs.Bodies.{decoded}
 use Rattle.pack.specs.declared.format.Format.{Format}
 use Rattle.pack.specs.Read.{endsOf, literalOf, program}

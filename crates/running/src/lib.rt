@@ -15,7 +15,7 @@ ghost use Rattle.ink_list.specs.Filled.{fill};
 ghost use Rattle.ink_value.specs.Val.{list};
 ghost use Rattle.ink_value.specs.Slices.{valIn};
 ghost use Rattle.kind_table.specs.Kinds.{operandCount};
-ghost use Rattle.native_function_call.specs.Lists.{definitions, definitionsIn};
+ghost use Rattle.list_operators.specs.Lists.{definitions, definitionsIn};
 ghost use Rattle.pack.specs.Bodies.{decoded};
 ghost use Rattle.pack.specs.Contents.{sheetCount};
 ghost use Rattle.pack.specs.Format.{slotLimit};

@@ -23,7 +23,7 @@ ghost use Rattle.ink_value.specs.Value.{valOf, codeOfValue, lenOf, written, For
 ghost use Rattle.kind_table.specs.Kinds.{operandCount, KindsGiven};
 ghost use Rattle.native_function_call.specs.Apply.{ofInt, applyOp, call, compute};
 ghost use Rattle.list_definitions.specs.Defs.{ListDefinitions};
-ghost use Rattle.native_function_call.specs.Lists.{definitions, definitionsIn};
+ghost use Rattle.list_operators.specs.Lists.{definitions, definitionsIn};
 ghost use Rattle.pack.specs.Bodies.{decoded};
 ghost use Rattle.pack.specs.Contents.{literalCount};
 ghost use Rattle.pack.specs.declared.format.Format.{Format};
@@ -225,7 +225,7 @@ fn list_through(
     ensures { λ r. ⌜ Answered format (compute (definitionsIn ends defined (format .limit)) op (take count (valIn «work_items» «work_values» a ∷ valIn «work_items» «work_values» b ∷ valIn «work_items» «work_values» c ∷ [])) listK) place r
         (now («work_items» .entry)) (now («work_items» .exit)) (now («work_values» .entry)) (now («work_values» .exit)) ⌝ }
 {
-    let outcome = native_function_call::list(
+    let outcome = list_operators::list(
         op,
         count,
         a,
@@ -307,17 +307,6 @@ fn list_result(
     )
 }
 
-// Questions 11 to 14 of an operator and as many kind codes as it takes: the code of the answer.
-fn kinds(op: u8, count: usize, left: u8, middle: u8, right: u8) -> u8
-    requires { ⌜ (op < 32) × (count ≡ operandCount op) × (1 ≤ count) × (left < 5) × (middle < 5) × (right < 5) ⌝ }
-    ensures { λ r. ⌜ KindsGiven op count (take count (kindAt left ∷ kindAt middle ∷ kindAt right ∷ [])) r ⌝ }
-{
-    if count == 3 {
-        return kind_table::range(left, middle, right);
-    }
-    kind_table::entry(op, left, middle)
-}
-
 // An operator on as many of three operands as it takes: questions 11 to 16, and its result at a place of the stack.
 fn operate(
     op: u8,
@@ -337,7 +326,7 @@ fn operate(
     ensures { λ r. ⌜ Answered format (call (definitionsIn ends defined (format .limit)) op count (take count (valIn «work_items» «work_values» a ∷ valIn «work_items» «work_values» b ∷ valIn «work_items» «work_values» c ∷ []))) place r
         (now («work_items» .entry)) (now («work_items» .exit)) (now («work_values» .entry)) (now («work_values» .exit)) ⌝ }
 {
-    let kind = kinds(
+    let kind = kind_table::answer(
         op,
         count,
         ink_value::kind(a),

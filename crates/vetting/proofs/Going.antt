@@ -13,7 +13,7 @@ use Rattle.pack.specs.Instruction.{Instr, push, pushVoid}
 use Rattle.sheet.specs.Machine.{Run, stopped, finish, onward, step, runFrom, kindPushed, vet}
 use Rattle.sheet.specs.Stack.{stackOf}
 use Rattle.sheet.specs.Foretold.{passed, turned, verdict, forecast, Begins}
-use Rattle.native_function_call.proofs.Calling.{code-at}
+use Rattle.kind_table.proofs.Counting.{code-at}
 use Rattle.sheet.proofs.Stack.{stack-length, stack-put, run-more, run-stop, run-done}
 use Rattle.pack.specs.Format.{instructionLimit}
 use Rattle.vetting.specs.Vet.{Codes, kindOn}

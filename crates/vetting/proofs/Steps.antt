@@ -7,8 +7,7 @@ use native.Mathlib.Omega.{arith}
 use lib.ListN.{length, getD, List·getD-map}
 use Rattle.ink_value.specs.Val.{Kind, kindAt, voidK}
 use Rattle.kind_table.specs.Kinds.{operandCount, kindApply, kindRange, kindEntry}
-use Rattle.native_function_call.proofs.Applying.{entry-one, entry-two, entry-range, is-range}
-use Rattle.native_function_call.proofs.Calling.{below-three}
+use Rattle.kind_table.proofs.Counting.{entry-one, entry-two, entry-range, is-range, below-three}
 use Rattle.sheet.specs.Machine.{topped, stepOp}
 use Rattle.sheet.specs.Stack.{stackOf}
 use Rattle.sheet.proofs.Stack.{getD-any, op-one, op-two, op-three}

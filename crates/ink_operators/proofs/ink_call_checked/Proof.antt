@@ -12,7 +12,7 @@ use Rattle.ink_list.proofs.Every.{and-left, and-right}
 use Rattle.ink_value.specs.declared.Value.{Value}
 use Rattle.ink_value.proofs.Reading.{ap3}
 use Rattle.list_definitions.specs.Defs.{ListDefinitions}
-use Rattle.native_function_call.specs.Lists.{definitions}
+use Rattle.list_operators.specs.Lists.{definitions}
 use Rattle.pack.specs.Format.{format1}
 use Rattle.calls.specs.Call.{operandsOk, resultsOk, called}
 use Rattle.calls.proofs.Forms.{ill-lent}

@@ -6,7 +6,7 @@ use Rattle.ink_value.specs.declared.Value.{Value}
 use Rattle.calls.specs.Call.{coerced, onPack}
 use Rattle.pack.specs.Format.{format1}
 use Rattle.pack.proofs.Formats.{runnable1}
-use Rattle.native_function_call.specs.Lists.{definitions}
+use Rattle.list_operators.specs.Lists.{definitions}
 use Rattle.value_words.proofs.Saying.{says}
 use Rattle.value_words.proofs.Few.{small-outcome, pack-few, coerced-few, bool-few}
 use borrow.Author.Needs.{needs}

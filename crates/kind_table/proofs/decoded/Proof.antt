@@ -1,5 +1,4 @@
 -- `kind_table::decoded` meets its contract. Assumes nothing.
-use mathlib.Core.Path.{sym}
 use borrow.Author.Tests.{lt-ltb, le-ltb}
 use Rattle.kind_table.proofs.decoded.Statement.{statement}
 use Rattle.kind_table.proofs.decoded.Tie as tie
