@@ -2,10 +2,9 @@
 
 ghost use mathlib.Core.Path.{_≡_};
 ghost use mathlib.Core.List.{[], _∷_};
-ghost use Prim.Native.Nat.{_+_, _-_, _^_, _<_, _≤_};
+ghost use Prim.Native.Nat.{_+_, _-_, _<_, _≤_};
 ghost use lib.ListN.{length, drop};
 ghost use Rattle.ink_list.specs.Entries.{entries, ascends, bitsBelow, formedLent, room};
-ghost use Rattle.ink_list.specs.Ops.{count, truthy};
 ghost use Rattle.ink_list.specs.Slices.{list, Answers, Appends};
 
 // Has an origin set bits below d alone.
@@ -49,21 +48,6 @@ pub fn is_formed(items: &[u16], values: &[i32], set: u64, total: usize, definiti
         return false;
     }
     ascends(items, total)
-}
-
-// Count: the number of entries.
-pub fn count(items: &[u16]) -> i32
-    requires { ⌜ length (now items) < 2 ^ 31 ⌝ }
-    ensures { λ r. ⌜ r ≡ count (now (items .entry)) ⌝ }
-{
-    items.len() as i32
-}
-
-// Is the list non-empty.
-pub fn truthy(items: &[u16]) -> bool
-    ensures { λ r. ⌜ r ≡ truthy (now (items .entry)) ⌝ }
-{
-    0 < items.len()
 }
 
 // Store an entry at place n of two output slices; the next place.

@@ -12,7 +12,7 @@ use Rattle.slices.proofs.Every.{and-both, and-no-left, and-no-right}
 use Rattle.ink_number.specs.Answer.{Answer, gives, ask}
 use Rattle.list_definitions.specs.Defs.{ListDefinitions}
 use Rattle.ink_value.specs.Val.{Val}
-use Rattle.native_function_call.specs.Lists.{definitions}
+use Rattle.list_operators.specs.Lists.{definitions}
 use Rattle.pack.specs.Bodies.{decoded}
 use Rattle.slices.proofs.Filled.{over-front}
 use Rattle.pack.specs.Format.{Narrow, definitionLimit}

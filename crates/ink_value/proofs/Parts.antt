@@ -1,27 +1,50 @@
 -- A value in parts: what the code computes of them is what the definitions read of the value. Assumes nothing.
 use mathlib.Core.Path.{_≡_, refl, sym, ap, _∙_}
-use mathlib.Core.Bool.{true, false}
+use mathlib.Core.Bool.{Bool, true, false, cond}
 use mathlib.Core.List.{List}
 use Prim.Native.Nat.{ℕ, _+_, _-_, _<_, _≤_}
-use native.Mathlib.Omega.{arith}
-use lib.Dec.{ltb}
-use lib.IntN.{ℤ, pos}
+use lib.Dec.{eqb}
+use borrow.Author.Tests.{lt-ltb}
+use lib.IntN.{ℤ}
 use lib.Ieee.{Float}
 use lib.ListN.{length, take, drop}
 use mir.Syntax.{w32}
 use mir.Val.{SFits}
 use Rattle.ink_number.specs.Int.{truthyZ}
-use Rattle.ink_float.specs.Real.{ofInt32, toInt32, truthyF}
 use Rattle.ink_number.proofs.Signed.{back, back32}
-use Rattle.ink_list.specs.Ops.{valueOfList}
-use Rattle.ink_list.specs.Entries.{entries, itemNumbers, Lent}
+use Rattle.ink_list.specs.Entries.{entries, itemNumbers, Lent, Entry}
 use Rattle.slices.proofs.Filled.{cut}
-use Rattle.ink_value.specs.Convert.{asInt, asFloat, truthy, entriesOf}
-use Rattle.ink_value.proofs.Reading.{entries-in, few-in, len-in, int-in, float-in, truth-in}
-use Rattle.slices.specs.Filled.{part}
-use Rattle.ink_value.specs.Value.{codeOfValue, startOf, lenOf, intOf, floatOf, truthOf, wholeIn, realIn, Holds, Parts, valOf, entriesAt, Spans, Formed, Operand, Number}
+use Rattle.ink_value.specs.Convert.{asInt, asFloat, truthy, entriesOf, bitZ}
+use Rattle.ink_value.proofs.Reading.{entries-in, few-in, len-in}
+use Rattle.ink_value.specs.Value.{codeOfValue, startOf, lenOf, wholeIn, realIn, valOf, entriesAt, Spans, Formed, numberOf, ofParts}
+use Rattle.ink_value.specs.Val.{Val, bool, int, list, void}
 use Rattle.ink_value.specs.declared.Value.{Value}
 use Rattle.ink_value.specs.declared.Value.the-variants as Is
+
+-- the number that a value holds is z or x, by its kind
+abbrev pub Holds : Value → ℤ → Float → Type 0
+Holds (Is.Bool b) z x = z ≡ bitZ b
+Holds (Is.Int y) z x = z ≡ y
+Holds (Is.Float y) z x = x ≡ y
+Holds (Is.List o s n) z x = Unit {0}
+Holds Is.Void z x = Unit {0}
+
+-- the parts are this value's: its kind code is k, and its entries are n from s on
+pub record Parts (v : Value) (k : ℕ) (z : ℤ) (x : Float) (s n : ℕ) : Type 0 where
+  pub kind-is : k ≡ codeOfValue v
+  pub holds : Holds v z x
+  pub start-is : s ≡ startOf v
+  pub len-is : n ≡ lenOf v
+
+-- a number's: it has no entries
+pub record Number (v : Value) (k : ℕ) (z : ℤ) (x : Float) : Type 0 where
+  pub parts : Parts v k z x 0 0
+  pub few : k < 3
+
+-- an operand's, formed
+pub record Operand (is : List ℕ) (vs : List ℤ) (v : Value) (k : ℕ) (z : ℤ) (x : Float) (s n : ℕ) : Type 0 where
+  pub parts : Parts v k z x s n
+  pub formed : Formed itemNumbers is vs v
 
 holds-of : (v : Value) (z : ℤ) (x : Float) → z ≡ wholeIn v → x ≡ realIn v → Holds v z x
 holds-of (Is.Bool b) z x e f = e
@@ -29,22 +52,6 @@ holds-of (Is.Int y) z x e f = e
 holds-of (Is.Float y) z x e f = f
 holds-of (Is.List o s n) z x e f = tt
 holds-of Is.Void z x e f = tt
-
--- a kind that is not a List's or Void's is a number's
-pub number-kind : (v : Value) {k : ℕ} {z : ℤ} {x : Float} {s n : ℕ} → Parts v k z x s n → (k ≡ 3 → ⊥) → (k ≡ 4 → ⊥) → k < 3
-number-kind (Is.Bool b) p n3 n4 = let q = p .kind-is in omega arith
-number-kind (Is.Int y) p n3 n4 = let q = p .kind-is in omega arith
-number-kind (Is.Float y) p n3 n4 = let q = p .kind-is in omega arith
-number-kind (Is.List o i m) p n3 n4 = absurd (n3 (p .kind-is))
-number-kind Is.Void p n3 n4 = absurd (n4 (p .kind-is))
-
--- a number has no entries, so that it is formed in any slices
-pub number-formed : (limit : ℕ) (is : List ℕ) (vs : List ℤ) (v : Value) {k : ℕ} {z : ℤ} {x : Float} {s n : ℕ} → Parts v k z x s n → k < 3 → Formed limit is vs v
-number-formed limit is vs (Is.Bool b) p h = record { items-in = omega arith; values-in = omega arith; lent = record { long = refl; rising = tt } }
-number-formed limit is vs (Is.Int y) p h = record { items-in = omega arith; values-in = omega arith; lent = record { long = refl; rising = tt } }
-number-formed limit is vs (Is.Float y) p h = record { items-in = omega arith; values-in = omega arith; lent = record { long = refl; rising = tt } }
-number-formed limit is vs (Is.List o i m) p h = let q = p .kind-is in absurd (omega arith)
-number-formed limit is vs Is.Void p h = let q = p .kind-is in absurd (omega arith)
 
 -- what the code reads of a value are its parts
 pub parts-of : (v : Value) (k : ℕ) (z : ℤ) (x : Float) (s n : ℕ) → k ≡ codeOfValue v → z ≡ wholeIn v → x ≡ realIn v → s ≡ startOf v → n ≡ lenOf v
@@ -62,91 +69,37 @@ holds-back Is.Void z x f h = h
 pub parts-back : {v : Value} {k : ℕ} {z : ℤ} {x : Float} {s n : ℕ} → SFits w32 z → Parts v k z x s n → Parts v k (back w32 z) x s n
 parts-back {v} {k} {z} {x} f p = record { kind-is = p .kind-is; holds = holds-back v z x f (p .holds); start-is = p .start-is; len-is = p .len-is }
 
-module _ (k : ℕ) (z : ℤ) (x : Float) (s n : ℕ) (vs : List ℤ) where
-  pub int-float : (v : Value) → Parts v k z x s n → k ≡ 2 → toInt32 x ≡ intOf vs v
-  int-float (Is.Bool b) p e = let q = p .kind-is in absurd (omega arith)
-  int-float (Is.Int y) p e = let q = p .kind-is in absurd (omega arith)
-  int-float (Is.Float y) p e = ap toInt32 (p .holds)
-  int-float (Is.List o i m) p e = let q = p .kind-is in absurd (omega arith)
-  int-float Is.Void p e = let q = p .kind-is in absurd (omega arith)
+-- a reading that takes a Bool as the Int that it stands for, and looks at no origin set
+module _ {X : Type 0} (f : Val → X) (bools : (b : Bool) → f (int (bitZ b)) ≡ f (bool b)) (sets : (o : ℕ) (es : List Entry) → f (list 0 es) ≡ f (list o es)) where
+  -- reads a value's parts as the value
+  pub of-parts : (is : List ℕ) (vs : List ℤ) (v : Value) {k : ℕ} {z : ℤ} {x : Float} {s n : ℕ} → Parts v k z x s n
+      → f (ofParts is vs k z x s n) ≡ f (valOf is vs v)
+  of-parts is vs (Is.Bool b) p = rw (p .kind-is, p .holds) (bools b)
+  of-parts is vs (Is.Int y) p = rw (p .kind-is, p .holds)
+  of-parts is vs (Is.Float y) p = rw (p .kind-is, p .holds)
+  of-parts is vs (Is.List o s n) p = rw (p .kind-is, p .start-is, p .len-is) (sets o (entriesAt is vs s n))
+  of-parts is vs Is.Void p = rw (p .kind-is)
 
-  pub int-list : (v : Value) → Parts v k z x s n → k ≡ 3 → valueOfList (part s n vs) ≡ intOf vs v
-  int-list (Is.Bool b) p e = let q = p .kind-is in absurd (omega arith)
-  int-list (Is.Int y) p e = let q = p .kind-is in absurd (omega arith)
-  int-list (Is.Float y) p e = let q = p .kind-is in absurd (omega arith)
-  int-list (Is.List o i m) p e = rw (p .start-is, p .len-is)
-  int-list Is.Void p e = let q = p .kind-is in absurd (omega arith)
+  -- and a number's
+  pub of-number : (is : List ℕ) (vs : List ℤ) (v : Value) {k : ℕ} {z : ℤ} {x : Float} → Number v k z x → f (numberOf k z x) ≡ f (valOf is vs v)
+  of-number is vs v {k} {z} {x} n =
+      ap (λ (t : Bool). f (cond t (numberOf k z x) (cond (eqb k 3) (list 0 (entriesAt is vs 0 0)) void))) (sym (lt-ltb k 3 (n .few)))
+      ∙ of-parts is vs v (n .parts)
 
-  pub int-void : (v : Value) → Parts v k z x s n → k ≡ 4 → pos 0 ≡ intOf vs v
-  int-void (Is.Bool b) p e = let q = p .kind-is in absurd (omega arith)
-  int-void (Is.Int y) p e = let q = p .kind-is in absurd (omega arith)
-  int-void (Is.Float y) p e = let q = p .kind-is in absurd (omega arith)
-  int-void (Is.List o i m) p e = let q = p .kind-is in absurd (omega arith)
-  int-void Is.Void p e = refl
+-- a Bool is truthy as the Int that it stands for is
+pub bit-truth : (b : Bool) → truthyZ (bitZ b) ≡ b
+bit-truth true = refl
+bit-truth false = refl
 
-  pub int-whole : (v : Value) → Parts v k z x s n → (k ≡ 2 → ⊥) → (k ≡ 3 → ⊥) → (k ≡ 4 → ⊥) → z ≡ intOf vs v
-  int-whole (Is.Bool b) p n2 n3 n4 = p .holds
-  int-whole (Is.Int y) p n2 n3 n4 = p .holds
-  int-whole (Is.Float y) p n2 n3 n4 = absurd (n2 (p .kind-is))
-  int-whole (Is.List o i m) p n2 n3 n4 = absurd (n3 (p .kind-is))
-  int-whole Is.Void p n2 n3 n4 = absurd (n4 (p .kind-is))
+module _ (is : List ℕ) (vs : List ℤ) (v : Value) {k : ℕ} {z : ℤ} {x : Float} {s n : ℕ} (p : Parts v k z x s n) where
+  pub int-parts : asInt (ofParts is vs k z x s n) ≡ asInt (valOf is vs v)
+  int-parts = of-parts asInt (λ b. refl) (λ o es. refl) is vs v p
 
-  pub float-real : (v : Value) → Parts v k z x s n → k ≡ 2 → x ≡ floatOf vs v
-  float-real (Is.Bool b) p e = let q = p .kind-is in absurd (omega arith)
-  float-real (Is.Int y) p e = let q = p .kind-is in absurd (omega arith)
-  float-real (Is.Float y) p e = p .holds
-  float-real (Is.List o i m) p e = let q = p .kind-is in absurd (omega arith)
-  float-real Is.Void p e = let q = p .kind-is in absurd (omega arith)
+  pub float-parts : asFloat (ofParts is vs k z x s n) ≡ asFloat (valOf is vs v)
+  float-parts = of-parts asFloat (λ b. refl) (λ o es. refl) is vs v p
 
-  pub float-whole : (v : Value) → Parts v k z x s n → (k ≡ 2 → ⊥) → k < 3 → ofInt32 z ≡ floatOf vs v
-  float-whole (Is.Bool b) p n2 h = ap ofInt32 (p .holds)
-  float-whole (Is.Int y) p n2 h = ap ofInt32 (p .holds)
-  float-whole (Is.Float y) p n2 h = absurd (n2 (p .kind-is))
-  float-whole (Is.List o i m) p n2 h = let q = p .kind-is in absurd (omega arith)
-  float-whole Is.Void p n2 h = let q = p .kind-is in absurd (omega arith)
-
-  pub float-list : (v : Value) → Parts v k z x s n → k ≡ 3 → ofInt32 (valueOfList (part s n vs)) ≡ floatOf vs v
-  float-list (Is.Bool b) p e = let q = p .kind-is in absurd (omega arith)
-  float-list (Is.Int y) p e = let q = p .kind-is in absurd (omega arith)
-  float-list (Is.Float y) p e = let q = p .kind-is in absurd (omega arith)
-  float-list (Is.List o i m) p e = rw (p .start-is, p .len-is)
-  float-list Is.Void p e = let q = p .kind-is in absurd (omega arith)
-
-  pub float-void : (v : Value) → Parts v k z x s n → k ≡ 4 → ofInt32 (pos 0) ≡ floatOf vs v
-  float-void (Is.Bool b) p e = let q = p .kind-is in absurd (omega arith)
-  float-void (Is.Int y) p e = let q = p .kind-is in absurd (omega arith)
-  float-void (Is.Float y) p e = let q = p .kind-is in absurd (omega arith)
-  float-void (Is.List o i m) p e = let q = p .kind-is in absurd (omega arith)
-  float-void Is.Void p e = refl
-
-  pub truth-float : (v : Value) → Parts v k z x s n → k ≡ 2 → truthyF x ≡ truthOf v
-  truth-float (Is.Bool b) p e = let q = p .kind-is in absurd (omega arith)
-  truth-float (Is.Int y) p e = let q = p .kind-is in absurd (omega arith)
-  truth-float (Is.Float y) p e = ap truthyF (p .holds)
-  truth-float (Is.List o i m) p e = let q = p .kind-is in absurd (omega arith)
-  truth-float Is.Void p e = let q = p .kind-is in absurd (omega arith)
-
-  pub truth-list : (v : Value) → Parts v k z x s n → k ≡ 3 → ltb 0 n ≡ truthOf v
-  truth-list (Is.Bool b) p e = let q = p .kind-is in absurd (omega arith)
-  truth-list (Is.Int y) p e = let q = p .kind-is in absurd (omega arith)
-  truth-list (Is.Float y) p e = let q = p .kind-is in absurd (omega arith)
-  truth-list (Is.List o i m) p e = ap (ltb 0) (p .len-is)
-  truth-list Is.Void p e = let q = p .kind-is in absurd (omega arith)
-
-  pub truth-void : (v : Value) → Parts v k z x s n → k ≡ 4 → false ≡ truthOf v
-  truth-void (Is.Bool b) p e = let q = p .kind-is in absurd (omega arith)
-  truth-void (Is.Int y) p e = let q = p .kind-is in absurd (omega arith)
-  truth-void (Is.Float y) p e = let q = p .kind-is in absurd (omega arith)
-  truth-void (Is.List o i m) p e = let q = p .kind-is in absurd (omega arith)
-  truth-void Is.Void p e = refl
-
-  pub truth-whole : (v : Value) → Parts v k z x s n → (k ≡ 2 → ⊥) → (k ≡ 3 → ⊥) → (k ≡ 4 → ⊥) → truthyZ z ≡ truthOf v
-  truth-whole (Is.Bool true) p n2 n3 n4 = ap truthyZ (p .holds)
-  truth-whole (Is.Bool false) p n2 n3 n4 = ap truthyZ (p .holds)
-  truth-whole (Is.Int y) p n2 n3 n4 = ap truthyZ (p .holds)
-  truth-whole (Is.Float y) p n2 n3 n4 = absurd (n2 (p .kind-is))
-  truth-whole (Is.List o i m) p n2 n3 n4 = absurd (n3 (p .kind-is))
-  truth-whole Is.Void p n2 n3 n4 = absurd (n4 (p .kind-is))
+  pub truth-parts : truthy (ofParts is vs k z x s n) ≡ truthy (valOf is vs v)
+  truth-parts = of-parts truthy bit-truth (λ o es. refl) is vs v p
 
 -- ---- operands in parts
 
@@ -182,19 +135,3 @@ module _ (is : List ℕ) (vs : List ℤ) (i m : ℕ) where
 
 pub number-back : {v : Value} {k : ℕ} {z : ℤ} {x : Float} → SFits w32 z → Number v k z x → Number v k (back w32 z) x
 number-back f n = record { parts = parts-back f (n .parts); few = n .few }
-
-module _ (is : List ℕ) (vs : List ℤ) (v : Value) {k : ℕ} {z : ℤ} {x : Float} (n : Number v k z x) where
-  formed : Formed itemNumbers is vs v
-  formed = number-formed itemNumbers is vs v (n .parts) (n .few)
-
-  pub number-int-in : intOf vs v ≡ asInt (valOf is vs v)
-  number-int-in = int-in itemNumbers is vs v formed
-
-  pub number-float-in : floatOf vs v ≡ asFloat (valOf is vs v)
-  number-float-in = float-in itemNumbers is vs v formed
-
-  pub number-truth-in : truthOf v ≡ truthy (valOf is vs v)
-  number-truth-in = truth-in itemNumbers is vs v formed
-
-  pub number-no-entries : 0 ≡ length (entriesOf (valOf is vs v))
-  number-no-entries = operand-len is vs v (record { parts = n .parts; formed = formed })

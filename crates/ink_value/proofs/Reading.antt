@@ -1,22 +1,16 @@
 -- What the code reads of a value is what the definitions read of it. Assumes nothing.
 use mathlib.Core.Path.{_≡_, refl, sym, ap, _∙_, subst}
-use mathlib.Core.Bool.{Bool}
-use mathlib.Core.List.{List, [], _∷_}
-use Prim.Native.Nat.{ℕ, zero, suc, _+_, _-_, _≤_}
+use mathlib.Core.List.{List}
+use Prim.Native.Nat.{ℕ, _+_, _-_, _≤_}
 use native.Mathlib.Omega.{arith}
-use borrow.Author.Tests.{lt-ltb}
-use lib.Dec.{ltb}
 use lib.IntN.{ℤ}
 use lib.ListN.{length, take, drop}
-use Rattle.ink_list.specs.Entries.{items, Entry, entries, Rising, Lent, Wrote}
+use Rattle.ink_list.specs.Entries.{Entry, entries, Rising, Lent, Wrote, values}
 use Rattle.ink_value.specs.Val.{list, kindOf, kindAt, codeOf}
-use Rattle.ink_value.specs.Convert.{lowerOf, upperOf, asInt, asFloat, truthy, entriesOf, originsIn}
-use Rattle.ink_value.specs.Value.{valOf, codeOfValue, startOf, lenOf, setIn, intOf, floatOf, truthOf, lowOf, highOf, held, Formed}
+use Rattle.ink_value.specs.Convert.{entriesOf, originsIn}
+use Rattle.ink_value.specs.Value.{valOf, codeOfValue, startOf, lenOf, setIn, held, Formed, entriesAt}
 use Rattle.slices.specs.Filled.{part}
 use Rattle.ink_value.specs.declared.Value.{Value}
-use Rattle.ink_float.specs.Real.{ofInt32}
-use Rattle.ink_list.specs.Ops as Ops
-use Rattle.ink_list.specs.Ops.{lowerBound, upperBound, valueOfList}
 use Rattle.slices.proofs.Filled.{length-part}
 use Rattle.ink_list.proofs.Results.{lent-limit}
 use Rattle.ink_list.proofs.Laws.{rising-length}
@@ -51,52 +45,20 @@ code-in is vs (Is.Float x) = refl
 code-in is vs (Is.List o s n) = refl
 code-in is vs Is.Void = refl
 
-truthy-length : (es : List Entry) (n : ℕ) → length es ≡ n → ltb 0 n ≡ Ops.truthy (items es)
-truthy-length [] zero e = refl
-truthy-length [] (suc n) e = absurd (omega arith)
-truthy-length (x ∷ es) zero e = absurd (omega arith)
-truthy-length (x ∷ es) (suc n) e = lt-ltb 0 (suc n) (omega arith)
+-- n entries that stand whole in two lists: their values, and how many they are
+module _ (is : List ℕ) (vs : List ℤ) (s n : ℕ) (h : s + n ≤ length is) (k : s + n ≤ length vs) where
+  long : length (part s n is) ≡ length (part s n vs)
+  long = length-part s n is h ∙ sym (length-part s n vs k)
+
+  pub values-at : values (entriesAt is vs s n) ≡ part s n vs
+  values-at = values-entries (part s n is) (part s n vs) long
+
+  pub length-at : length (entriesAt is vs s n) ≡ n
+  length-at = length-entries (part s n is) (part s n vs) long ∙ length-part s n is h
 
 module _ (limit : ℕ) (is : List ℕ) (vs : List ℤ) where
   pub len-in : (v : Value) → Formed limit is vs v → length (held is vs v) ≡ lenOf v
-  len-in v f =
-      length-entries (part (startOf v) (lenOf v) is) (part (startOf v) (lenOf v) vs) (f .lent .long)
-      ∙ length-part (startOf v) (lenOf v) is (f .items-in)
-
-  pub int-in : (v : Value) → Formed limit is vs v → intOf vs v ≡ asInt (valOf is vs v)
-  int-in (Is.Bool b) f = refl
-  int-in (Is.Int z) f = refl
-  int-in (Is.Float x) f = refl
-  int-in (Is.List o s n) f = ap valueOfList (sym (values-entries (part s n is) (part s n vs) (f .lent .long)))
-  int-in Is.Void f = refl
-
-  pub float-in : (v : Value) → Formed limit is vs v → floatOf vs v ≡ asFloat (valOf is vs v)
-  float-in (Is.Bool b) f = refl
-  float-in (Is.Int z) f = refl
-  float-in (Is.Float x) f = refl
-  float-in (Is.List o s n) f = ap (λ (l : List ℤ). ofInt32 (valueOfList l)) (sym (values-entries (part s n is) (part s n vs) (f .lent .long)))
-  float-in Is.Void f = refl
-
-  pub low-in : (v : Value) → Formed limit is vs v → lowOf vs v ≡ lowerOf (valOf is vs v)
-  low-in (Is.Bool b) f = refl
-  low-in (Is.Int z) f = refl
-  low-in (Is.Float x) f = refl
-  low-in (Is.List o s n) f = ap lowerBound (sym (values-entries (part s n is) (part s n vs) (f .lent .long)))
-  low-in Is.Void f = refl
-
-  pub high-in : (v : Value) → Formed limit is vs v → highOf vs v ≡ upperOf (valOf is vs v)
-  high-in (Is.Bool b) f = refl
-  high-in (Is.Int z) f = refl
-  high-in (Is.Float x) f = refl
-  high-in (Is.List o s n) f = ap upperBound (sym (values-entries (part s n is) (part s n vs) (f .lent .long)))
-  high-in Is.Void f = refl
-
-  pub truth-in : (v : Value) → Formed limit is vs v → truthOf v ≡ truthy (valOf is vs v)
-  truth-in (Is.Bool b) f = refl
-  truth-in (Is.Int z) f = refl
-  truth-in (Is.Float x) f = refl
-  truth-in (Is.List o s n) f = truthy-length (entries (part s n is) (part s n vs)) n (len-in (Is.List o s n) f)
-  truth-in Is.Void f = refl
+  len-in v f = length-at is vs (startOf v) (lenOf v) (f .items-in) (f .values-in)
 
   -- a value formed under a limit is so under a higher one
   pub formed-limit : (m : ℕ) (v : Value) → limit ≤ m → Formed limit is vs v → Formed m is vs v

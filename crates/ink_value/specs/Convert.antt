@@ -5,17 +5,21 @@ use Prim.Native.Nat.{ℕ}
 use lib.Dec.{eqb, ltb}
 use lib.IntN.{ℤ, pos}
 use lib.Ieee.{Float}
+use lib.ListN.{length}
 use Rattle.ink_number.specs.Answer.{Answer, gives, refuses}
 use Rattle.ink_number.specs.Int.{eqZ, truthyZ}
 use Rattle.ink_float.specs.Real.{ofInt32, toInt32, truthyF}
-use Rattle.ink_list.specs.Entries.{Entry, items, values}
-use Rattle.ink_list.specs.Ops as Ops
+use Rattle.ink_list.specs.Entries.{Entry, values}
 use Rattle.ink_list.specs.Ops.{lowerBound, upperBound, valueOfList}
-use Rattle.ink_value.specs.Val.{Val, bool, int, float, list, void, kindOf, codeOf}
+use Rattle.ink_value.specs.Val.{Val, bool, int, float, list, void, boolK, intK, floatK, listK, voidK, kindOf, codeOf}
+
+-- a Bool as a number, and as an Int
+abbrev pub bitOf : Bool → ℕ
+bitOf true = 1
+bitOf false = 0
 
 abbrev pub bitZ : Bool → ℤ
-bitZ true = pos 1
-bitZ false = pos 0
+bitZ b = pos (bitOf b)
 
 -- "Float to Int truncates, saturates, and gives 0 for NaN"; "List to Int or Float by greatest value or 0"
 abbrev pub asInt : Val → ℤ
@@ -38,7 +42,7 @@ abbrev pub truthy : Val → Bool
 truthy (bool b) = b
 truthy (int z) = truthyZ z
 truthy (float x) = truthyF x
-truthy (list o es) = Ops.truthy (items es)
+truthy (list o es) = ltb 0 (length es)
 truthy void = false
 
 -- a List's entries and its origin set
@@ -76,16 +80,16 @@ upperOf void = pos 2147483647
 -- "`cast` to codes 0 to 3: numbers and Bool freely among themselves, List to Int or Float .., each kind to itself"
 unfoldable pub castable : ℕ → ℕ → Bool
 castable to from =
-    cond (eqb to 0) (ltb from 3)
-    (cond (eqb to 1) (ltb from 4)
-    (cond (eqb to 2) (ltb from 4)
-    (cond (eqb to 3) (eqb from 3) false)))
+    cond (eqb to (codeOf boolK)) (ltb from (codeOf listK))
+    (cond (eqb to (codeOf intK)) (ltb from (codeOf voidK))
+    (cond (eqb to (codeOf floatK)) (ltb from (codeOf voidK))
+    (cond (eqb to (codeOf listK)) (eqb from (codeOf listK)) false)))
 
 unfoldable pub converted : ℕ → Val → Val
 converted to v =
-    cond (eqb to 0) (bool (truthy v))
-    (cond (eqb to 1) (int (asInt v))
-    (cond (eqb to 2) (float (asFloat v)) v))
+    cond (eqb to (codeOf boolK)) (bool (truthy v))
+    (cond (eqb to (codeOf intK)) (int (asInt v))
+    (cond (eqb to (codeOf floatK)) (float (asFloat v)) v))
 
 -- "else 18, as for Void and for codes above 3"
 unfoldable pub cast : ℕ → Val → Answer Val
@@ -93,11 +97,11 @@ cast to v = cond (castable to (codeOf (kindOf v))) (gives (converted to v)) (ref
 
 -- "`coerce_to_bool` takes Bool and Int only, and only Int 1 is true"
 unfoldable pub coerceBool : Val → Answer Val
-coerceBool v = cond (ltb (codeOf (kindOf v)) 2) (gives (bool (eqZ (asInt v) (pos 1)))) (refuses 18)
+coerceBool v = cond (ltb (codeOf (kindOf v)) (codeOf floatK)) (gives (bool (eqZ (asInt v) (pos 1)))) (refuses 18)
 
 -- "`coerce_to_int` and `coerce_to_float` refuse List and Void"
 unfoldable pub coerceInt : Val → Answer Val
-coerceInt v = cond (ltb (codeOf (kindOf v)) 3) (gives (int (asInt v))) (refuses 18)
+coerceInt v = cond (ltb (codeOf (kindOf v)) (codeOf listK)) (gives (int (asInt v))) (refuses 18)
 
 unfoldable pub coerceFloat : Val → Answer Val
-coerceFloat v = cond (ltb (codeOf (kindOf v)) 3) (gives (float (asFloat v))) (refuses 18)
+coerceFloat v = cond (ltb (codeOf (kindOf v)) (codeOf listK)) (gives (float (asFloat v))) (refuses 18)

@@ -1,12 +1,15 @@
 -- The words of the contracts for values whose entries stand in lent slices. Assumes nothing.
+use mathlib.Core.List.{List, [], _∷_}
 use Prim.Native.Nat.{ℕ}
 use denote.Ref.{now}
 use lib.IntN.{ℤ}
 use lib.Ieee.{Float}
+use lib.ListN.{take}
 use Rattle.ink_number.specs.Answer.{Answer}
 use Rattle.slices.specs.Slices.{Slice}
+use Rattle.ink_list.specs.Entries.{Entry}
 use Rattle.ink_value.specs.Val.{Val}
-use Rattle.ink_value.specs.Value.{valOf, Operand, Gave}
+use Rattle.ink_value.specs.Value.{valOf, entriesAt, ofParts, Gave}
 use Rattle.ink_value.specs.declared.Value.{Value}
 use Rattle.ink_value.specs.declared.Outcome.{Outcome}
 
@@ -14,9 +17,21 @@ use Rattle.ink_value.specs.declared.Outcome.{Outcome}
 abbrev pub valIn : Slice ℕ → Slice ℤ → Value → Val
 valIn items values v = valOf (now (items .entry)) (now (values .entry)) v
 
--- an operand in parts, its entries as the slices hold them at entry
-abbrev pub OperandIn : Slice ℕ → Slice ℤ → Value → ℕ → ℤ → Float → ℕ → ℕ → Type 0
-OperandIn items values v k z x s n = Operand (now (items .entry)) (now (values .entry)) v k z x s n
+-- the first n of three values
+abbrev pub firstIn : Slice ℕ → Slice ℤ → ℕ → Value → Value → Value → List Val
+firstIn items values n a b c = take n (valIn items values a ∷ valIn items values b ∷ valIn items values c ∷ [])
+
+-- n entries from s on, as the slices hold them at entry
+abbrev pub entriesIn : Slice ℕ → Slice ℤ → ℕ → ℕ → List Entry
+entriesIn items values s n = entriesAt (now (items .entry)) (now (values .entry)) s n
+
+-- a value in parts, its entries as the slices hold them at entry
+abbrev pub partsIn : Slice ℕ → Slice ℤ → ℕ → ℤ → Float → ℕ → ℕ → Val
+partsIn items values k z x s n = ofParts (now (items .entry)) (now (values .entry)) k z x s n
+
+-- the same with any items beside the values
+abbrev pub partsWith : List ℕ → Slice ℤ → ℕ → ℤ → Float → ℕ → ℕ → Val
+partsWith is values k z x s n = ofParts is (now (values .entry)) k z x s n
 
 -- the answer is returned, and its entries are written from the start of two slices, which are else as they were
 abbrev pub Gives : Answer Val → Outcome → Slice ℕ → Slice ℤ → Type 0

@@ -34,4 +34,8 @@ codeOf listK = 3
 codeOf voidK = 4
 
 abbrev pub kindAt : ℕ → Kind
-kindAt c = cond (eqb c 0) boolK (cond (eqb c 1) intK (cond (eqb c 2) floatK (cond (eqb c 3) listK voidK)))
+kindAt c =
+    cond (eqb c (codeOf boolK)) boolK
+    (cond (eqb c (codeOf intK)) intK
+    (cond (eqb c (codeOf floatK)) floatK
+    (cond (eqb c (codeOf listK)) listK voidK)))

@@ -1,20 +1,18 @@
 -- The code's values read as values of the definitions, and what a call leaves in the slices lent for its result. Assumes nothing.
 use mathlib.Core.Path.{_≡_}
-use mathlib.Core.Bool.{Bool, true, false}
+use mathlib.Core.Bool.{Bool, true, cond}
 use mathlib.Core.List.{List, [], _∷_}
-use Prim.Native.Nat.{ℕ, _+_, _≤_, _<_}
+use Prim.Native.Nat.{ℕ, _+_, _≤_}
 use lib.Dec.{ltb, leb, eqb}
 use lib.IntN.{ℤ, pos}
 use lib.Ieee.{Float}
 use lib.ListN.{length}
 use Rattle.ink_number.specs.Answer.{Answer, gives, refuses}
-use Rattle.ink_number.specs.Int.{truthyZ}
-use Rattle.ink_float.specs.Real.{ofInt32, toInt32, truthyF}
-use Rattle.ink_list.specs.Ops.{lowerBound, upperBound, valueOfList}
+use Rattle.ink_float.specs.Real.{ofInt32}
 use Rattle.slices.specs.Every.{_and_}
 use Rattle.slices.specs.Filled.{part, over}
-use Rattle.ink_list.specs.Entries.{Entry, entries, items, values, itemNumbers, Lent, Rising, formed}
-use Rattle.ink_value.specs.Val.{Val, bool, int, float, list, void}
+use Rattle.ink_list.specs.Entries.{Entry, entries, items, values, Lent, Rising, formed}
+use Rattle.ink_value.specs.Val.{Val, bool, int, float, list, void, boolK, intK, floatK, listK, voidK, codeOf}
 use Rattle.ink_value.specs.Convert.{bitZ, entriesOf}
 use Rattle.ink_value.specs.declared.Value.{Value}
 use Rattle.ink_value.specs.declared.Value.the-variants as Is
@@ -30,11 +28,11 @@ valOf is vs (Is.List o s n) = list o (entries (part s n is) (part s n vs))
 valOf is vs Is.Void = void
 
 abbrev pub codeOfValue : Value → ℕ
-codeOfValue (Is.Bool b) = 0
-codeOfValue (Is.Int z) = 1
-codeOfValue (Is.Float x) = 2
-codeOfValue (Is.List o s n) = 3
-codeOfValue Is.Void = 4
+codeOfValue (Is.Bool b) = codeOf boolK
+codeOfValue (Is.Int z) = codeOf intK
+codeOfValue (Is.Float x) = codeOf floatK
+codeOfValue (Is.List o s n) = codeOf listK
+codeOfValue Is.Void = codeOf voidK
 
 -- where a List's entries start, how many there are, and its origin set
 abbrev pub startOf : Value → ℕ
@@ -57,42 +55,6 @@ setIn (Is.Int z) = 0
 setIn (Is.Float x) = 0
 setIn (Is.List o s n) = o
 setIn Is.Void = 0
-
--- a value as an Int, a Float, a truth and a bound of range, read from the code's value and the slice of values
-abbrev pub intOf : List ℤ → Value → ℤ
-intOf vs (Is.Bool b) = bitZ b
-intOf vs (Is.Int z) = z
-intOf vs (Is.Float x) = toInt32 x
-intOf vs (Is.List o s n) = valueOfList (part s n vs)
-intOf vs Is.Void = pos 0
-
-abbrev pub floatOf : List ℤ → Value → Float
-floatOf vs (Is.Bool b) = ofInt32 (bitZ b)
-floatOf vs (Is.Int z) = ofInt32 z
-floatOf vs (Is.Float x) = x
-floatOf vs (Is.List o s n) = ofInt32 (valueOfList (part s n vs))
-floatOf vs Is.Void = ofInt32 (pos 0)
-
-abbrev pub truthOf : Value → Bool
-truthOf (Is.Bool b) = b
-truthOf (Is.Int z) = truthyZ z
-truthOf (Is.Float x) = truthyF x
-truthOf (Is.List o s n) = ltb 0 n
-truthOf Is.Void = false
-
-abbrev pub lowOf : List ℤ → Value → ℤ
-lowOf vs (Is.Bool b) = pos 0
-lowOf vs (Is.Int z) = z
-lowOf vs (Is.Float x) = pos 0
-lowOf vs (Is.List o s n) = lowerBound (part s n vs)
-lowOf vs Is.Void = pos 0
-
-abbrev pub highOf : List ℤ → Value → ℤ
-highOf vs (Is.Bool b) = pos 2147483647
-highOf vs (Is.Int z) = z
-highOf vs (Is.Float x) = pos 2147483647
-highOf vs (Is.List o s n) = upperBound (part s n vs)
-highOf vs Is.Void = pos 2147483647
 
 -- the n entries that stand from s on in the two slices, and those that a value has there
 abbrev pub entriesAt : List ℕ → List ℤ → ℕ → ℕ → List Entry
@@ -134,30 +96,19 @@ realIn (Is.Float x) = x
 realIn (Is.List o s n) = ofInt32 (pos 0)
 realIn Is.Void = ofInt32 (pos 0)
 
--- the number that a value holds is z or x, by its kind
-abbrev pub Holds : Value → ℤ → Float → Type 0
-Holds (Is.Bool b) z x = z ≡ bitZ b
-Holds (Is.Int y) z x = z ≡ y
-Holds (Is.Float y) z x = x ≡ y
-Holds (Is.List o s n) z x = Unit {0}
-Holds Is.Void z x = Unit {0}
+-- a number in parts: its kind code, the Int that a Bool or an Int holds, and what a Float holds. A Bool reads as that Int does
+abbrev pub numberOf : ℕ → ℤ → Float → Val
+numberOf k z x = cond (eqb k (codeOf floatK)) (float x) (int z)
 
--- its kind code is k, and its entries are n from s on
-pub record Parts (v : Value) (k : ℕ) (z : ℤ) (x : Float) (s n : ℕ) : Type 0 where
-  pub kind-is : k ≡ codeOfValue v
-  pub holds : Holds v z x
-  pub start-is : s ≡ startOf v
-  pub len-is : n ≡ lenOf v
+-- a value in parts: the same, and where its entries start and how many they are. The origin set, which no part tells, is empty
+abbrev pub ofParts : List ℕ → List ℤ → ℕ → ℤ → Float → ℕ → ℕ → Val
+ofParts is vs k z x s n =
+    cond (ltb k (codeOf listK)) (numberOf k z x)
+    (cond (eqb k (codeOf listK)) (list 0 (entriesAt is vs s n)) void)
 
--- a number in parts: it has no entries
-pub record Number (v : Value) (k : ℕ) (z : ℤ) (x : Float) : Type 0 where
-  pub parts : Parts v k z x 0 0
-  pub few : k < 3
-
--- an operand in parts, formed
-pub record Operand (is : List ℕ) (vs : List ℤ) (v : Value) (k : ℕ) (z : ℤ) (x : Float) (s n : ℕ) : Type 0 where
-  pub parts : Parts v k z x s n
-  pub formed : Formed itemNumbers is vs v
+-- n entries from s on stand whole in two lists
+abbrev pub Stand : List ℕ → List ℤ → ℕ → ℕ → Type 0
+Stand is vs s n = (s + n ≤ length is) × (s + n ≤ length vs)
 
 -- 7, of one slot or operand: a List's entries stand whole in the two slices, and are "formed as literals" of a pack of `total` items and d
 -- definitions

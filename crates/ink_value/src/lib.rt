@@ -1,18 +1,25 @@
 // Values, what they read as, and the conversions.
 pub mod kind_code;
 
+use kind_code::BOOL;
+use kind_code::FLOAT;
+use kind_code::INT;
+use kind_code::LIST;
+use kind_code::VOID;
 ghost use mathlib.Core.Path.{_≡_};
-ghost use mathlib.Core.Bool.{true};
+ghost use mathlib.Core.Bool.{true, cond};
 ghost use mathlib.Core.List.{List};
 ghost use Prim.Native.Nat.{ℕ, _<_, _≤_, _+_};
+ghost use lib.Dec.{eqb};
 ghost use lib.IntN.{ℤ};
 ghost use lib.ListN.{length};
 ghost use Rattle.ink_number.specs.Answer.{gives};
 ghost use Rattle.ink_list.specs.Entries.{room};
-ghost use Rattle.ink_value.specs.Slices.{valIn, Gives};
-ghost use Rattle.ink_value.specs.Convert.{bitZ, castable, converted, cast, coerceBool, coerceInt, coerceFloat};
+ghost use Rattle.ink_value.specs.Slices.{valIn, Gives, partsWith};
+ghost use Rattle.ink_value.specs.Convert.{bitZ, castable, converted, cast, coerceBool, coerceInt, coerceFloat, asInt, asFloat, truthy, lowerOf, upperOf};
 ghost use Rattle.slices.specs.Filled.{part};
-ghost use Rattle.ink_value.specs.Value.{valOf, formedIn, codeOfValue, startOf, lenOf, setIn, intOf, floatOf, truthOf, lowOf, highOf, wholeIn, realIn, Parts, Formed, placed};
+ghost use Rattle.ink_value.specs.Value.{valOf, formedIn, codeOfValue, startOf, lenOf, setIn, wholeIn, realIn, Formed, placed, numberOf, ofParts, Stand};
+ghost use Rattle.ink_value.specs.Val.{listK, codeOf};
 ghost use Rattle.ink_value.specs.declared.Value.{Value};
 ghost use Rattle.ink_list.specs.Ops.{lowerBound, upperBound, valueOfList};
 
@@ -34,15 +41,15 @@ pub fn kind(v: Value) -> u8
     ensures { λ r. ⌜ (r ≡ codeOfValue v) × (r < 5) ⌝ }
 {
     match v {
-        Value::Bool(_) => 0,
-        Value::Int(_) => 1,
-        Value::Float(_) => 2,
+        Value::Bool(_) => BOOL,
+        Value::Int(_) => INT,
+        Value::Float(_) => FLOAT,
         Value::List {
             origins: _,
             start: _,
             len: _,
-        } => 3,
-        Value::Void => 4,
+        } => LIST,
+        Value::Void => VOID,
     }
 }
 
@@ -170,72 +177,87 @@ pub fn real_in(v: Value) -> f32
     }
 }
 
-// A number as an Int, as a Float, and as a truth. It has no entries.
+// A number in parts as an Int, as a Float, and as a truth.
 pub fn number_int(kind: u8, whole: i32, real: f32) -> i32
-    ensures { λ r. ⌜ ((v : Value) (vs : List ℤ) (start len : ℕ) → Parts v kind whole real start len → kind < 3 → r ≡ intOf vs v) ⌝ }
+    ensures { λ r. ⌜ r ≡ asInt (numberOf kind whole real) ⌝ }
 {
-    if kind == 2 {
+    if kind == FLOAT {
         return ink_float::convert::float_to_int(real);
     }
     whole
 }
 
 pub fn number_float(kind: u8, whole: i32, real: f32) -> f32
-    ensures { λ r. ⌜ ((v : Value) (vs : List ℤ) (start len : ℕ) → Parts v kind whole real start len → kind < 3 → r ≡ floatOf vs v) ⌝ }
+    ensures { λ r. ⌜ r ≡ asFloat (numberOf kind whole real) ⌝ }
 {
-    if kind == 2 {
+    if kind == FLOAT {
         return real;
     }
     ink_float::convert::int_to_float(whole)
 }
 
 pub fn number_truth(kind: u8, whole: i32, real: f32) -> bool
-    ensures { λ r. ⌜ ((v : Value) (start len : ℕ) → Parts v kind whole real start len → kind < 3 → r ≡ truthOf v) ⌝ }
+    ensures { λ r. ⌜ r ≡ truthy (numberOf kind whole real) ⌝ }
 {
-    if kind == 2 {
+    if kind == FLOAT {
         return ink_float::float::truthy(real);
     }
     ink_number::int::truthy(whole)
 }
 
-// A value as an Int.
+// A value in parts as an Int, whatever items stand beside its entries' values.
 pub fn int_from(kind: u8, whole: i32, real: f32, start: usize, len: usize, values: &[i32]) -> i32
     requires { ⌜ start + len ≤ length (now values) ⌝ }
-    ensures { λ r. ⌜ ((v : Value) → Parts v kind whole real start len → r ≡ intOf (now (values .entry)) v) ⌝ }
+    ensures { λ r. ⌜ ((is : List ℕ) → start + len ≤ length is → r ≡ asInt (partsWith is values kind whole real start len)) ⌝ }
 {
-    match kind {
-        3 => greatest(values, start, len),
-        4 => 0,
-        _ => number_int(kind, whole, real),
+    if kind < LIST {
+        return number_int(kind, whole, real);
     }
+    if kind == LIST {
+        return greatest(values, start, len);
+    }
+    0
 }
 
-// A value as a Float.
+// As a Float.
 pub fn float_from(kind: u8, whole: i32, real: f32, start: usize, len: usize, values: &[i32]) -> f32
     requires { ⌜ start + len ≤ length (now values) ⌝ }
-    ensures { λ r. ⌜ ((v : Value) → Parts v kind whole real start len → r ≡ floatOf (now (values .entry)) v) ⌝ }
+    ensures { λ r. ⌜ ((is : List ℕ) → start + len ≤ length is → r ≡ asFloat (partsWith is values kind whole real start len)) ⌝ }
 {
-    match kind {
-        3 => ink_float::convert::int_to_float(greatest(values, start, len)),
-        4 => ink_float::convert::int_to_float(0),
-        _ => number_float(kind, whole, real),
+    if kind < LIST {
+        return number_float(kind, whole, real);
     }
+    if kind == LIST {
+        return ink_float::convert::int_to_float(greatest(values, start, len));
+    }
+    ink_float::convert::int_to_float(0)
 }
 
-// Is a value truthy.
+// Is a value in parts truthy, wherever its entries stand.
 pub fn truth_from(kind: u8, whole: i32, real: f32, len: usize) -> bool
-    ensures { λ r. ⌜ ((v : Value) (start : ℕ) → Parts v kind whole real start len → r ≡ truthOf v) ⌝ }
+    ensures { λ r. ⌜ ((is : List ℕ) (vs : List ℤ) (start : ℕ) → Stand is vs start len
+        → r ≡ truthy (ofParts is vs kind whole real start len)) ⌝ }
 {
-    match kind {
-        3 => 0 < len,
-        4 => false,
-        _ => number_truth(kind, whole, real),
+    if kind < LIST {
+        return number_truth(kind, whole, real);
     }
+    if kind == LIST {
+        return 0 < len;
+    }
+    false
 }
 
+// How many entries a value in parts has: a List's are counted, other values have none.
+pub fn len_from(kind: u8, len: usize) -> usize
+    ensures { λ r. ⌜ r ≡ cond (eqb kind (codeOf listK)) len 0 ⌝ }
+{
+    if kind == LIST { len } else { 0 }
+}
+
+// A value as an Int, a Float and a truth.
 pub fn to_int(v: Value, values: &[i32]) -> i32
     requires { ⌜ startOf v + lenOf v ≤ length (now values) ⌝ }
-    ensures { λ r. ⌜ r ≡ intOf (now (values .entry)) v ⌝ }
+    ensures { λ r. ⌜ ((is : List ℕ) → startOf v + lenOf v ≤ length is → r ≡ asInt (valOf is (now (values .entry)) v)) ⌝ }
 {
     int_from(
         kind(v),
@@ -249,7 +271,7 @@ pub fn to_int(v: Value, values: &[i32]) -> i32
 
 pub fn to_float(v: Value, values: &[i32]) -> f32
     requires { ⌜ startOf v + lenOf v ≤ length (now values) ⌝ }
-    ensures { λ r. ⌜ r ≡ floatOf (now (values .entry)) v ⌝ }
+    ensures { λ r. ⌜ ((is : List ℕ) → startOf v + lenOf v ≤ length is → r ≡ asFloat (valOf is (now (values .entry)) v)) ⌝ }
 {
     float_from(
         kind(v),
@@ -262,7 +284,7 @@ pub fn to_float(v: Value, values: &[i32]) -> f32
 }
 
 pub fn is_truthy(v: Value) -> bool
-    ensures { λ r. ⌜ r ≡ truthOf v ⌝ }
+    ensures { λ r. ⌜ ((is : List ℕ) (vs : List ℤ) → Stand is vs (startOf v) (lenOf v) → r ≡ truthy (valOf is vs v)) ⌝ }
 {
     truth_from(kind(v), whole_in(v), real_in(v), len_of(v))
 }
@@ -274,7 +296,7 @@ const UPPER_BOUND: i32 = 2147483647;
 
 pub fn lower_bound(v: Value, values: &[i32]) -> i32
     requires { ⌜ startOf v + lenOf v ≤ length (now values) ⌝ }
-    ensures { λ r. ⌜ r ≡ lowOf (now (values .entry)) v ⌝ }
+    ensures { λ r. ⌜ ((is : List ℕ) → startOf v + lenOf v ≤ length is → r ≡ lowerOf (valOf is (now (values .entry)) v)) ⌝ }
 {
     match v {
         Value::Int(z) => z,
@@ -291,7 +313,7 @@ pub fn lower_bound(v: Value, values: &[i32]) -> i32
 
 pub fn upper_bound(v: Value, values: &[i32]) -> i32
     requires { ⌜ startOf v + lenOf v ≤ length (now values) ⌝ }
-    ensures { λ r. ⌜ r ≡ highOf (now (values .entry)) v ⌝ }
+    ensures { λ r. ⌜ ((is : List ℕ) → startOf v + lenOf v ≤ length is → r ≡ upperOf (valOf is (now (values .entry)) v)) ⌝ }
 {
     match v {
         Value::Int(z) => z,
@@ -311,17 +333,17 @@ fn castable(to: u8, from: u8) -> bool
     ensures { λ r. ⌜ r ≡ castable to from ⌝ }
 {
     match to {
-        0 => from < 3,
-        1 => from < 4,
-        2 => from < 4,
-        3 => from == 3,
+        BOOL => from < LIST,
+        INT => from < VOID,
+        FLOAT => from < VOID,
+        LIST => from == LIST,
         _ => false,
     }
 }
 
 // A list, copied to the output.
 fn copied(v: Value, items: &[u16], values: &[i32], oi: &mut [u16], ov: &mut [i32]) -> Outcome
-    requires { ⌜ Formed (room (now oi) (now ov)) (now items) (now values) v × (codeOfValue v ≡ 3) ⌝ }
+    requires { ⌜ Formed (room (now oi) (now ov)) (now items) (now values) v × (codeOfValue v ≡ codeOf listK) ⌝ }
     ensures { λ r. ⌜ Gives (gives (valIn items values v)) r oi ov ⌝ }
 {
     let i = start_of(v);
@@ -349,9 +371,9 @@ fn convert(
     ensures { λ r. ⌜ Gives (gives (converted to (valIn items values v))) r oi ov ⌝ }
 {
     match to {
-        0 => Outcome::Value(Value::Bool(is_truthy(v))),
-        1 => Outcome::Value(Value::Int(to_int(v, values))),
-        2 => Outcome::Value(Value::Float(to_float(v, values))),
+        BOOL => Outcome::Value(Value::Bool(is_truthy(v))),
+        INT => Outcome::Value(Value::Int(to_int(v, values))),
+        FLOAT => Outcome::Value(Value::Float(to_float(v, values))),
         _ => copied(v, items, values, oi, ov),
     }
 }

@@ -1,2 +1,3 @@
 pub mod Every
 pub mod KindTable
+pub mod Counting

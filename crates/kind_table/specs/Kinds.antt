@@ -5,7 +5,7 @@ use mathlib.Core.Path.{_≡_}
 use Prim.Native.Nat.{ℕ, max, _<_, _≤_, _+_, _*_, _/_, _%_, _^_}
 use lib.Dec.{eqb, leb, ltb}
 use lib.ListN.{getD}
-use Rattle.kind_table.specs.Op.{opNegate, opEqual, opNotEquals, opNot, opInt, opFloat, opRange}
+use Rattle.kind_table.specs.Op.{opSubtract, opNegate, opEqual, opNotEquals, opNot, opAnd, opOr, opMin, opMax, opInt, opFloat, opHas, opHasnt, opListMin, opCount, opValueOfList, opInvert, opRange}
 use Rattle.kind_table.specs.declared.KindAnswer.{KindAnswer}
 use Rattle.kind_table.specs.declared.KindAnswer.the-variants as Ans
 use Rattle.ink_value.specs.Val.{Kind, boolK, intK, floatK, listK, voidK, codeOf, kindAt}
@@ -17,11 +17,11 @@ within lo o hi = leb lo o && leb o hi
 
 -- question 8
 unfoldable pub known : ℕ → Bool
-known o = leb o 16 || within 20 o 31
+known o = leb o opMax || within opInt o opRange
 
 -- Negate, Not, Int, Float and ListMin to Invert take one operand, range three, the others two
 unfoldable pub unary : ℕ → Bool
-unary o = eqb o opNegate || eqb o opNot || eqb o opInt || eqb o opFloat || within 25 o 30
+unary o = eqb o opNegate || eqb o opNot || eqb o opInt || eqb o opFloat || within opListMin o opInvert
 
 unfoldable pub arity : ℕ → ℕ
 arity o = cond (unary o) 1 (cond (eqb o opRange) 3 2)
@@ -47,24 +47,24 @@ isVoid floatK = false
 isVoid listK = false
 isVoid voidK = true
 
--- the highest code present, at least 1
+-- the highest code present, at least Int's
 abbrev pub common : Kind → Kind → Kind
-common a b = kindAt (max 1 (max (codeOf a) (codeOf b)))
+common a b = kindAt (max (codeOf intK) (max (codeOf a) (codeOf b)))
 
 -- question 13, for the common kind
 abbrev pub available : ℕ → Kind → Bool
 available o k =
     cond (isList k)
-    (leb o 1 || within 6 o 14 || within 22 o 30)
-    (leb o 16 || within 20 o 21)
+    (leb o opSubtract || within opEqual o opOr || within opHas o opInvert)
+    (leb o opMax || within opInt o opFloat)
 
 -- the kind of the result, from the common kind
 abbrev pub resultKind : ℕ → Kind → Kind
 resultKind o k =
-    cond (leb o 5 || within 15 o 16) k
+    cond (leb o opNegate || within opMin o opMax) k
     (cond (eqb o opNot) (cond (isList k) intK boolK)
-    (cond (leb o 14 || within 22 o 23) boolK
-    (cond (eqb o opInt || within 28 o 29) intK
+    (cond (leb o opOr || within opHas o opHasnt) boolK
+    (cond (eqb o opInt || within opCount o opValueOfList) intK
     (cond (eqb o opFloat) floatK listK))))
 
 -- questions 11, 13 of one operand
@@ -78,7 +78,7 @@ abbrev pub mixed : Kind → Kind → Bool
 mixed a b = not (cond (isList a) (isList b) (not (isList b)))
 
 abbrev pub mixes : ℕ → Kind → Kind → Bool
-mixes o a b = (leb o 1 && isList a && isInt b) || within 13 o 14
+mixes o a b = (leb o opSubtract && isList a && isInt b) || within opAnd o opOr
 
 -- questions 11 to 14 of two operands
 unfoldable pub kindBinary : ℕ → Kind → Kind → Answer Kind
@@ -117,7 +117,7 @@ decoded e = cond (ltb e 5) (gives (kindAt e)) (refuses e)
 
 -- the table has for each operator its 25 answers, by the left kind and then by the right
 pub record Table (table : List ℕ) : Type 0 where
-  pub answers : (o a b : ℕ) → o < 31 → a < 5 → b < 5 → decoded (getD table (o * 25 + a * 5 + b) 0) ≡ kindEntry o (kindAt a) (kindAt b)
+  pub answers : (o a b : ℕ) → o < opRange → a < 5 → b < 5 → decoded (getD table (o * 25 + a * 5 + b) 0) ≡ kindEntry o (kindAt a) (kindAt b)
 
 -- an answer takes four bits of a word, from the lowest on
 abbrev pub answerIn : ℕ → ℕ → ℕ
@@ -149,4 +149,4 @@ Coded (Ans.Refused r) = Unit {0}
 -- it gives a List
 pub record KindsGiven (o n : ℕ) (ks : List Kind) (e : ℕ) : Type 0 where
   pub answered : decoded e ≡ kindCall o n ks
-  pub counted : e < 5 → (1 ≤ n) × (n ≤ 3) × (n ≡ 3 → e ≡ 3)
+  pub counted : e < 5 → (1 ≤ n) × (n ≤ 3) × (n ≡ 3 → e ≡ codeOf listK)

@@ -2,10 +2,14 @@
 // them, and how many operands an operator takes.
 pub mod op;
 
+use ink_value::kind_code;
 ghost use mathlib.Core.Path.{_≡_};
-ghost use Prim.Native.Nat.{_<_};
-ghost use Rattle.ink_value.specs.Val.{kindAt};
-ghost use Rattle.kind_table.specs.Kinds.{kindEntry, decoded, operandCount, kindRange, kindAnswer, Table, answerIn, AnswersFrom, Coded};
+ghost use mathlib.Core.List.{[], _∷_};
+ghost use Prim.Native.Nat.{_<_, _≤_};
+ghost use lib.ListN.{take};
+ghost use Rattle.ink_value.specs.Val.{kindAt, listK, codeOf};
+ghost use Rattle.kind_table.specs.Op.{opRange};
+ghost use Rattle.kind_table.specs.Kinds.{kindEntry, decoded, operandCount, kindRange, kindAnswer, Table, answerIn, AnswersFrom, Coded, KindsGiven};
 
 // What an operator gives on kinds: the kind of its result, or a refusal.
 pub enum KindAnswer {
@@ -13,9 +17,12 @@ pub enum KindAnswer {
     Refused(u8),
 }
 
+// How many answers the table has.
+pub const ANSWERS: usize = 775;
+
 // The table of 775 answers, 31 operators by five left by five right kinds: a kind code, or a refusal's number. A line has an operator's 25, by
 // the left kind and then by the right.
-const KINDS: [u8; 775] =
+const KINDS: [u8; ANSWERS] =
     *b"\x01\x01\x02\x0c\x0b\x01\x01\x02\x0c\x0b\x02\x02\x02\x0c\x0b\x0c\x03\x0c\x03\x0b\x0b\x0b\x0b\x0b\x0b\
     \x01\x01\x02\x0c\x0b\x01\x01\x02\x0c\x0b\x02\x02\x02\x0c\x0b\x0c\x03\x0c\x03\x0b\x0b\x0b\x0b\x0b\x0b\
     \x01\x01\x02\x0c\x0b\x01\x01\x02\x0c\x0b\x02\x02\x02\x0c\x0b\x0c\x0c\x0c\x0d\x0b\x0b\x0b\x0b\x0b\x0b\
@@ -49,7 +56,7 @@ const KINDS: [u8; 775] =
     \x0d\x0d\x0d\x0d\x0d\x0d\x0d\x0d\x0d\x0d\x0d\x0d\x0d\x0d\x0d\x03\x03\x03\x03\x03\x0b\x0b\x0b\x0b\x0b";
 
 // The table, for a caller that looks up often: a constant array is stored anew where it is used.
-pub fn table() -> [u8; 775]
+pub fn table() -> [u8; ANSWERS]
     ensures { λ r. ⌜ Table r ⌝ }
 {
     KINDS
@@ -60,80 +67,80 @@ pub fn table() -> [u8; 775]
 
 // The answers where the left operand is a Bool, an Int or a Float.
 fn number_answers(op: u8) -> u64
-    requires { ⌜ op < 31 ⌝ }
+    requires { ⌜ op < opRange ⌝ }
     ensures { λ r. ⌜ AnswersFrom 0 15 op r ⌝ }
 {
     match op {
-        0 => 0xbc222bc211bc211,
-        1 => 0xbc222bc211bc211,
-        2 => 0xbc222bc211bc211,
-        3 => 0xbc222bc211bc211,
-        4 => 0xbc222bc211bc211,
-        5 => 0x222221111111111,
-        6 => 0xbc000bc000bc000,
-        7 => 0xbc000bc000bc000,
-        8 => 0xbc000bc000bc000,
-        9 => 0xbc000bc000bc000,
-        10 => 0xbc000bc000bc000,
-        11 => 0xbc000bc000bc000,
-        12 => 0x000000000000000,
-        13 => 0xb0000b0000b0000,
-        14 => 0xb0000b0000b0000,
-        15 => 0xbc222bc211bc211,
-        16 => 0xbc222bc211bc211,
-        17 => 0x888888888888888,
-        18 => 0x888888888888888,
-        19 => 0x888888888888888,
-        20 => 0x111111111111111,
-        21 => 0x222222222222222,
-        22 => 0xbcdddbcdddbcddd,
-        23 => 0xbcdddbcdddbcddd,
-        24 => 0xbcdddbcdddbcddd,
-        25 => 0xddddddddddddddd,
-        26 => 0xddddddddddddddd,
-        27 => 0xddddddddddddddd,
-        28 => 0xddddddddddddddd,
-        29 => 0xddddddddddddddd,
+        op::ADD => 0xbc222bc211bc211,
+        op::SUBTRACT => 0xbc222bc211bc211,
+        op::DIVIDE => 0xbc222bc211bc211,
+        op::MULTIPLY => 0xbc222bc211bc211,
+        op::MOD => 0xbc222bc211bc211,
+        op::NEGATE => 0x222221111111111,
+        op::EQUAL => 0xbc000bc000bc000,
+        op::GREATER => 0xbc000bc000bc000,
+        op::LESS => 0xbc000bc000bc000,
+        op::GREATER_THAN_OR_EQUALS => 0xbc000bc000bc000,
+        op::LESS_THAN_OR_EQUALS => 0xbc000bc000bc000,
+        op::NOT_EQUALS => 0xbc000bc000bc000,
+        op::NOT => 0x000000000000000,
+        op::AND => 0xb0000b0000b0000,
+        op::OR => 0xb0000b0000b0000,
+        op::MIN => 0xbc222bc211bc211,
+        op::MAX => 0xbc222bc211bc211,
+        op::POW => 0x888888888888888,
+        op::FLOOR => 0x888888888888888,
+        op::CEILING => 0x888888888888888,
+        op::INT => 0x111111111111111,
+        op::FLOAT => 0x222222222222222,
+        op::HAS => 0xbcdddbcdddbcddd,
+        op::HASNT => 0xbcdddbcdddbcddd,
+        op::INTERSECT => 0xbcdddbcdddbcddd,
+        op::LIST_MIN => 0xddddddddddddddd,
+        op::LIST_MAX => 0xddddddddddddddd,
+        op::ALL => 0xddddddddddddddd,
+        op::COUNT => 0xddddddddddddddd,
+        op::VALUE_OF_LIST => 0xddddddddddddddd,
         _ => 0xddddddddddddddd,
     }
 }
 
 // The answers where the left operand is a List or Void.
 fn other_answers(op: u8) -> u64
-    requires { ⌜ op < 31 ⌝ }
+    requires { ⌜ op < opRange ⌝ }
     ensures { λ r. ⌜ AnswersFrom 15 10 op r ⌝ }
 {
     match op {
-        0 => 0xbbbbbb3c3c,
-        1 => 0xbbbbbb3c3c,
-        2 => 0xbbbbbbdccc,
-        3 => 0xbbbbbbdccc,
-        4 => 0xbbbbbbdccc,
-        5 => 0xbbbbbddddd,
-        6 => 0xbbbbbbeccc,
-        7 => 0xbbbbbb0ccc,
-        8 => 0xbbbbbb0ccc,
-        9 => 0xbbbbbb0ccc,
-        10 => 0xbbbbbb0ccc,
-        11 => 0xbbbbbbeccc,
-        12 => 0xbbbbb11111,
-        13 => 0xbbbbbb0000,
-        14 => 0xbbbbbb0000,
-        15 => 0xbbbbbbdccc,
-        16 => 0xbbbbbbdccc,
-        17 => 0x8888888888,
-        18 => 0x8888888888,
-        19 => 0x8888888888,
-        20 => 0xbbbbbddddd,
-        21 => 0xbbbbbddddd,
-        22 => 0xbbbbbb0ccc,
-        23 => 0xbbbbbb0ccc,
-        24 => 0xbbbbbb3ccc,
-        25 => 0xbbbbb33333,
-        26 => 0xbbbbb33333,
-        27 => 0xbbbbb33333,
-        28 => 0xbbbbb11111,
-        29 => 0xbbbbb11111,
+        op::ADD => 0xbbbbbb3c3c,
+        op::SUBTRACT => 0xbbbbbb3c3c,
+        op::DIVIDE => 0xbbbbbbdccc,
+        op::MULTIPLY => 0xbbbbbbdccc,
+        op::MOD => 0xbbbbbbdccc,
+        op::NEGATE => 0xbbbbbddddd,
+        op::EQUAL => 0xbbbbbbeccc,
+        op::GREATER => 0xbbbbbb0ccc,
+        op::LESS => 0xbbbbbb0ccc,
+        op::GREATER_THAN_OR_EQUALS => 0xbbbbbb0ccc,
+        op::LESS_THAN_OR_EQUALS => 0xbbbbbb0ccc,
+        op::NOT_EQUALS => 0xbbbbbbeccc,
+        op::NOT => 0xbbbbb11111,
+        op::AND => 0xbbbbbb0000,
+        op::OR => 0xbbbbbb0000,
+        op::MIN => 0xbbbbbbdccc,
+        op::MAX => 0xbbbbbbdccc,
+        op::POW => 0x8888888888,
+        op::FLOOR => 0x8888888888,
+        op::CEILING => 0x8888888888,
+        op::INT => 0xbbbbbddddd,
+        op::FLOAT => 0xbbbbbddddd,
+        op::HAS => 0xbbbbbb0ccc,
+        op::HASNT => 0xbbbbbb0ccc,
+        op::INTERSECT => 0xbbbbbb3ccc,
+        op::LIST_MIN => 0xbbbbb33333,
+        op::LIST_MAX => 0xbbbbb33333,
+        op::ALL => 0xbbbbb33333,
+        op::COUNT => 0xbbbbb11111,
+        op::VALUE_OF_LIST => 0xbbbbb11111,
         _ => 0xbbbbb33333,
     }
 }
@@ -148,7 +155,7 @@ fn answer_in(word: u64, place: u8) -> u8
 
 // The answer for an operator below range, with a Bool, an Int or a Float on the left.
 pub fn number_entry(op: u8, left: u8, right: u8) -> u8
-    requires { ⌜ (op < 31) × (left < 3) × (right < 5) ⌝ }
+    requires { ⌜ (op < opRange) × (left < codeOf listK) × (right < 5) ⌝ }
     ensures { λ r. ⌜ decoded r ≡ kindEntry op (kindAt left) (kindAt right) ⌝ }
 {
     answer_in(number_answers(op), left * 5 + right)
@@ -156,10 +163,10 @@ pub fn number_entry(op: u8, left: u8, right: u8) -> u8
 
 // The answer for an operator below range and two kind codes.
 pub fn entry(op: u8, left: u8, right: u8) -> u8
-    requires { ⌜ (op < 31) × (left < 5) × (right < 5) ⌝ }
+    requires { ⌜ (op < opRange) × (left < 5) × (right < 5) ⌝ }
     ensures { λ r. ⌜ decoded r ≡ kindEntry op (kindAt left) (kindAt right) ⌝ }
 {
-    if left < 3 {
+    if left < kind_code::LIST {
         return number_entry(op, left, right);
     }
     answer_in(other_answers(op), left * 5 + right - 15)
@@ -170,16 +177,20 @@ pub fn range(list: u8, lower: u8, upper: u8) -> u8
     requires { ⌜ (list < 5) × (lower < 5) × (upper < 5) ⌝ }
     ensures { λ r. ⌜ decoded r ≡ kindRange (kindAt list) (kindAt lower) (kindAt upper) ⌝ }
 {
-    if list == 4 {
+    if list == kind_code::VOID {
         return 11;
     }
-    if lower == 4 {
+    if lower == kind_code::VOID {
         return 11;
     }
-    if upper == 4 {
+    if upper == kind_code::VOID {
         return 11;
     }
-    if list == 3 { 3 } else { 13 }
+    if list == kind_code::LIST {
+        kind_code::LIST
+    } else {
+        13
+    }
 }
 
 // What an answer of the table, or of range, says.
@@ -194,8 +205,8 @@ fn decoded(e: u8) -> KindAnswer
 }
 
 // The table's answer for an operator below range and two kind codes.
-pub fn kind_entry(table: &[u8; 775], op: u8, left: u8, right: u8) -> KindAnswer
-    requires { ⌜ Table (now table) × (op < 31) × (left < 5) × (right < 5) ⌝ }
+pub fn kind_entry(table: &[u8; ANSWERS], op: u8, left: u8, right: u8) -> KindAnswer
+    requires { ⌜ Table (now table) × (op < opRange) × (left < 5) × (right < 5) ⌝ }
     ensures { λ r. ⌜ (kindAnswer r ≡ kindEntry op (kindAt left) (kindAt right)) × Coded r ⌝ }
 {
     let at = (op as usize) * 25 + (left as usize) * 5 + right as usize;
@@ -216,37 +227,66 @@ pub fn operands(op: u8) -> usize
     ensures { λ r. ⌜ r ≡ operandCount op ⌝ }
 {
     match op {
-        0 => 2,
-        1 => 2,
-        2 => 2,
-        3 => 2,
-        4 => 2,
-        5 => 1,
-        6 => 2,
-        7 => 2,
-        8 => 2,
-        9 => 2,
-        10 => 2,
-        11 => 2,
-        12 => 1,
-        13 => 2,
-        14 => 2,
-        15 => 2,
-        16 => 2,
-        17 => 0,
-        18 => 0,
-        19 => 0,
-        20 => 1,
-        21 => 1,
-        22 => 2,
-        23 => 2,
-        24 => 2,
-        25 => 1,
-        26 => 1,
-        27 => 1,
-        28 => 1,
-        29 => 1,
-        30 => 1,
+        op::ADD => 2,
+        op::SUBTRACT => 2,
+        op::DIVIDE => 2,
+        op::MULTIPLY => 2,
+        op::MOD => 2,
+        op::NEGATE => 1,
+        op::EQUAL => 2,
+        op::GREATER => 2,
+        op::LESS => 2,
+        op::GREATER_THAN_OR_EQUALS => 2,
+        op::LESS_THAN_OR_EQUALS => 2,
+        op::NOT_EQUALS => 2,
+        op::NOT => 1,
+        op::AND => 2,
+        op::OR => 2,
+        op::MIN => 2,
+        op::MAX => 2,
+        op::POW => 0,
+        op::FLOOR => 0,
+        op::CEILING => 0,
+        op::INT => 1,
+        op::FLOAT => 1,
+        op::HAS => 2,
+        op::HASNT => 2,
+        op::INTERSECT => 2,
+        op::LIST_MIN => 1,
+        op::LIST_MAX => 1,
+        op::ALL => 1,
+        op::COUNT => 1,
+        op::VALUE_OF_LIST => 1,
+        op::INVERT => 1,
         _ => 3,
     }
+}
+
+// Questions 11 to 14 of an operator and as many kind codes as it takes, of three: the code of the answer.
+pub fn answer(op: u8, count: usize, left: u8, middle: u8, right: u8) -> u8
+    requires { ⌜ (op < 32) × (count ≡ operandCount op) × (1 ≤ count) × (left < 5) × (middle < 5) × (right < 5) ⌝ }
+    ensures { λ r. ⌜ KindsGiven op count (take count (kindAt left ∷ kindAt middle ∷ kindAt right ∷ [])) r ⌝ }
+{
+    if count == 3 {
+        return range(left, middle, right);
+    }
+    entry(op, left, middle)
+}
+
+// The same of any operator and count, after questions 8 and 10.
+pub fn kinds(op: u8, count: usize, left: u8, middle: u8, right: u8) -> u8
+    requires { ⌜ (left < 5) × (middle < 5) × (right < 5) ⌝ }
+    ensures { λ r. ⌜ KindsGiven op count (take count (kindAt left ∷ kindAt middle ∷ kindAt right ∷ [])) r ⌝ }
+{
+    if op::RANGE < op {
+        return 8;
+    }
+    let n = operands(op);
+    if n == 0 {
+        return 8;
+    }
+    if n != count {
+        return 10;
+    }
+    answer(op, count, left, middle, right)
 }

@@ -3,9 +3,7 @@
 
 ghost use Rattle.ink_list.specs.Entries.{Lent};
 use ink_list::entries::copy;
-use ink_list::entries::count;
 use ink_list::entries::is_formed;
-use ink_list::entries::truthy;
 use list_cases::ITEM_LIMIT;
 use list_cases::UNWRITTEN_ITEM;
 use list_cases::UNWRITTEN_VALUE;
@@ -123,8 +121,6 @@ fn single(ai: &[u16], av: &[i32]) {
     show_list_max(ai, av);
     show_copy(ai, av);
     number(b"value of list", value_of_list(av));
-    number(b"count", count(ai));
-    test(b"truthy", truthy(ai));
     number(b"as lower bound", lower_bound(av));
     number(b"as upper bound", upper_bound(av));
 }

@@ -15,7 +15,7 @@ use Rattle.ink_value.specs.Value.{written, Wf, AllWf}
 use Rattle.kind_table.specs.Kinds.{known, arity}
 use Rattle.list_definitions.specs.Defs.{ListDefinitions}
 use Rattle.native_function_call.specs.Apply.{applyOp}
-use Rattle.native_function_call.proofs.Listing.{Fine}
+use Rattle.list_operators.proofs.Listing.{Fine}
 use Rattle.native_function_call.proofs.Results.{apply-fine}
 use Rattle.pack.specs.Bodies.{Literal}
 use Rattle.pack.specs.Instruction.{Push, pushBool, pushInt, pushFloat, pushList, pushSlot, pushVoid, Instr, op, push}

@@ -12,11 +12,12 @@ use Rattle.ink_list.specs.Entries.{Entry}
 use Rattle.ink_number.specs.Answer.{Answer, gives, refuses}
 use Rattle.kind_table.specs.Kinds.{kindApply}
 use Rattle.ink_value.specs.Convert.{asInt}
-use Rattle.native_function_call.specs.Numbers.{arithZ}
+use Rattle.number_operators.specs.Numbers.{arithZ}
 use Rattle.ink_number.specs.Int.{canDivide, quotient, remainder}
-use Rattle.kind_table.specs.Op.{opAdd, opSubtract, opDivide, opMultiply, opMod, opMin}
+use Rattle.kind_table.specs.Op.{opAdd, opSubtract, opDivide, opMultiply, opMod, opMin, opMax}
 use Rattle.list_definitions.specs.Defs.{ListDefinitions}
-use Rattle.native_function_call.specs.Apply.{ofInt, whole, entriesFor, listed, compute, guarded, applyOp, Agree}
+use Rattle.native_function_call.specs.Apply.{ofInt, whole, compute, guarded, applyOp, Agree}
+use Rattle.list_operators.specs.Lists.{entriesFor, listed}
 
 either : (k : Kind) (t : Bool) (a b : Answer Val) → Agree (gives k) a → Agree (gives k) b → Agree (gives k) (cond t a b)
 either k true a b p q = p
@@ -38,7 +39,7 @@ arith-fifteen o x y =
     (both-ways (eqb o opSubtract) _ _ tt
     (both-ways (eqb o opDivide) _ _ (both-ways (canDivide x y) _ _ tt refl)
     (both-ways (eqb o opMultiply) _ _ tt
-    (both-ways (eqb o opMod) _ _ (both-ways (canDivide x y) _ _ tt refl) (both-ways (eqb o opMin) _ _ tt tt)))))
+    (both-ways (eqb o opMod) _ _ (both-ways (canDivide x y) _ _ tt refl) (both-ways (eqb o opMin) _ _ tt (both-ways (eqb o opMax) _ _ tt tt))))))
 
 int-agrees : (a : Answer ℤ) → Fifteen a → Agree (gives intK) (ofInt a)
 int-agrees (gives z) h = refl
@@ -50,16 +51,16 @@ whole-agrees o (a ∷ []) = refl
 whole-agrees o (a ∷ b ∷ []) = int-agrees (arithZ o (asInt a) (asInt b)) (arith-fifteen o (asInt a) (asInt b))
 whole-agrees o (a ∷ b ∷ c ∷ vs) = refl
 
-listed-agrees : (u : ListDefinitions) (o : ℕ) (vs : List Val) (es : List Entry) → Agree (gives listK) (listed u o vs es)
+listed-agrees : (u : ListDefinitions) (es : List Entry) → Agree (gives listK) (listed u es)
 unfolding listed
-listed-agrees u o vs es = either listK (leb (length es) (u .limit)) _ _ refl (inr refl)
+listed-agrees u es = either listK (leb (length es) (u .limit)) _ _ refl (inr refl)
 
 compute-agrees : (u : ListDefinitions) (o : ℕ) (vs : List Val) (k : Kind) → Agree (gives k) (compute u o vs k)
 unfolding compute
 compute-agrees u o vs boolK = refl
 compute-agrees u o vs intK = whole-agrees o vs
 compute-agrees u o vs floatK = refl
-compute-agrees u o vs listK = listed-agrees u o vs (entriesFor u o vs)
+compute-agrees u o vs listK = listed-agrees u (entriesFor u o vs)
 compute-agrees u o vs voidK = refl
 
 guarded-agrees : (u : ListDefinitions) (o : ℕ) (vs : List Val) (q : Answer Kind) → Agree q (guarded q (compute u o vs))

@@ -3,16 +3,12 @@ use mathlib.Core.Path.{_≡_, refl}
 use mathlib.Core.Bool.{true}
 use lib.Ieee.{ofInt, toBits}
 use Rattle.ink_number.specs.Int.{quotient, remainder, residue, signed, wrap}
-use Rattle.ink_number.specs.Known.{allHold}
-use Rattle.ink_float.specs.Known.{floatPoints}
-use Rattle.ink_list.specs.Known as Below
-use Rattle.ink_list.specs.Known.{listPoints}
-use Rattle.ink_number.specs.Known as Numbers
 use Rattle.kind_table.specs.Kinds.{unary, arity, kindUnary, kindBinary, kindApply}
-use Rattle.native_function_call.specs.Numbers.{arithZ}
-use Rattle.native_function_call.specs.Apply.{wholeUnary, compute, applyOp}
-use Rattle.native_function_call.specs.Known.{points}
+use Rattle.number_operators.specs.Numbers.{arithZ, wholeUnary, realUnary}
+use Rattle.list_operators.specs.Lists.{testL}
+use Rattle.native_function_call.specs.Apply.{testLists, compute, applyOp}
+use Rattle.native_function_call.specs.Known.{points, allHold}
 
 pub points-hold : allHold points ≡ true
-unfolding points Below.points listPoints floatPoints Numbers.points quotient remainder residue signed wrap ofInt toBits unary arity kindUnary kindBinary kindApply arithZ wholeUnary compute applyOp
+unfolding points quotient remainder residue signed wrap ofInt toBits unary arity kindUnary kindBinary kindApply arithZ testL testLists wholeUnary realUnary compute applyOp
 points-hold = refl

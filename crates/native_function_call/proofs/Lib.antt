@@ -1,7 +1,5 @@
 pub mod Agree
 pub mod Reading
-pub mod Listing
-pub mod Applying
 pub mod Results
 pub mod Known
 pub mod Calling

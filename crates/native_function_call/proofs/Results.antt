@@ -3,7 +3,6 @@ use mathlib.Core.Path.{_≡_, sym, subst}
 use mathlib.Core.Bool.{Bool, true, false, cond}
 use mathlib.Core.List.{List, [], _∷_, map}
 use Prim.Native.Nat.{ℕ, _≤_}
-use native.Mathlib.Omega.{arith}
 use borrow.Author.Tests.{le-leb}
 use lib.Dec.{leb}
 use lib.ListN.{length}
@@ -13,19 +12,14 @@ use Rattle.ink_number.specs.Answer.{Answer, gives, refuses}
 use Rattle.kind_table.specs.Kinds.{kindApply, isList}
 use Rattle.ink_value.specs.Convert.{asInt, entriesOf, originsIn, lowerOf, upperOf}
 use Rattle.list_definitions.specs.Defs.{ListDefinitions}
-use Rattle.native_function_call.specs.Lists.{mergeL, shiftL}
-use Rattle.native_function_call.specs.Apply.{listBinary, entriesFor, originsAfter, listed, compute, guarded, applyOp}
+use Rattle.list_operators.specs.Lists.{mergeL, shiftL, listBinary, entriesFor, originsAfter, listed, listAnswer}
+use Rattle.native_function_call.specs.Apply.{compute, guarded, applyOp}
 use Rattle.ink_value.specs.Value.{written, AllWf}
-use Rattle.native_function_call.proofs.Listing.{Fine, merge-fine, shift-fine, range-fine, unary-fine}
+use Rattle.list_operators.proofs.Listing.{Fine, none-fine, merge-fine, shift-fine, range-fine, unary-fine}
 use Rattle.ink_value.proofs.Results.{entries-wf}
 use Rattle.native_function_call.proofs.Calling.{whole-none}
 
--- ---- read back
-
 -- ---- well formed
-
-none-fine : (limit : ℕ) → Fine limit []
-none-fine limit = record { few = omega arith; rising = tt }
 
 module _ (u : ListDefinitions) (some : 1 ≤ u .limit) (within : length (u .defined) ≤ u .limit) where
   binary-fine : (o : ℕ) (a b : Val) → Fine (u .limit) (listBinary u o a b)
@@ -43,11 +37,11 @@ module _ (u : ListDefinitions) (some : 1 ≤ u .limit) (within : length (u .defi
   entries-fine o (a ∷ b ∷ c ∷ []) h = range-fine (u .limit) (lowerOf b) (upperOf c) (entriesOf a)
   entries-fine o (a ∷ b ∷ c ∷ d ∷ vs) h = none-fine (u .limit)
 
-  listed-fine : (o : ℕ) (vs : List Val) (es : List Entry) → Fine (u .limit) es → Fine (u .limit) (written (listed u o vs es))
+  listed-fine : (es : List Entry) → Fine (u .limit) es → Fine (u .limit) (written (listed u es))
   unfolding listed
-  listed-fine o vs es f = go (leb (length es) (u .limit))
+  listed-fine es f = go (leb (length es) (u .limit))
     where
-      go : (t : Bool) → Fine (u .limit) (written (cond t (gives (list (originsAfter u o vs es) es)) (refuses 16)))
+      go : (t : Bool) → Fine (u .limit) (written (cond t (gives (list (originsAfter u es) es)) (refuses 16)))
       go true = f
       go false = none-fine (u .limit)
 
@@ -56,7 +50,7 @@ module _ (u : ListDefinitions) (some : 1 ≤ u .limit) (within : length (u .defi
   compute-fine o vs boolK h = none-fine (u .limit)
   compute-fine o vs intK h = subst (Fine (u .limit)) (sym (whole-none o vs)) (none-fine (u .limit))
   compute-fine o vs floatK h = none-fine (u .limit)
-  compute-fine o vs listK h = listed-fine o vs (entriesFor u o vs) (entries-fine o vs h)
+  compute-fine o vs listK h = listed-fine (entriesFor u o vs) (entries-fine o vs h)
   compute-fine o vs voidK h = none-fine (u .limit)
 
   guarded-fine : (o : ℕ) (vs : List Val) (q : Answer Kind) → AllWf (u .limit) vs → Fine (u .limit) (written (guarded q (compute u o vs)))
@@ -71,6 +65,6 @@ module _ (u : ListDefinitions) (some : 1 ≤ u .limit) (within : length (u .defi
 -- question 16 always says yes of well-formed operands (change request 9)
 module _ (u : ListDefinitions) (some : 1 ≤ u .limit) (within : length (u .defined) ≤ u .limit) where
   pub listed-gives : (o : ℕ) (vs : List Val) → AllWf (u .limit) vs
-      → listed u o vs (entriesFor u o vs) ≡ gives (list (originsAfter u o vs (entriesFor u o vs)) (entriesFor u o vs))
+      → listAnswer u o vs ≡ gives (list (originsAfter u (entriesFor u o vs)) (entriesFor u o vs))
   unfolding listed
   listed-gives o vs h = rw (le-leb (length (entriesFor u o vs)) (u .limit) (entries-fine u some within o vs h .few))

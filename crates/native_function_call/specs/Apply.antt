@@ -4,21 +4,18 @@ use mathlib.Core.Logic.{_⊎_}
 use mathlib.Core.Bool.{Bool, false, cond, not, _&&_, _||_}
 use mathlib.Core.List.{List, [], _∷_, map}
 use Prim.Native.Nat.{ℕ}
-use lib.IntN.{ℤ, pos, negℤ}
+use lib.IntN.{ℤ, pos}
 use lib.Ieee.{Float}
-use lib.Dec.{eqb, leb}
-use lib.ListN.{length}
-use Rattle.kind_table.specs.Op.{opNegate, opNot, opAnd, opOr, opCount}
-use Rattle.ink_list.specs.Entries.{items, Entry}
-use Rattle.ink_value.specs.Val.{Val, bool, int, float, list, void, Kind, boolK, intK, floatK, listK, voidK, kindOf}
-use Rattle.ink_number.specs.Answer.{Answer, gives, refuses, ask}
+use lib.Dec.{eqb}
+use Rattle.kind_table.specs.Op.{opAnd, opOr}
 use Rattle.kind_table.specs.Kinds.{known, arity, kindApply, common, isList}
-use Rattle.ink_value.specs.Convert.{bitZ, asInt, asFloat, truthy, entriesOf, originsIn}
-use Rattle.native_function_call.specs.Numbers.{arithZ, arithF, testZ, testF}
-use Rattle.list_definitions.specs.Defs.{ListDefinitions, originsOf}
-use Rattle.native_function_call.specs.Lists.{testL, mergeL, shiftL, unaryL, rangeL}
-use Rattle.ink_number.specs.Int.{wrap}
-use Rattle.ink_float.specs.Real.{negF, ofInt32}
+use Rattle.ink_number.specs.Answer.{Answer, gives, refuses, ask}
+use Rattle.ink_float.specs.Real.{ofInt32}
+use Rattle.ink_value.specs.Val.{Val, bool, int, float, void, Kind, boolK, intK, floatK, listK, voidK, kindOf}
+use Rattle.ink_value.specs.Convert.{asInt, asFloat, truthy, entriesOf}
+use Rattle.list_definitions.specs.Defs.{ListDefinitions}
+use Rattle.number_operators.specs.Numbers.{arithZ, arithF, testNumbers, wholeUnary, realUnary}
+use Rattle.list_operators.specs.Lists.{testL, listAnswer}
 
 -- ---- results that are Bools
 
@@ -31,11 +28,7 @@ testLists o a b =
 
 -- two operands, coerced to their common kind
 abbrev pub testAs : Kind → ℕ → Val → Val → Bool
-testAs boolK o a b = false
-testAs intK o a b = testZ o (asInt a) (asInt b)
-testAs floatK o a b = testF o (asFloat a) (asFloat b)
-testAs listK o a b = testLists o a b
-testAs voidK o a b = false
+testAs k o a b = cond (isList k) (testLists o a b) (testNumbers k o a b)
 
 -- of one operand: Not
 abbrev pub test : ℕ → List Val → Bool
@@ -45,14 +38,6 @@ test o (a ∷ b ∷ []) = testAs (common (kindOf a) (kindOf b)) o a b
 test o (a ∷ b ∷ c ∷ vs) = false
 
 -- ---- results that are Ints
-
--- Negate; Not of a List; Count; Int and ValueOfList
-unfoldable pub wholeUnary : ℕ → Val → ℤ
-wholeUnary o a =
-    cond (eqb o opNegate) (wrap (negℤ (asInt a)))
-    (cond (eqb o opNot) (bitZ (not (truthy a)))
-    (cond (eqb o opCount) (pos (length (entriesOf a)))
-    (asInt a)))
 
 -- an Int as a value, or the refusal (question 15)
 abbrev pub ofInt : Answer ℤ → Answer Val
@@ -67,39 +52,11 @@ whole o (a ∷ b ∷ c ∷ vs) = gives (int (pos 0))
 
 -- ---- results that are Floats
 
--- Negate; Float
-unfoldable pub realUnary : ℕ → Val → Float
-realUnary o a = cond (eqb o opNegate) (negF (asFloat a)) (asFloat a)
-
 abbrev pub real : ℕ → List Val → Float
 real o [] = ofInt32 (pos 0)
 real o (a ∷ []) = realUnary o a
 real o (a ∷ b ∷ []) = arithF o (asFloat a) (asFloat b)
 real o (a ∷ b ∷ c ∷ vs) = ofInt32 (pos 0)
-
--- ---- results that are Lists
-
--- two Lists; or a List and an Int
-unfoldable pub listBinary : ListDefinitions → ℕ → Val → Val → List Entry
-listBinary u o a b =
-    cond (isList (kindOf b)) (mergeL (u .limit) o (entriesOf a) (entriesOf b))
-    (shiftL (u .ends) (u .defined) o (originsIn a) (asInt b) (entriesOf a))
-
--- three operands: range
-abbrev pub entriesFor : ListDefinitions → ℕ → List Val → List Entry
-entriesFor u o [] = []
-entriesFor u o (a ∷ []) = unaryL (u .ends) (u .defined) o (originsIn a) (entriesOf a)
-entriesFor u o (a ∷ b ∷ []) = listBinary u o a b
-entriesFor u o (a ∷ b ∷ c ∷ []) = rangeL u b c (entriesOf a)
-entriesFor u o (a ∷ b ∷ c ∷ d ∷ vs) = []
-
--- the origin set of a result: the origins of its items
-unfoldable pub originsAfter : ListDefinitions → ℕ → List Val → List Entry → ℕ
-originsAfter u o vs es = originsOf (u .ends) (items es)
-
--- question 16
-unfoldable pub listed : ListDefinitions → ℕ → List Val → List Entry → Answer Val
-listed u o vs es = cond (leb (length es) (u .limit)) (gives (list (originsAfter u o vs es) es)) (refuses 16)
 
 -- ---- an operator
 
@@ -108,7 +65,7 @@ unfoldable pub compute : ListDefinitions → ℕ → List Val → Kind → Answe
 compute u o vs boolK = gives (bool (test o vs))
 compute u o vs intK = whole o vs
 compute u o vs floatK = gives (float (real o vs))
-compute u o vs listK = listed u o vs (entriesFor u o vs)
+compute u o vs listK = listAnswer u o vs
 compute u o vs voidK = gives void
 
 abbrev pub guarded : Answer Kind → (Kind → Answer Val) → Answer Val

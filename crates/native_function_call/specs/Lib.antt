@@ -1,5 +1,3 @@
 -- What the operators answer on values.
-pub mod Numbers
-pub mod Lists
 pub mod Apply
 pub mod Known

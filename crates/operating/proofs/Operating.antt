@@ -12,7 +12,7 @@ use lib.ListN.{length, take}
 use Rattle.ink_number.specs.Answer.{Answer, refuses, ask}
 use Rattle.ink_list.specs.Entries.{itemNumbers, Rising}
 use Rattle.ink_value.specs.Val.{Val, Kind, kindAt, kindOf}
-use Rattle.ink_value.specs.Value.{valOf, codeOfValue, startOf, lenOf, wholeIn, realIn, written, Spans, Formed, FirstFormed, Operand, Wf, AllWf}
+use Rattle.ink_value.specs.Value.{valOf, codeOfValue, startOf, lenOf, wholeIn, realIn, written, Spans, Formed, FirstFormed, Wf, AllWf}
 use Rattle.ink_value.specs.declared.Value.{Value}
 use Rattle.ink_value.specs.declared.Value.the-variants as Is
 use Rattle.ink_value.proofs.Reading.{rising-in}
@@ -20,8 +20,7 @@ use Rattle.ink_value.proofs.Parts.{parts-of, spans-of}
 use Rattle.kind_table.specs.Kinds.{known, arity, operandCount, kindCall, decoded, KindsGiven}
 use Rattle.list_definitions.specs.Defs.{ListDefinitions}
 use Rattle.native_function_call.specs.Apply.{compute, applyOp, call}
-use Rattle.native_function_call.proofs.Applying.{takes}
-use Rattle.native_function_call.proofs.Calling.{codes-are, call-gives, call-refuses, decoded-kind, decoded-no, two-of}
+use Rattle.native_function_call.proofs.Calling.{codes-are, call-gives, call-refuses, two-of}
 use Rattle.native_function_call.proofs.Results.{apply-fine}
 use Rattle.pack.specs.declared.format.Format.{Format}
 use Rattle.operating.specs.Stacked.{Answered, taken}

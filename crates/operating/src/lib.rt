@@ -4,22 +4,22 @@
 use ink_number::int::Divided;
 use ink_value::Outcome;
 use ink_value::Value;
+use ink_value::kind_code;
 use native_function_call::real;
 use native_function_call::test;
 use native_function_call::whole;
 use pack::format::Format;
 ghost use mathlib.Core.Path.{_≡_};
-ghost use mathlib.Core.List.{[], _∷_};
 ghost use Prim.Native.Nat.{_<_, _≤_, _+_};
-ghost use lib.ListN.{length, take};
+ghost use lib.ListN.{length};
 ghost use Rattle.ink_number.specs.Int.{divided};
 ghost use Rattle.ink_list.specs.Entries.{Rising, itemNumbers};
 ghost use Rattle.ink_value.specs.Val.{kindAt};
 ghost use Rattle.ink_value.specs.Value.{lenOf, written, Formed, FirstFormed};
-ghost use Rattle.kind_table.specs.Kinds.{operandCount, KindsGiven};
+ghost use Rattle.kind_table.specs.Kinds.{operandCount};
 ghost use Rattle.native_function_call.specs.Apply.{ofInt, call, compute};
 ghost use Rattle.list_definitions.specs.Defs.{ListDefinitions};
-ghost use Rattle.native_function_call.specs.Lists.{definitions, definitionsIn};
+ghost use Rattle.list_operators.specs.Lists.{definitions, definitionsIn};
 ghost use Rattle.machine.specs.Machine.{stackLimit};
 ghost use Rattle.operating.specs.Stacked.{Bare, taken, listGiven, Roomy};
 ghost use Rattle.pack.specs.Read.{PackLists};
@@ -49,7 +49,7 @@ pub fn store(
     requires { ⌜ (to + lenOf v ≤ length (now oi)) × (to + lenOf v ≤ length (now ov)) ⌝ }
     ensures { λ r. ⌜ StoredIn items values v to r oi ov ⌝ }
 {
-    if ink_value::kind(v) != 3 {
+    if ink_value::kind(v) != kind_code::LIST {
         return v;
     }
     let start = ink_value::start_of(v);
@@ -104,18 +104,18 @@ fn scalar_result(
     let sb = ink_value::start_of(b);
     let nb = ink_value::len_of(b);
     match kind {
-        0 => {
+        kind_code::BOOL => {
             let t = test(op, n, ka, za, xa, sa, na, kb, zb, xb, sb, nb, items, values);
             Step::Put {
                 place,
                 value: Value::Bool(t),
             }
         }
-        1 => whole_result(
+        kind_code::INT => whole_result(
             whole(op, n, ka, za, xa, sa, na, kb, zb, xb, sb, nb, values),
             place,
         ),
-        2 => {
+        kind_code::FLOAT => {
             let x = real(op, n, ka, za, xa, sa, na, kb, zb, xb, sb, nb, values);
             Step::Put {
                 place,
@@ -154,7 +154,7 @@ fn list_through(
     ensures { λ r. ⌜ AnsweredIn format (listGiven (definitionsIn ends defined (format .limit)) op
         (takenIn «work_items» «work_values» a b c count)) place r «work_items» «work_values» ⌝ }
 {
-    let outcome = native_function_call::list(
+    let outcome = list_operators::list(
         op,
         count,
         a,
@@ -238,17 +238,6 @@ fn list_result(
     )
 }
 
-// Questions 11 to 14 of an operator and as many kind codes as it takes: the code of the answer.
-fn kinds(op: u8, count: usize, left: u8, middle: u8, right: u8) -> u8
-    requires { ⌜ (op < 32) × (count ≡ operandCount op) × (1 ≤ count) × (left < 5) × (middle < 5) × (right < 5) ⌝ }
-    ensures { λ r. ⌜ KindsGiven op count (take count (kindAt left ∷ kindAt middle ∷ kindAt right ∷ [])) r ⌝ }
-{
-    if count == 3 {
-        return kind_table::range(left, middle, right);
-    }
-    kind_table::entry(op, left, middle)
-}
-
 // An operator on as many of three operands as it takes: questions 11 to 16, and its result at a place of the stack.
 pub fn operate(
     op: u8,
@@ -269,17 +258,17 @@ pub fn operate(
     ensures { λ r. ⌜ AnsweredIn format (call (definitionsIn ends defined (format .limit)) op count
         (takenIn «work_items» «work_values» a b c count)) place r «work_items» «work_values» ⌝ }
 {
-    let kind = kinds(
+    let kind = kind_table::answer(
         op,
         count,
         ink_value::kind(a),
         ink_value::kind(b),
         ink_value::kind(c),
     );
-    if 4 < kind {
+    if kind_code::VOID < kind {
         return Step::No(kind);
     }
-    if kind == 3 {
+    if kind == kind_code::LIST {
         return list_result(
             op,
             count,

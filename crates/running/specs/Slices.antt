@@ -11,7 +11,6 @@ use Rattle.slices.specs.Slices.{Slice}
 use Rattle.ink_value.specs.Slices.{valIn}
 use Rattle.ink_value.specs.Val.{Val}
 use Rattle.ink_value.specs.declared.Value.{Value}
-use Rattle.native_function_call.specs.Lists.{definitionsIn}
 use Rattle.pack.specs.Bodies.{Pack, decoded}
 use Rattle.pack.specs.Read.{literalOf, program}
 use Rattle.pack.specs.declared.format.Format.{Format}

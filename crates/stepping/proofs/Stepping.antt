@@ -16,7 +16,7 @@ use Rattle.slices.proofs.Lists.{ap3}
 use Rattle.kind_table.specs.Kinds.{operandCount}
 use Rattle.list_definitions.specs.Defs.{ListDefinitions}
 use Rattle.native_function_call.specs.Apply.{applyOp, call}
-use Rattle.native_function_call.proofs.Applying.{count-three}
+use Rattle.kind_table.proofs.Counting.{count-three}
 use Rattle.pack.specs.Format.{Narrow}
 use Rattle.pack.specs.declared.format.Format.{Format}
 use Rattle.pack.specs.Instruction.{Push, Instr, op, push}

@@ -9,7 +9,6 @@ use Rattle.slices.specs.Slices.{Slice}
 use Rattle.ink_value.specs.Val.{Val, list}
 use Rattle.ink_value.specs.declared.Value.{Value}
 use Rattle.native_function_call.specs.Apply.{applyOp}
-use Rattle.native_function_call.specs.Lists.{definitionsIn}
 use Rattle.pack.specs.Bodies.{decoded}
 use Rattle.pack.specs.Instruction.{Instr}
 use Rattle.pack.specs.Read.{literalOf}

@@ -16,7 +16,7 @@ ghost use Rattle.ink_value.specs.Slices.{valIn};
 ghost use Rattle.ink_value.specs.Value.{valOf, codeOfValue, Formed};
 ghost use Rattle.kind_table.specs.Kinds.{operandCount};
 ghost use Rattle.native_function_call.specs.Apply.{applyOp};
-ghost use Rattle.native_function_call.specs.Lists.{definitionsIn};
+ghost use Rattle.list_operators.specs.Lists.{definitionsIn};
 ghost use Rattle.pack.specs.Contents.{literalCount};
 ghost use Rattle.pack.specs.Instruction.{instrOf, Allowed};
 ghost use Rattle.pack.specs.Judge.{Sound};

@@ -1,5 +1,5 @@
 -- A value as three words: the code of its kind, what it holds, and where a List's entries stand. Assumes nothing.
-use mathlib.Core.Bool.{Bool, true, false, cond}
+use mathlib.Core.Bool.{Bool, cond}
 use mathlib.Core.List.{List, [], _∷_}
 use Prim.Native.Nat.{ℕ, _+_, _*_, _-_, _/_, _%_, _^_, _<_}
 use lib.Dec.{eqb, ltb}
@@ -7,6 +7,8 @@ use lib.ListN.{getD}
 use Rattle.ink_number.specs.Int.{signed, residue}
 use Rattle.ink_float.specs.Real.{ofBits32, toBits32}
 use Rattle.slices.specs.Every.{table}
+use Rattle.ink_value.specs.Convert.{bitOf}
+use Rattle.ink_value.specs.Val.{boolK, intK, floatK, listK, voidK, codeOf}
 use Rattle.ink_value.specs.declared.Value.{Value}
 use Rattle.ink_value.specs.declared.Value.the-variants as Is
 
@@ -35,15 +37,15 @@ voidAt w = cond (eqb w 0) Is.Void unheld
 -- a value that is no List, by the code of its kind
 unfoldable pub plainAt : ℕ → ℕ → Value
 plainAt kind w =
-    cond (eqb kind 0) (boolAt w)
-    (cond (eqb kind 1) (intAt w)
-    (cond (eqb kind 2) (floatAt w)
-    (cond (eqb kind 4) (voidAt w) unheld)))
+    cond (eqb kind (codeOf boolK)) (boolAt w)
+    (cond (eqb kind (codeOf intK)) (intAt w)
+    (cond (eqb kind (codeOf floatK)) (floatAt w)
+    (cond (eqb kind (codeOf voidK)) (voidAt w) unheld)))
 
 -- three words: a List has its origin set, and where its entries start + 2^32 * how many there are; of the others the third word is 0
 unfoldable pub valueOf : ℕ → ℕ → ℕ → Value
 valueOf kind w place =
-    cond (eqb kind 3) (Is.List w (place % 2 ^ 32) (place / 2 ^ 32))
+    cond (eqb kind (codeOf listK)) (Is.List w (place % 2 ^ 32) (place / 2 ^ 32))
     (cond (eqb place 0) (plainAt kind w) unheld)
 
 -- the value whose words are the three from 3 * k on
@@ -52,7 +54,7 @@ valueAt ws k = valueOf (getD ws (3 * k) 0) (getD ws (3 * k + 1) 0) (getD ws (3 *
 
 -- the kind code in the first word of value k; 4 where there is none
 abbrev pub codeAt : List ℕ → ℕ → ℕ
-codeAt ws k = cond (ltb (getD ws (3 * k) 0) 5) (getD ws (3 * k) 0) 4
+codeAt ws k = cond (ltb (getD ws (3 * k) 0) 5) (getD ws (3 * k) 0) (codeOf voidK)
 
 -- "A run gets 16 slot values"
 abbrev pub slotsIn : List ℕ → List Value
@@ -60,16 +62,12 @@ slotsIn ws = table 16 (valueAt ws)
 
 -- ---- a value written as words
 
-abbrev pub bitOf : Bool → ℕ
-bitOf true = 1
-bitOf false = 0
-
 abbrev pub wordsOf : Value → List ℕ
-wordsOf (Is.Bool b) = 0 ∷ bitOf b ∷ 0 ∷ []
-wordsOf (Is.Int z) = 1 ∷ residue z ∷ 0 ∷ []
-wordsOf (Is.Float x) = 2 ∷ toBits32 x ∷ 0 ∷ []
-wordsOf (Is.List o s n) = 3 ∷ o ∷ (s + 2 ^ 32 * n) ∷ []
-wordsOf Is.Void = 4 ∷ 0 ∷ 0 ∷ []
+wordsOf (Is.Bool b) = codeOf boolK ∷ bitOf b ∷ 0 ∷ []
+wordsOf (Is.Int z) = codeOf intK ∷ residue z ∷ 0 ∷ []
+wordsOf (Is.Float x) = codeOf floatK ∷ toBits32 x ∷ 0 ∷ []
+wordsOf (Is.List o s n) = codeOf listK ∷ o ∷ (s + 2 ^ 32 * n) ∷ []
+wordsOf Is.Void = codeOf voidK ∷ 0 ∷ 0 ∷ []
 
 -- a List's start and length have room in one word
 abbrev pub Small : Value → Type 0

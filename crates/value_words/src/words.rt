@@ -4,7 +4,8 @@ use pack_sheets::SLOT_LIMIT;
 ghost use mathlib.Core.Path.{_≡_};
 ghost use mathlib.Core.List.{[], _∷_};
 ghost use Prim.Native.Nat.{_<_, _+_, _*_, _/_, _%_, _^_};
-ghost use Rattle.value_words.specs.Words.{unheld, boolAt, intAt, floatAt, voidAt, plainAt, valueOf, valueAt, slotsIn, bitOf, wordsOf, Small};
+ghost use Rattle.value_words.specs.Words.{unheld, boolAt, intAt, floatAt, voidAt, plainAt, valueOf, valueAt, slotsIn, wordsOf, Small};
+ghost use Rattle.ink_value.specs.Convert.{bitOf};
 
 // A start and a length stand in one word, the start in the lower half.
 const HALF: u64 = 0x1_0000_0000;

@@ -18,7 +18,7 @@ use Rattle.ink_value.specs.Value.{valOf}
 use Rattle.ink_value.specs.declared.Value.the-variants as Is
 use Rattle.kind_table.specs.Kinds.{known, unary, arity, kindUnary, kindBinary, kindApply}
 use Rattle.native_function_call.specs.Apply.{applyOp, compute}
-use Rattle.native_function_call.specs.Numbers.{arithZ}
+use Rattle.number_operators.specs.Numbers.{arithZ}
 use Rattle.pack.specs.Bodies.{Literal, Pack, itemsBelow, definitionOk, literalOk}
 use Rattle.pack.specs.Bytes.{number}
 use Rattle.pack.specs.Contents.{place}

@@ -13,8 +13,8 @@ use Rattle.pack.specs.Instruction.{Instr, push, pushVoid}
 use Rattle.machine.specs.Machine.{Run, stopped, finish, onward, step, runFrom, kindPushed, vet}
 use Rattle.machine.specs.Stack.{stackOf}
 use Rattle.machine.specs.Foretold.{passed, turned, verdict, forecast, Begins}
-use Rattle.native_function_call.proofs.Calling.{code-at}
 use Rattle.machine.proofs.Stack.{stack-length, stack-put, run-more, run-stop, run-done}
+use Rattle.kind_table.proofs.Counting.{code-at}
 use Rattle.pack.specs.Format.{instructionLimit}
 use Rattle.vetting.specs.Vet.{Codes, kindOn}
 

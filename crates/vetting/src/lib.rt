@@ -1,4 +1,6 @@
 // Vetting: a sheet's instructions worked on kinds alone.
+use ink_value::kind_code;
+use kind_table::ANSWERS;
 use kind_table::KindAnswer;
 use machine::STACK_LIMIT;
 use pack::Checked;
@@ -37,7 +39,7 @@ enum KindStep {
 const FORECAST_LIMIT: usize = 2048;
 
 // The answer of an operator that takes `count` operands, on the top of a stack of n.
-fn answer(op: u8, count: usize, table: &[u8; 775], stack: &[u8; 64], n: usize) -> KindAnswer
+fn answer(op: u8, count: usize, table: &[u8; ANSWERS], stack: &[u8; 64], n: usize) -> KindAnswer
     requires { ⌜ (op < 32) × (count ≡ operandCount op) × (1 ≤ count) × (count ≤ n) × (n ≤ 64) × Codes (now stack) × Table (now table) ⌝ }
     ensures { λ r. ⌜ (topped (kindsIn stack (n - count)) (kindAnswer r) ≡ stepOp kindApply op (kindsIn stack n)) × Coded r ⌝ }
 {
@@ -52,7 +54,7 @@ fn answer(op: u8, count: usize, table: &[u8; 775], stack: &[u8; 64], n: usize) -
 }
 
 // An operator on a stack of n.
-fn vet_op(op: u8, table: &[u8; 775], stack: &[u8; 64], n: usize) -> KindStep
+fn vet_op(op: u8, table: &[u8; ANSWERS], stack: &[u8; 64], n: usize) -> KindStep
     requires { ⌜ (op < 32) × (n ≤ 64) × Codes (now stack) × Table (now table) ⌝ }
     ensures { λ r. ⌜ (steppedIn r stack ≡ stepOp kindApply op (kindsIn stack n)) × Within r n ⌝ }
 {
@@ -89,7 +91,7 @@ fn vet_push(kind: u8, n: usize) -> KindStep
 fn vet_step(
     i: Instruction,
     kinds: [u8; 16],
-    table: &[u8; 775],
+    table: &[u8; ANSWERS],
     stack: &[u8; 64],
     n: usize,
 ) -> KindStep
@@ -99,12 +101,12 @@ fn vet_step(
 {
     match i {
         Instruction::Op(op) => vet_op(op, table, stack, n),
-        Instruction::Bool(_) => vet_push(0, n),
-        Instruction::Int(_) => vet_push(1, n),
-        Instruction::Float(_) => vet_push(2, n),
-        Instruction::List(_) => vet_push(3, n),
+        Instruction::Bool(_) => vet_push(kind_code::BOOL, n),
+        Instruction::Int(_) => vet_push(kind_code::INT, n),
+        Instruction::Float(_) => vet_push(kind_code::FLOAT, n),
+        Instruction::List(_) => vet_push(kind_code::LIST, n),
         Instruction::Slot(s) => vet_push(kinds[s as usize], n),
-        Instruction::Void => vet_push(4, n),
+        Instruction::Void => vet_push(kind_code::VOID, n),
     }
 }
 
@@ -113,7 +115,7 @@ fn vet_into(
     pack: &[u8],
     sheet: usize,
     kinds: [u8; 16],
-    table: &[u8; 775],
+    table: &[u8; ANSWERS],
     out: &mut [u8; 2048],
 ) -> Vetted
     requires { ⌜ (Placed (now pack) × (question5 (now pack) ≡ true)) × (sheet < sheetCount (now pack)) ⌝ }

@@ -8,24 +8,23 @@ use lib.Dec.{eqb, ltb}
 use lib.IntN.{ℤ}
 use lib.Ieee.{Float}
 use lib.ListN.{getD, take}
-use borrow.Author.Tests.{lt-ltb, eqb-true, ltb-true, ltb-false}
+use borrow.Author.Tests.{lt-ltb, eqb-true, ltb-true, ltb-false, le-ltb, eq-eqb, ne-eqb}
 use Rattle.ink_number.specs.Int.{signed}
 use Rattle.ink_float.specs.Real.{ofBits32}
-use Rattle.ink_number.specs.Answer.{gives}
+use Rattle.ink_number.specs.Answer.{gives, refuses}
 use Rattle.ink_value.specs.Convert.{bitZ}
 use Rattle.ink_value.specs.Val.{Kind, kindOf, kindAt, codeOf}
-use Rattle.ink_value.specs.Value.{valOf, codeOfValue, Parts, Number, Operand, Spans, Formed}
+use Rattle.ink_value.specs.Value.{valOf, codeOfValue, Formed}
+use Rattle.ink_value.proofs.Parts.{Parts, Number, Operand}
 use Rattle.ink_value.specs.declared.Value.{Value}
 use Rattle.ink_value.specs.declared.Value.the-variants as Is
 use Rattle.ink_list.specs.Entries.{itemNumbers}
 use Rattle.slices.proofs.Lists.{ap2, ap3, map-take}
 use Rattle.ink_value.proofs.Reading.{code-in}
-use Rattle.ink_value.proofs.Parts.{spans-of}
 use Rattle.value_words.specs.Words.{unheld, boolAt, intAt, floatAt, voidAt, plainAt, valueOf, valueAt, codeAt}
 use Rattle.kind_table.specs.Kinds.{kindCall, kindEntry, operandCount, decoded, KindsGiven}
-use Rattle.native_function_call.proofs.Calling.{decoded-kind, decoded-no, code-at, above-all, none-taken, miscounted, entry-count, entry-given}
-use Rattle.native_function_call.proofs.Applying.{range-three}
-use Rattle.word_operators.specs.Operands.{Held, OfNumbers, FirstIn, valsAt}
+use Rattle.kind_table.proofs.Counting.{decoded-kind, decoded-no, code-at, above-all, none-taken, miscounted, entry-count, entry-given, range-three}
+use Rattle.word_operators.specs.Operands.{codeOfAnswer, numberKind, Held, OfNumbers, FirstIn, valsAt}
 
 pub number-is : {v : Value} {k k′ : ℕ} {z z′ : ℤ} {x x′ : Float} → Number v k z x → k′ ≡ k → z′ ≡ z → x′ ≡ x → Number v k′ z′ x′
 number-is o ek ez ex = rw (ek, ez, ex) o
@@ -170,9 +169,6 @@ module _ (is : List ℕ) (vs : List ℤ) (ws : List ℕ) (n : ℕ) (h : Held ws 
       → s ≡ getD ws 5 0 % 2 ^ 32 → m ≡ getD ws 5 0 / 2 ^ 32 → n ≡ 2 → Operand is vs (valueAt ws 1) c z x s m
   second-at ec ez ex es em t = operand-at is vs ws 1 (h .two (omega arith)) (f .two (omega arith)) ec ez ex es em
 
-pub operand-spans : {is : List ℕ} {vs : List ℤ} {v : Value} {c : ℕ} {z : ℤ} {x : Float} {s n : ℕ} → Operand is vs v c z x s n → Spans itemNumbers is vs s n
-operand-spans {is} {vs} {v} o = spans-of itemNumbers is vs v _ _ (o .parts .start-is) (o .parts .len-is) (o .formed)
-
 -- an operator's answer on the codes of one number or two is its answer on the numbers
 pub of-numbers : (ws : List ℕ) (o n r : ℕ) → Held ws n → operandCount o ≡ n → o < 31
     → true ≡ cond (ltb (codeAt ws 0) 3) (cond (ltb n 2) true (ltb (codeAt ws 1) 3)) false
@@ -251,3 +247,31 @@ no-number-kind ws o n r h e q l kind m =
         let b = sym (decoded-no r (ltb-false r 5 f)) ∙ a in
         let z : _≡_ {A = ℕ} 0 1 = cc in
         omega arith
+
+-- ---- the code that is answered
+
+code-decoded : (r : ℕ) → codeOfAnswer (decoded r) ≡ r
+code-decoded r = go (ltb r 5) refl
+  where
+    go : (t : Bool) → ltb r 5 ≡ t → codeOfAnswer (cond t (gives (kindAt r)) (refuses r)) ≡ r
+    go true e = code-at r (ltb-true r 5 e)
+    go false e = refl
+
+module _ (ws : List ℕ) (o n : ℕ) where
+  pub kind-beyond : 30 < o → 3 ≡ numberKind ws o n
+  kind-beyond h = rw (lt-ltb 30 o h)
+
+  pub kind-uncounted : o ≤ 30 → (operandCount o ≡ n → ⊥) → 3 ≡ numberKind ws o n
+  kind-uncounted h ne = rw (le-ltb 30 o h, ne-eqb (operandCount o) n ne)
+
+  counted : o ≤ 30 → operandCount o ≡ n → (r : ℕ) (t : Bool) → t ≡ cond (ltb (codeAt ws 0) 3) (cond (ltb n 2) true (ltb (codeAt ws 1) 3)) false
+      → r ≡ cond t (codeOfAnswer (kindEntry o (kindAt (codeAt ws 0)) (kindAt (codeAt ws 1)))) 3 → r ≡ numberKind ws o n
+  counted h e r t w q =
+      q ∙ ap (λ (b : Bool). cond b (codeOfAnswer (kindEntry o (kindAt (codeAt ws 0)) (kindAt (codeAt ws 1)))) 3) w ∙ rw (le-ltb 30 o h, eq-eqb (operandCount o) n e)
+
+  pub kind-counted : o ≤ 30 → operandCount o ≡ n → (r : ℕ) → true ≡ cond (ltb (codeAt ws 0) 3) (cond (ltb n 2) true (ltb (codeAt ws 1) 3)) false
+      → decoded r ≡ kindEntry o (kindAt (codeAt ws 0)) (kindAt (codeAt ws 1)) → r ≡ numberKind ws o n
+  kind-counted h e r w q = counted h e r true w (sym (code-decoded r) ∙ ap codeOfAnswer q)
+
+  pub kind-no-numbers : o ≤ 30 → operandCount o ≡ n → false ≡ cond (ltb (codeAt ws 0) 3) (cond (ltb n 2) true (ltb (codeAt ws 1) 3)) false → 3 ≡ numberKind ws o n
+  kind-no-numbers h e w = counted h e 3 false w refl

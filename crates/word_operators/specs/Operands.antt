@@ -1,19 +1,20 @@
 -- What is known of operands in words. Assumes nothing.
 use mathlib.Core.Path.{_≡_}
-use mathlib.Core.Bool.{true}
+use mathlib.Core.Bool.{true, false, cond}
 use mathlib.Core.List.{List, [], _∷_, map}
 use Prim.Native.Nat.{ℕ, _<_, _≤_}
+use lib.Dec.{eqb, ltb}
 use lib.IntN.{ℤ}
 use lib.ListN.{length, take}
-use Rattle.ink_number.specs.Answer.{gives}
+use Rattle.ink_number.specs.Answer.{gives, Answer, refuses}
 use Rattle.ink_list.specs.Entries.{itemNumbers}
-use Rattle.ink_value.specs.Val.{Val, kindOf, kindAt}
+use Rattle.ink_value.specs.Val.{Val, kindOf, kindAt, Kind, listK, codeOf}
 use Rattle.ink_value.specs.Value.{valOf, codeOfValue, FirstFormed}
-use Rattle.kind_table.specs.Kinds.{kindCall}
-use Rattle.native_function_call.specs.Lists.{definitions}
+use Rattle.kind_table.specs.Kinds.{kindCall, operandCount, kindEntry}
 use Rattle.calls.specs.Call.{operandsOk}
-use Rattle.value_words.specs.Words.{unheld, valueAt}
+use Rattle.value_words.specs.Words.{unheld, valueAt, codeAt}
 use Rattle.value_words.specs.Calls.{operandsIn}
+use Rattle.kind_table.specs.Op.{opInvert}
 
 -- the words of the first n operands are a value's
 pub record Held (ws : List ℕ) (n : ℕ) : Type 0 where
@@ -50,7 +51,23 @@ pub record OfNumbers (ws : List ℕ) (o n kind : ℕ) : Type 0 where
   pub small : kind < 3
   pub answered : (is : List ℕ) (vs : List ℤ) → kindCall o n (map kindOf (take n (valsAt is vs ws))) ≡ gives (kindAt kind)
 
--- r is the kind of such a result, or 3 or more just where there is none
+-- the code of an answer on kinds
+abbrev pub codeOfAnswer : Answer Kind → ℕ
+codeOfAnswer (gives k) = codeOf k
+codeOfAnswer (refuses r) = r
+
+-- the code of an operator's answer on n numbers, where it takes n operands and they are numbers; else a List's
+abbrev pub numberKind : List ℕ → ℕ → ℕ → ℕ
+numberKind ws o n =
+    cond (ltb opInvert o) (codeOf listK)
+    (cond (eqb (operandCount o) n)
+    (cond (cond (ltb (codeAt ws 0) (codeOf listK)) (cond (ltb n 2) true (ltb (codeAt ws 1) (codeOf listK))) false)
+    (codeOfAnswer (kindEntry o (kindAt (codeAt ws 0)) (kindAt (codeAt ws 1))))
+    (codeOf listK))
+    (codeOf listK))
+
+-- r is that code: the kind of such a result where it is below 3, and else there is none
 pub record NumberKind (ws : List ℕ) (o n r : ℕ) : Type 0 where
+  pub value : r ≡ numberKind ws o n
   pub yes : r < 3 → OfNumbers ws o n r
   pub no : 3 ≤ r → (kind : ℕ) → OfNumbers ws o n kind → ⊥

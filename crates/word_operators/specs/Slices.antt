@@ -8,7 +8,6 @@ use Rattle.slices.specs.Slices.{Slice}
 use Rattle.ink_value.specs.Val.{kindAt, listK}
 use Rattle.list_definitions.specs.Defs.{ListDefinitions}
 use Rattle.native_function_call.specs.Apply.{compute}
-use Rattle.native_function_call.specs.Lists.{definitionsIn}
 use Rattle.calls.specs.Slices.{calledIn}
 use Rattle.value_words.specs.Calls.{operandsIn}
 use Rattle.value_words.specs.Slices.{SaysIn, CallsIn}

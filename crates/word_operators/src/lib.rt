@@ -2,6 +2,8 @@
 // without a slice.
 use ink_number::int::Divided;
 use ink_value::Value;
+use ink_value::kind_code;
+use kind_table::op;
 use native_function_call::real;
 use native_function_call::test;
 use native_function_call::whole;
@@ -15,17 +17,17 @@ ghost use Rattle.ink_number.specs.Int.{signed, divided};
 ghost use Rattle.ink_float.specs.Real.{ofBits32};
 ghost use Rattle.ink_list.specs.Entries.{itemNumbers};
 ghost use Rattle.native_function_call.specs.Apply.{ofInt};
-ghost use Rattle.native_function_call.specs.Lists.{Room, definitions};
 ghost use Rattle.value_words.specs.Slices.{SaysIn};
 ghost use Rattle.word_operators.specs.Operands.{Held, OfNumbers, NumberKind, FirstIn, OperandsOk, ResultsFit};
 ghost use Rattle.word_operators.specs.Slices.{NumberSays, ScalarSays, ListSays, CallSays};
 ghost use Rattle.pack.specs.Read.{PackLists};
+ghost use Rattle.list_operators.specs.Lists.{Room, definitions};
 
 // The kind code in a value's first word; 4 where it has none.
 fn code_in(w: u64) -> u8
     ensures { λ r. ⌜ (r ≡ cond (ltb w 5) w 4) × (r < 5) ⌝ }
 {
-    if w < 5 { w as u8 } else { 4 }
+    if w < 5 { w as u8 } else { kind_code::VOID }
 }
 
 // The Int, and the Float, in a value's second word.
@@ -45,32 +47,32 @@ fn real_in(w: u64) -> f32
 fn numbers(count: usize, left: u8, right: u8) -> bool
     ensures { λ r. ⌜ r ≡ cond (ltb left 3) (cond (ltb count 2) true (ltb right 3)) false ⌝ }
 {
-    if left < 3 {
+    if left < kind_code::LIST {
         if count < 2 {
             return true;
         }
-        return right < 3;
+        return right < kind_code::LIST;
     }
     false
 }
 
-// The kind of a result of numbers, below 3; 3 or more where an operand, or the result, is no number.
+// The kind of a result of numbers; a code from a List's on where an operand, or the result, is no number.
 pub fn number_kind(op: u8, count: usize, operands: &[u64; 9]) -> u8
     requires { ⌜ Held (now operands) count ⌝ }
     ensures { λ r. ⌜ NumberKind (now (operands .entry)) op count r ⌝ }
 {
     let left = code_in(operands[0]);
     let right = code_in(operands[3]);
-    if 30 < op {
-        return 3;
+    if op::INVERT < op {
+        return kind_code::LIST;
     }
     if kind_table::operands(op) != count {
-        return 3;
+        return kind_code::LIST;
     }
     if numbers(count, left, right) {
         return kind_table::number_entry(op, left, right);
     }
-    3
+    kind_code::LIST
 }
 
 // A result that is an Int.
@@ -97,17 +99,17 @@ fn number1(op: u8, kind: u8, operands: &[u64; 9], answer: &mut [u64; 3]) -> u32
     let ka = code_in(operands[0]);
     let za = whole_in(operands[1]);
     let xa = real_in(operands[1]);
-    if kind == 0 {
-        let t = native_function_call::number_test1(ka, za, xa);
+    if kind == kind_code::BOOL {
+        let t = number_operators::number_test1(ka, za, xa);
         words::put_value(answer, Value::Bool(t));
         return 0;
     }
-    if kind == 1 {
-        let z = native_function_call::number_whole1(op, ka, za, xa);
+    if kind == kind_code::INT {
+        let z = number_operators::number_whole1(op, ka, za, xa);
         words::put_value(answer, Value::Int(z));
         return 0;
     }
-    let x = native_function_call::number_real1(op, ka, za, xa);
+    let x = number_operators::number_real1(op, ka, za, xa);
     words::put_value(answer, Value::Float(x));
     0
 }
@@ -123,16 +125,16 @@ fn number2(op: u8, kind: u8, operands: &[u64; 9], answer: &mut [u64; 3]) -> u32
     let kb = code_in(operands[3]);
     let zb = whole_in(operands[4]);
     let xb = real_in(operands[4]);
-    if kind == 0 {
-        let t = native_function_call::number_test2(op, ka, za, xa, kb, zb, xb);
+    if kind == kind_code::BOOL {
+        let t = number_operators::number_test2(op, ka, za, xa, kb, zb, xb);
         words::put_value(answer, Value::Bool(t));
         return 0;
     }
-    if kind == 1 {
-        let d = native_function_call::number_whole2(op, ka, za, xa, kb, zb, xb);
+    if kind == kind_code::INT {
+        let d = number_operators::number_whole2(op, ka, za, xa, kb, zb, xb);
         return put_whole(d, answer);
     }
-    let x = native_function_call::number_real2(op, ka, za, xa, kb, zb, xb);
+    let x = number_operators::number_real2(op, ka, za, xa, kb, zb, xb);
     words::put_value(answer, Value::Float(x));
     0
 }
@@ -173,16 +175,16 @@ fn scalar(
     let sb = words::start_in(operands[5]);
     let nb = words::len_in(operands[5]);
     match kind {
-        0 => {
+        kind_code::BOOL => {
             let t = test(op, n, ka, za, xa, sa, na, kb, zb, xb, sb, nb, items, values);
             words::put_value(answer, Value::Bool(t));
             0
         }
-        1 => {
+        kind_code::INT => {
             let d = whole(op, n, ka, za, xa, sa, na, kb, zb, xb, sb, nb, values);
             put_whole(d, answer)
         }
-        2 => {
+        kind_code::FLOAT => {
             let x = real(op, n, ka, za, xa, sa, na, kb, zb, xb, sb, nb, values);
             words::put_value(answer, Value::Float(x));
             0
@@ -216,7 +218,7 @@ fn list(
     let a = words::operand_at(operands, 0);
     let b = words::operand_at(operands, 1);
     let c = words::operand_at(operands, 2);
-    let outcome = native_function_call::list(
+    let outcome = list_operators::list(
         op,
         count,
         a,
@@ -252,18 +254,18 @@ pub fn apply(
     requires { ⌜ ResultsFit limit (now «result_items») (now «result_values») ⌝ }
     ensures { λ r. ⌜ CallSays limit ends defined op count operands items values r answer «result_items» «result_values» ⌝ }
 {
-    let kind = native_function_call::kinds(
+    let kind = kind_table::kinds(
         op,
         count,
         code_in(operands[0]),
         code_in(operands[3]),
         code_in(operands[6]),
     );
-    if 4 < kind {
+    if kind_code::VOID < kind {
         words::put_index(answer, 0);
         return answers::number(kind);
     }
-    if kind == 3 {
+    if kind == kind_code::LIST {
         return list(
             op,
             count,

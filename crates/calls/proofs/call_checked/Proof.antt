@@ -12,7 +12,7 @@ use Rattle.calls.specs.Call.{called}
 use Rattle.pack.proofs.Tabled.{ends-front, ends-fit, ends-count, defined-front, defined-fit, defined-count}
 use native.Mathlib.Omega.{arith}
 use Rattle.ink_value.proofs.Given.{gave-is}
-use Rattle.native_function_call.specs.Lists.{definitions}
+use Rattle.list_operators.specs.Lists.{definitions}
 use borrow.Author.Needs.{needs}
 use Rattle.calls.proofs.call_checked.Statement.{statement}
 use Rattle.calls.proofs.call_checked.Tie as tie

@@ -7,9 +7,9 @@ use Rattle.slices.proofs.Every.{and-both}
 use Rattle.ink_value.specs.Value.{valOf}
 use Rattle.ink_value.proofs.Given.{gave-is}
 use Rattle.native_function_call.specs.Apply.{call}
-use Rattle.native_function_call.specs.Lists.{definitions}
 use Rattle.calls.proofs.Forms.{first-of, goes-on}
 use Rattle.slices.proofs.Lists.{map-take}
+use Rattle.list_operators.specs.Lists.{definitions}
 use borrow.Author.Needs.{needs}
 use Rattle.calls.proofs.call_formed.Statement.{statement}
 use Rattle.calls.proofs.call_formed.Tie as tie

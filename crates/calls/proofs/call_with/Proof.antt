@@ -8,7 +8,7 @@ use Rattle.ink_number.specs.Answer.{refuses}
 use Rattle.slices.specs.Every.{_and_}
 use Rattle.slices.proofs.Every.{and-left, and-right}
 use Rattle.ink_value.proofs.Given.{gave-is, gave-plain}
-use Rattle.native_function_call.specs.Lists.{definitions}
+use Rattle.list_operators.specs.Lists.{definitions}
 use Rattle.calls.specs.Call.{operandsOk, resultsOk}
 use Rattle.calls.proofs.Forms.{ill-lent}
 use borrow.Author.Needs.{needs}

@@ -1,7 +1,7 @@
 -- `calls::one_formed` meets its contract. Assumes nothing.
 use mathlib.Core.Path.{sym, _∙_}
 use mathlib.Core.List.{[], _∷_}
-use Rattle.native_function_call.specs.Lists.{definitions}
+use Rattle.list_operators.specs.Lists.{definitions}
 use Rattle.calls.proofs.Forms.{unlike-long, all-one}
 use borrow.Author.Needs.{needs}
 use Rattle.calls.proofs.one_formed.Statement.{statement}

@@ -3,7 +3,7 @@ use mathlib.Core.Path.{sym, _∙_}
 use mathlib.Core.List.{[], _∷_}
 use borrow.Author.Tests.{not-true, not-false}
 use Rattle.slices.proofs.Every.{and-no-left, and-no-right}
-use Rattle.native_function_call.specs.Lists.{definitions}
+use Rattle.list_operators.specs.Lists.{definitions}
 use Rattle.calls.proofs.Forms.{unlike-long, all-three, third}
 use borrow.Author.Needs.{needs}
 use Rattle.calls.proofs.three_formed.Statement.{statement}

@@ -12,7 +12,7 @@ use Rattle.slices.proofs.Every.{and-left, and-right}
 use Rattle.ink_value.specs.declared.Value.{Value}
 use Rattle.slices.proofs.Lists.{ap3}
 use Rattle.list_definitions.specs.Defs.{ListDefinitions}
-use Rattle.native_function_call.specs.Lists.{definitions}
+use Rattle.list_operators.specs.Lists.{definitions}
 use Rattle.calls.specs.Call.{operandsOk, resultsOk, called}
 use Rattle.calls.proofs.Forms.{ill-lent}
 use Rattle.value_words.specs.Words.{valueAt}

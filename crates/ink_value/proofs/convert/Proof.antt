@@ -5,13 +5,11 @@ use mathlib.Core.Bool.{Bool}
 use Prim.Native.Nat.{ℕ}
 use lib.IntN.{ℤ}
 use lib.Ieee.{Float}
-use Rattle.ink_list.specs.Entries.{room}
 use Rattle.ink_number.specs.Answer.{gives}
 use Rattle.ink_value.specs.Convert.{converted}
 use Rattle.ink_value.specs.Value.{valOf, codeOfValue}
 use Rattle.ink_value.specs.declared.Value.{Value}
 use Rattle.ink_value.proofs.Casting.{cast-list, same-kind}
-use Rattle.ink_value.proofs.Reading.{int-in, float-in, truth-in}
 use Rattle.ink_value.proofs.Given.{gave-is, gave-plain}
 use Rattle.ink_number.proofs.Signed.{returned}
 use Rattle.ink_value.specs.declared.Value.the-variants as Is
@@ -35,17 +33,17 @@ copied-requires c κs = let s = c .before .before .before .before .before in
 returns : tie.Need-returns
 unfolding converted
 returns c = let s = c .before .before .before .before in
-    gave-is (ap (λ (t : ℕ). gives (converted t (valOf (s .args .items .now) (s .args .values .now) (s .args .v)))) (c .before .match .keys1)) (gave-plain (gives (converted 0 (valOf (s .args .items .now) (s .args .values .now) (s .args .v)))) _ _ _ refl (ap (λ (t : Bool). Out.Value (Is.Bool t)) (c .is-truthy .ensures ∙ truth-in (room (s .args .oi .now) (s .args .ov .now)) (s .args .items .now) (s .args .values .now) (s .args .v) (s .pre .0))))
+    gave-is (ap (λ (t : ℕ). gives (converted t (valOf (s .args .items .now) (s .args .values .now) (s .args .v)))) (c .before .match .keys1)) (gave-plain (gives (converted 0 (valOf (s .args .items .now) (s .args .values .now) (s .args .v)))) _ _ _ refl (ap (λ (t : Bool). Out.Value (Is.Bool t)) (c .is-truthy .ensures (s .args .items .now) (s .args .values .now) (s .pre .0 .items-in, s .pre .0 .values-in))))
 
 returns-2 : tie.Need-returns-2
 unfolding converted
 returns-2 c = let s = c .before .before .before .before in
-    gave-is (ap (λ (t : ℕ). gives (converted t (valOf (s .args .items .now) (s .args .values .now) (s .args .v)))) (c .before .match .keys2)) (gave-plain (gives (converted 1 (valOf (s .args .items .now) (s .args .values .now) (s .args .v)))) _ _ _ refl (ap (λ (z : ℤ). Out.Value (Is.Int z)) (returned (c .to-int .ok) ∙ c .to-int .ensures ∙ int-in (room (s .args .oi .now) (s .args .ov .now)) (s .args .items .now) (s .args .values .now) (s .args .v) (s .pre .0))))
+    gave-is (ap (λ (t : ℕ). gives (converted t (valOf (s .args .items .now) (s .args .values .now) (s .args .v)))) (c .before .match .keys2)) (gave-plain (gives (converted 1 (valOf (s .args .items .now) (s .args .values .now) (s .args .v)))) _ _ _ refl (ap (λ (z : ℤ). Out.Value (Is.Int z)) (returned (c .to-int .ok) ∙ c .to-int .ensures (s .args .items .now) (s .pre .0 .items-in))))
 
 returns-3 : tie.Need-returns-3
 unfolding converted
 returns-3 c = let s = c .before .before .before .before in
-    gave-is (ap (λ (t : ℕ). gives (converted t (valOf (s .args .items .now) (s .args .values .now) (s .args .v)))) (c .before .match .keys3)) (gave-plain (gives (converted 2 (valOf (s .args .items .now) (s .args .values .now) (s .args .v)))) _ _ _ refl (ap (λ (x : Float). Out.Value (Is.Float x)) (c .to-float .ensures ∙ float-in (room (s .args .oi .now) (s .args .ov .now)) (s .args .items .now) (s .args .values .now) (s .args .v) (s .pre .0))))
+    gave-is (ap (λ (t : ℕ). gives (converted t (valOf (s .args .items .now) (s .args .values .now) (s .args .v)))) (c .before .match .keys3)) (gave-plain (gives (converted 2 (valOf (s .args .items .now) (s .args .values .now) (s .args .v)))) _ _ _ refl (ap (λ (x : Float). Out.Value (Is.Float x)) (c .to-float .ensures (s .args .items .now) (s .pre .0 .items-in))))
 
 same-length : tie.Need-same-length
 same-length c = search needs

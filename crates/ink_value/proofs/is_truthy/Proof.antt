@@ -1,8 +1,9 @@
 -- `ink_value::is_truthy` meets its contract. Assumes nothing.
 use mathlib.Core.Path.{refl, _∙_}
+use native.Mathlib.Omega.{arith}
 use Rattle.ink_value.specs.Value.{startOf}
 use Rattle.ink_number.proofs.Signed.{returned}
-use Rattle.ink_value.proofs.Parts.{parts-of}
+use Rattle.ink_value.proofs.Parts.{parts-of, truth-parts}
 use borrow.Author.Needs.{needs}
 use Rattle.ink_value.proofs.is_truthy.Statement.{statement}
 use Rattle.ink_value.proofs.is_truthy.Tie as tie
@@ -25,7 +26,8 @@ truth-from-requires c κs = search needs
 returns : tie.Need-returns
 returns c =
     let s = c .before .before .before .before .before in
-    c .truth-from .ensures (s .args .v) (startOf (s .args .v)) (parts-of (s .args .v) _ _ _ _ _ (c .before .before .before .before .kind .ensures .0) (returned (c .before .before .before .whole-in .ok) ∙ c .before .before .before .whole-in .ensures) (c .before .before .real-in .ensures) refl (c .before .len-of .ensures))
+    let p = parts-of (s .args .v) _ _ _ _ _ (c .before .before .before .before .kind .ensures .0) (returned (c .before .before .before .whole-in .ok) ∙ c .before .before .before .whole-in .ensures) (c .before .before .real-in .ensures) refl (c .before .len-of .ensures) in
+    λ is vs h. c .truth-from .ensures is vs (startOf (s .args .v)) (omega (arith, h .0, c .before .len-of .ensures), omega (arith, h .1, c .before .len-of .ensures)) ∙ truth-parts is vs (s .args .v) p
 
 pub is-truthy-spec : {M : Type 1} → statement M
 is-truthy-spec =

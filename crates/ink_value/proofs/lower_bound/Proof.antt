@@ -3,7 +3,10 @@ use borrow.Author.Needs.{needs}
 use mathlib.Core.Path.{sym, ap, _∙_, subst}
 use Prim.Native.Nat.{_+_, _≤_}
 use lib.ListN.{length}
-use Rattle.ink_value.specs.Value.{startOf, lenOf, lowOf}
+use Rattle.ink_value.specs.Value.{valOf, startOf, lenOf}
+use Rattle.ink_value.specs.Convert.{lowerOf}
+use Rattle.ink_list.specs.Ops.{lowerBound}
+use Rattle.ink_value.proofs.Reading.{values-at}
 use Rattle.ink_value.specs.declared.Value.{Value}
 use Rattle.ink_number.proofs.Signed.{returned}
 use Rattle.ink_value.proofs.lower_bound.Statement.{statement}
@@ -30,23 +33,24 @@ enum-told-3 c = search needs
 
 returns : tie.Need-returns
 returns c =
-    returned (c .known-told .given .0 .1) ∙ sym (ap (lowOf (c .before .before .before .args .values .now)) (c .before .v .given .1))
+    λ is h. returned (c .known-told .given .0 .1) ∙ sym (ap (λ (v : Value). lowerOf (valOf is (c .before .before .before .args .values .now) v)) (c .before .v .given .1))
 
 returns-2 : tie.Need-returns-2
 returns-2 c =
-    returned (c .least .ok) ∙ c .least .ensures ∙ sym (ap (lowOf (c .before .before .before .before .args .values .now)) (c .before .before .v2 .given .1))
+    let s = c .before .before .before .before in
+    λ is h. returned (c .least .ok) ∙ c .least .ensures ∙ ap lowerBound (sym (values-at is (s .args .values .now) _ _ (subst (λ (v : Value). startOf v + lenOf v ≤ length is) (c .before .before .v2 .given .1) h) (subst (λ (v : Value). startOf v + lenOf v ≤ length (s .args .values .now)) (c .before .before .v2 .given .1) (s .pre)))) ∙ sym (ap (λ (v : Value). lowerOf (valOf is (c .before .before .before .before .args .values .now) v)) (c .before .before .v2 .given .1))
 
 returns-3 : tie.Need-returns-3
 returns-3 c =
-    sym (ap (lowOf (c .before .before .args .values .now)) (c .enum-told .given .1))
+    λ is h. sym (ap (λ (v : Value). lowerOf (valOf is (c .before .before .args .values .now) v)) (c .enum-told .given .1))
 
 returns-4 : tie.Need-returns-4
 returns-4 c =
-    sym (ap (lowOf (c .before .before .args .values .now)) (c .enum-told2 .given .1))
+    λ is h. sym (ap (λ (v : Value). lowerOf (valOf is (c .before .before .args .values .now) v)) (c .enum-told2 .given .1))
 
 returns-5 : tie.Need-returns-5
 returns-5 c =
-    sym (ap (lowOf (c .before .before .args .values .now)) (c .enum-told3 .given .1))
+    λ is h. sym (ap (λ (v : Value). lowerOf (valOf is (c .before .before .args .values .now) v)) (c .enum-told3 .given .1))
 
 pub lower-bound-spec : {M : Type 1} → statement M
 lower-bound-spec =

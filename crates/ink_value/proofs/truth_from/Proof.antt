@@ -1,6 +1,13 @@
--- `ink_value::truth_from` meets its contract. Assumes nothing.
-use mathlib.Core.List.{[]}
-use Rattle.ink_value.proofs.Parts.{truth-list, truth-void, number-kind, parts-back}
+-- `ink_value::truth_from` meets its contract: the choice by kind is the definition's. Assumes nothing.
+use mathlib.Core.Path.{sym, ap, _∙_}
+use native.Mathlib.Omega.{arith}
+use borrow.Author.Tests.{lt-ltb, le-ltb, ne-eqb}
+use lib.Dec.{ltb}
+use lib.IntN.{ℤ}
+use Rattle.ink_number.proofs.Signed.{read}
+use Rattle.ink_value.specs.Convert.{truthy}
+use Rattle.ink_value.specs.Value.{numberOf}
+use Rattle.ink_value.proofs.Reading.{length-at}
 use borrow.Author.Needs.{needs}
 use Rattle.ink_value.proofs.truth_from.Statement.{statement}
 use Rattle.ink_value.proofs.truth_from.Tie as tie
@@ -10,16 +17,18 @@ number-truth-requires c κs = search needs
 
 returns : tie.Need-returns
 returns c =
-    λ v start p. truth-list _ _ _ _ _ [] v p (c .match .keys1)
+    let s = c .before .before in
+    λ is vs start h. rw (lt-ltb _ _ (c .before .if1 .taken)) (c .number-truth .ensures ∙ read (λ (z : ℤ). truthy (numberOf (s .args .kind) z (s .args .real))) (s .args .whole) (s .fits .whole))
 
 returns-2 : tie.Need-returns-2
 returns-2 c =
-    λ v start p. truth-void _ _ _ _ _ [] v p (c .match .keys2)
+    let s = c .before .before in
+    λ is vs start h. rw (c .if2 .taken) (ap (ltb 0) (sym (length-at is vs start (s .args .len) (h .0) (h .1))))
 
 returns-3 : tie.Need-returns-3
 returns-3 c =
     let s = c .before .before in
-    λ v start p. c .number-truth .ensures v start (s .args .len) (parts-back (s .fits .whole) p) (number-kind v p (c .before .match .rest .0 .1) (c .before .match .rest .1))
+    λ is vs start h. rw (le-ltb (s .args .kind) 3 (omega (arith, c .before .if1 .left)), ne-eqb (s .args .kind) 3 (c .if2 .left))
 
 pub truth-from-spec : {M : Type 1} → statement M
 truth-from-spec = tie.close (tie.spec number-truth-requires returns returns-2 returns-3)

@@ -2,10 +2,6 @@
 use mathlib.Core.Path.{sym, _∙_}
 use borrow.Author.Tests.{not-false}
 use Rattle.ink_list.proofs.Formed.{formed-sound}
-use native.Mathlib.Omega.{arith}
-use Rattle.ink_list.specs.Entries.{entries}
-use Rattle.ink_list.proofs.Laws.{rising-length}
-use Rattle.ink_list.proofs.Rests.{of-lent, length-entries}
 use borrow.Author.Needs.{needs}
 use Rattle.list_points.proofs.single.Statement.{statement}
 use Rattle.list_points.proofs.single.Tie as tie
@@ -49,25 +45,8 @@ number-requires c κs = search needs
 slice-aggregate-number-2 : tie.Need-slice-aggregate-number-2
 slice-aggregate-number-2 c = search needs
 
-count-requires : tie.Need-count-requires
-count-requires c κs =
-    let a = c .before .before .before .before .before .before .before .before .before .before .before .before .args in
-    let p = formed-sound 256 0 0 _ _ (sym (c .before .before .before .before .before .before .before .before .is-formed .ensures) ∙ not-false _ (c .before .before .before .before .before .before .before .if1 .left)) .0 in
-    let r = rising-length 256 (entries (a .ai .now) (a .av .now)) (of-lent 256 (a .ai .now) (a .av .now) p) in
-    let e = length-entries (a .ai .now) (a .av .now) (p .long) in
-    omega arith
-
 number-requires-2 : tie.Need-number-requires-2
 number-requires-2 c κs = search needs
-
-slice-aggregate-test : tie.Need-slice-aggregate-test
-slice-aggregate-test c = search needs
-
-truthy-requires : tie.Need-truthy-requires
-truthy-requires c κs = search needs
-
-test-requires : tie.Need-test-requires
-test-requires c κs = search needs
 
 slice-aggregate-number-3 : tie.Need-slice-aggregate-number-3
 slice-aggregate-number-3 c = search needs
@@ -78,14 +57,8 @@ lower-bound-requires c κs = search needs
 number-requires-3 : tie.Need-number-requires-3
 number-requires-3 c κs = search needs
 
-slice-aggregate-number-4 : tie.Need-slice-aggregate-number-4
-slice-aggregate-number-4 c = search needs
-
 upper-bound-requires : tie.Need-upper-bound-requires
 upper-bound-requires c κs = search needs
-
-number-requires-4 : tie.Need-number-requires-4
-number-requires-4 c κs = search needs
 
 returns-2 : tie.Need-returns-2
 returns-2 c = search needs
@@ -107,15 +80,9 @@ single-spec =
     value-of-list-requires
     number-requires
     slice-aggregate-number-2
-    count-requires
-    number-requires-2
-    slice-aggregate-test
-    truthy-requires
-    test-requires
-    slice-aggregate-number-3
     lower-bound-requires
-    number-requires-3
-    slice-aggregate-number-4
+    number-requires-2
+    slice-aggregate-number-3
     upper-bound-requires
-    number-requires-4
+    number-requires-3
     returns-2)

@@ -9,7 +9,7 @@ use Rattle.ink_value.specs.Val.{kindAt}
 use Rattle.ink_value.specs.Value.{valOf}
 use Rattle.ink_value.proofs.Reading.{formed-limit}
 use Rattle.ink_value.proofs.Given.{gave-is}
-use Rattle.native_function_call.specs.Lists.{definitions}
+use Rattle.list_operators.specs.Lists.{definitions}
 use Rattle.native_function_call.specs.Apply.{compute}
 use Rattle.native_function_call.proofs.Calling.{scalar-gave}
 use borrow.Author.Needs.{needs}
@@ -26,6 +26,7 @@ same-length-2 : tie.Need-same-length-2
 same-length-2 c = search needs
 
 returns : tie.Need-returns
+unfolding compute
 returns c =
     let s = c .before .before .before .before .before .before .before .before .before .before in
     gave-is (ap (λ (k : ℕ). compute (definitions (s .args .ends .now) (s .args .defined .now) (s .args .limit)) (s .args .op) (take (s .args .count) (valOf (s .args .items .now) (s .args .values .now) (s .args .a) ∷ valOf (s .args .items .now) (s .args .values .now) (s .args .b) ∷ valOf (s .args .items .now) (s .args .values .now) (s .args .c) ∷ [])) (kindAt k)) (c .before .before .before .before .before .before .if1 .taken)) (c .before .before .before .list .ensures)

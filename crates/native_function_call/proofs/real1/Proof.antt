@@ -1,11 +1,13 @@
--- `native_function_call::real1` meets its contract. Assumes nothing.
+-- `native_function_call::real1` meets its contract: each arm is its operator's case of the definition. Assumes nothing.
 use mathlib.Core.Path.{ap, _∙_}
-use borrow.Author.Tests.{eq-eqb, ne-eqb}
+use lib.IntN.{ℤ}
+use borrow.Author.Tests.{ne-eqb}
+use Rattle.ink_number.proofs.Signed.{read}
 use Rattle.ink_float.specs.Real.{negF}
-use Rattle.ink_list.specs.Entries.{itemNumbers}
-use Rattle.ink_value.proofs.Reading.{float-in}
-use Rattle.ink_value.proofs.Parts.{parts-back}
-use Rattle.native_function_call.specs.Apply.{realUnary}
+use Rattle.ink_value.specs.Convert.{asFloat}
+use Rattle.ink_value.specs.Value.{ofParts}
+use Rattle.ink_value.proofs.Chosen.{at}
+use Rattle.number_operators.specs.Numbers.{realUnary}
 use borrow.Author.Needs.{needs}
 use Rattle.native_function_call.proofs.real1.Statement.{statement}
 use Rattle.native_function_call.proofs.real1.Tie as tie
@@ -16,17 +18,38 @@ float-from-requires c κs = search needs
 neg-requires : tie.Need-neg-requires
 neg-requires c κs = search needs
 
+float-from-requires-2 : tie.Need-float-from-requires-2
+float-from-requires-2 c κs = search needs
+
+int-to-float-requires : tie.Need-int-to-float-requires
+int-to-float-requires c κs = search needs
+
 returns : tie.Need-returns
 unfolding realUnary
 returns c =
     let s = c .before .before .before in
-    λ a is o. rw (eq-eqb _ _ (c .before .if1 .taken)) (c .neg .ensures ∙ ap negF (c .before .before .float-from .ensures a (parts-back (s .fits .za) (o .parts)) ∙ float-in itemNumbers is (s .args .values .now) a (o .formed)))
+    let vs = s .args .values .now in
+    λ is h. at (λ p. realUnary p (ofParts is vs (s .args .ka) (s .args .za) (s .args .xa) (s .args .sa) (s .args .na))) (c .before .before .match .keys1) (c .neg .ensures ∙ ap negF (c .before .float-from .ensures is h ∙ read (λ (z : ℤ). asFloat (ofParts is vs (s .args .ka) z (s .args .xa) (s .args .sa) (s .args .na))) (s .args .za) (s .fits .za)))
 
 returns-2 : tie.Need-returns-2
 unfolding realUnary
 returns-2 c =
     let s = c .before .before in
-    λ a is o. rw (ne-eqb _ _ (c .if1 .left)) (c .before .float-from .ensures a (parts-back (s .fits .za) (o .parts)) ∙ float-in itemNumbers is (s .args .values .now) a (o .formed))
+    let vs = s .args .values .now in
+    λ is h. at (λ p. realUnary p (ofParts is vs (s .args .ka) (s .args .za) (s .args .xa) (s .args .sa) (s .args .na))) (c .before .match .keys2) (c .float-from2 .ensures is h ∙ read (λ (z : ℤ). asFloat (ofParts is vs (s .args .ka) z (s .args .xa) (s .args .sa) (s .args .na))) (s .args .za) (s .fits .za))
+
+returns-3 : tie.Need-returns-3
+unfolding realUnary
+returns-3 c = λ is h. rw (ne-eqb _ _ (c .before .match .rest .0 .1), ne-eqb _ _ (c .before .match .rest .1)) (c .int-to-float .ensures)
 
 pub real1-spec : {M : Type 1} → statement M
-real1-spec = tie.close (tie.spec float-from-requires neg-requires returns returns-2)
+real1-spec =
+    tie.close
+    (tie.spec
+    float-from-requires
+    neg-requires
+    float-from-requires-2
+    int-to-float-requires
+    returns
+    returns-2
+    returns-3)

@@ -15,7 +15,8 @@ use Rattle.ink_value.specs.declared.Outcome.the-variants as Out
 use Rattle.ink_value.proofs.Reading.{few-in}
 use Rattle.ink_value.proofs.Parts.{parts-of, spans-of}
 use Rattle.native_function_call.specs.Apply.{compute}
-use Rattle.native_function_call.proofs.Applying.{kind-other}
+use Rattle.kind_table.proofs.Counting.{kind-other}
+use Rattle.native_function_call.proofs.Reading.{test-read, whole-read, real-read}
 use borrow.Author.Needs.{needs}
 use Rattle.native_function_call.proofs.scalar.Statement.{statement}
 use Rattle.native_function_call.proofs.scalar.Tie as tie
@@ -55,7 +56,7 @@ test-requires c κs =
     let s = c .before .before .before .before .before .before .before .before .before .before .before .before in
     let is = s .args .items .now in
     let vs = s .args .values .now in
-    (s .pre .0 .1, s .pre .0 .2, spans-of itemNumbers is vs (s .args .a) _ _ (c .before .before .before .before .before .before .before .start-of .ensures) (c .before .before .before .before .before .before .len-of .ensures) (s .pre .1 .0), λ t. spans-of itemNumbers is vs (s .args .b) _ _ (c .before .before .start-of2 .ensures) (c .before .len-of2 .ensures) (s .pre .1 .1 t))
+    ((s .pre .0 .1, s .pre .0 .2), (spans-of itemNumbers is vs (s .args .a) _ _ (c .before .before .before .before .before .before .before .start-of .ensures) (c .before .before .before .before .before .before .len-of .ensures) (s .pre .1 .0), λ t. spans-of itemNumbers is vs (s .args .b) _ _ (c .before .before .start-of2 .ensures) (c .before .len-of2 .ensures) (s .pre .1 .1 t)))
 
 whole-requires : tie.Need-whole-requires
 whole-requires c κs =
@@ -63,7 +64,7 @@ whole-requires c κs =
     let is = s .args .items .now in
     let vs = s .args .values .now in
     let f = spans-of itemNumbers is vs (s .args .a) _ _ (c .before .before .before .before .before .before .before .start-of .ensures) (c .before .before .before .before .before .before .len-of .ensures) (s .pre .1 .0) in
-    (s .pre .0 .1, s .pre .0 .2, f .values-in, omega (arith, c .before .before .before .before .before .before .len-of .ensures, few-in itemNumbers is vs (s .args .a) (s .pre .1 .0)), λ t. spans-of itemNumbers is vs (s .args .b) _ _ (c .before .before .start-of2 .ensures) (c .before .len-of2 .ensures) (s .pre .1 .1 t) .values-in)
+    ((s .pre .0 .1, s .pre .0 .2, omega (arith, c .before .before .before .before .before .before .len-of .ensures, few-in itemNumbers is vs (s .args .a) (s .pre .1 .0))), (f .values-in, λ t. spans-of itemNumbers is vs (s .args .b) _ _ (c .before .before .start-of2 .ensures) (c .before .len-of2 .ensures) (s .pre .1 .1 t) .values-in))
 
 whole-outcome-requires : tie.Need-whole-outcome-requires
 whole-outcome-requires c κs = search needs
@@ -73,7 +74,7 @@ real-requires c κs =
     let s = c .before .before .before .before .before .before .before .before .before .before .before .before in
     let is = s .args .items .now in
     let vs = s .args .values .now in
-    (s .pre .0 .1, s .pre .0 .2, spans-of itemNumbers is vs (s .args .a) _ _ (c .before .before .before .before .before .before .before .start-of .ensures) (c .before .before .before .before .before .before .len-of .ensures) (s .pre .1 .0) .values-in, λ t. spans-of itemNumbers is vs (s .args .b) _ _ (c .before .before .start-of2 .ensures) (c .before .len-of2 .ensures) (s .pre .1 .1 t) .values-in)
+    ((s .pre .0 .1, s .pre .0 .2), (spans-of itemNumbers is vs (s .args .a) _ _ (c .before .before .before .before .before .before .before .start-of .ensures) (c .before .before .before .before .before .before .len-of .ensures) (s .pre .1 .0) .values-in, λ t. spans-of itemNumbers is vs (s .args .b) _ _ (c .before .before .start-of2 .ensures) (c .before .len-of2 .ensures) (s .pre .1 .1 t) .values-in))
 
 returns : tie.Need-returns
 unfolding compute
@@ -83,7 +84,7 @@ returns c =
     let vs = s .args .values .now in
     let pa = parts-of (s .args .a) _ _ _ _ _ (c .before .before .before .before .before .before .before .before .before .before .before .kind .ensures .0) (returned (c .before .before .before .before .before .before .before .before .before .before .whole-in .ok) ∙ c .before .before .before .before .before .before .before .before .before .before .whole-in .ensures) (c .before .before .before .before .before .before .before .before .before .real-in .ensures) (c .before .before .before .before .before .before .before .before .start-of .ensures) (c .before .before .before .before .before .before .before .len-of .ensures) in
     let pb = parts-of (s .args .b) _ _ _ _ _ (c .before .before .before .before .before .before .kind2 .ensures .0) (returned (c .before .before .before .before .before .whole-in2 .ok) ∙ c .before .before .before .before .before .whole-in2 .ensures) (c .before .before .before .before .real-in2 .ensures) (c .before .before .before .start-of2 .ensures) (c .before .before .len-of2 .ensures) in
-    λ u. ap (λ (t : Bool). Out.Value (Is.Bool t)) (c .test .ensures (s .args .a) (s .args .b) (record { parts = pa; formed = s .pre .1 .0 }) (λ t. record { parts = pb; formed = s .pre .1 .1 t }))
+    λ u. ap (λ (t : Bool). Out.Value (Is.Bool t)) (c .test .ensures ∙ test-read is vs (s .args .a) (s .args .b) (s .args .op) (s .args .n) (s .pre .0 .1) (s .pre .0 .2) (record { parts = pa; formed = s .pre .1 .0 }) (λ t. record { parts = pb; formed = s .pre .1 .1 t }))
     ∙ ap (λ (j : ℕ). placed (compute u (s .args .op) (take (s .args .n) (valOf is vs (s .args .a) ∷ valOf is vs (s .args .b) ∷ [])) (kindAt j))) (sym (c .before .match .keys1))
 
 returns-2 : tie.Need-returns-2
@@ -95,7 +96,7 @@ returns-2 c =
     let pa = parts-of (s .args .a) _ _ _ _ _ (c .before .before .before .before .before .before .before .before .before .before .before .before .kind .ensures .0) (returned (c .before .before .before .before .before .before .before .before .before .before .before .whole-in .ok) ∙ c .before .before .before .before .before .before .before .before .before .before .before .whole-in .ensures) (c .before .before .before .before .before .before .before .before .before .before .real-in .ensures) (c .before .before .before .before .before .before .before .before .before .start-of .ensures) (c .before .before .before .before .before .before .before .before .len-of .ensures) in
     let pb = parts-of (s .args .b) _ _ _ _ _ (c .before .before .before .before .before .before .before .kind2 .ensures .0) (returned (c .before .before .before .before .before .before .whole-in2 .ok) ∙ c .before .before .before .before .before .before .whole-in2 .ensures) (c .before .before .before .before .before .real-in2 .ensures) (c .before .before .before .before .start-of2 .ensures) (c .before .before .before .len-of2 .ensures) in
     λ u. c .whole-outcome .ensures
-    ∙ ap placed (c .before .whole .ensures (s .args .a) (s .args .b) is (record { parts = pa; formed = s .pre .1 .0 }) (λ t. record { parts = pb; formed = s .pre .1 .1 t }))
+    ∙ ap placed (whole-read is vs (s .args .a) (s .args .b) (s .args .op) (s .args .n) (s .pre .0 .1) (s .pre .0 .2) (c .before .whole .ensures is) (record { parts = pa; formed = s .pre .1 .0 }) (λ t. record { parts = pb; formed = s .pre .1 .1 t }))
     ∙ ap (λ (j : ℕ). placed (compute u (s .args .op) (take (s .args .n) (valOf is vs (s .args .a) ∷ valOf is vs (s .args .b) ∷ [])) (kindAt j))) (sym (c .before .before .match .keys2))
 
 returns-3 : tie.Need-returns-3
@@ -106,7 +107,7 @@ returns-3 c =
     let vs = s .args .values .now in
     let pa = parts-of (s .args .a) _ _ _ _ _ (c .before .before .before .before .before .before .before .before .before .before .before .kind .ensures .0) (returned (c .before .before .before .before .before .before .before .before .before .before .whole-in .ok) ∙ c .before .before .before .before .before .before .before .before .before .before .whole-in .ensures) (c .before .before .before .before .before .before .before .before .before .real-in .ensures) (c .before .before .before .before .before .before .before .before .start-of .ensures) (c .before .before .before .before .before .before .before .len-of .ensures) in
     let pb = parts-of (s .args .b) _ _ _ _ _ (c .before .before .before .before .before .before .kind2 .ensures .0) (returned (c .before .before .before .before .before .whole-in2 .ok) ∙ c .before .before .before .before .before .whole-in2 .ensures) (c .before .before .before .before .real-in2 .ensures) (c .before .before .before .start-of2 .ensures) (c .before .before .len-of2 .ensures) in
-    λ u. ap (λ (x : Float). Out.Value (Is.Float x)) (c .real .ensures (s .args .a) (s .args .b) is (record { parts = pa; formed = s .pre .1 .0 }) (λ t. record { parts = pb; formed = s .pre .1 .1 t }))
+    λ u. ap (λ (x : Float). Out.Value (Is.Float x)) (real-read is vs (s .args .a) (s .args .b) (s .args .op) (s .args .n) (s .pre .0 .1) (s .pre .0 .2) (c .real .ensures is) (record { parts = pa; formed = s .pre .1 .0 }) (λ t. record { parts = pb; formed = s .pre .1 .1 t }))
     ∙ ap (λ (j : ℕ). placed (compute u (s .args .op) (take (s .args .n) (valOf is vs (s .args .a) ∷ valOf is vs (s .args .b) ∷ [])) (kindAt j))) (sym (c .before .match .keys3))
 
 returns-4 : tie.Need-returns-4

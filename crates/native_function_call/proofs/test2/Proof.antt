@@ -1,16 +1,14 @@
--- `native_function_call::test2` meets its contract. Assumes nothing.
+-- `native_function_call::test2` meets its contract: by the common kind of the two operands. Assumes nothing.
 use mathlib.Core.Path.{sym, ap, _∙_}
-use Prim.Native.Nat.{ℕ, max}
-use Rattle.ink_number.proofs.Signed.{returned}
-use Rattle.ink_list.specs.Entries.{itemNumbers}
+use lib.IntN.{ℤ}
+use Rattle.ink_number.proofs.Signed.{read, read2, returned}
 use Rattle.ink_value.specs.Val.{Kind, kindAt}
-use Rattle.ink_value.specs.Value.{valOf}
+use Rattle.ink_value.specs.Value.{ofParts}
 use Rattle.slices.proofs.Lists.{ap2}
-use Rattle.ink_value.proofs.Reading.{int-in, float-in}
-use Rattle.ink_value.proofs.Parts.{parts-back, operand-back}
-use Rattle.native_function_call.specs.Numbers.{testZ, testF}
-use Rattle.native_function_call.specs.Apply.{testAs}
-use Rattle.native_function_call.proofs.Reading.{common-in, test-other}
+use Rattle.native_function_call.specs.Apply.{testAs, testLists}
+use Rattle.native_function_call.proofs.Reading.{test-other, common-parts}
+use Rattle.ink_value.specs.Convert.{asInt, asFloat}
+use Rattle.number_operators.specs.Numbers.{testZ, testF}
 use borrow.Author.Needs.{needs}
 use Rattle.native_function_call.proofs.test2.Statement.{statement}
 use Rattle.native_function_call.proofs.test2.Tie as tie
@@ -44,36 +42,37 @@ returns c =
     let s = c .before .before .before .before .before .before in
     let is = s .args .items .now in
     let vs = s .args .values .now in
-    λ a b oa ob. c .test-int .ensures ∙ ap2 (testZ (s .args .op))
-    (returned (c .before .before .int-from .ok) ∙ c .before .before .int-from .ensures a (parts-back (s .fits .za) (oa .parts)) ∙ int-in itemNumbers is vs a (oa .formed))
-    (returned (c .before .int-from2 .ok) ∙ c .before .int-from2 .ensures b (parts-back (s .fits .zb) (ob .parts)) ∙ int-in itemNumbers is vs b (ob .formed))
-    ∙ sym (ap (λ (k : Kind). testAs k (s .args .op) (valOf is vs a) (valOf is vs b)) (common-in is vs a b (c .before .before .before .before .common .result) (c .before .before .before .before .common .ensures ∙ ap2 (λ (i j : ℕ). max 1 (max i j)) (oa .parts .kind-is) (ob .parts .kind-is)) ∙ ap kindAt (c .before .before .before .match .keys1)))
+    c .test-int .ensures ∙ ap2 (testZ (s .args .op))
+    (returned (c .before .before .int-from .ok) ∙ c .before .before .int-from .ensures is (s .pre .0 .items-in) ∙ read (λ (z : ℤ). asInt (ofParts is vs (s .args .ka) z (s .args .xa) (s .args .sa) (s .args .na))) (s .args .za) (s .fits .za))
+    (returned (c .before .int-from2 .ok) ∙ c .before .int-from2 .ensures is (s .pre .1 .items-in) ∙ read (λ (z : ℤ). asInt (ofParts is vs (s .args .kb) z (s .args .xb) (s .args .sb) (s .args .nb))) (s .args .zb) (s .fits .zb))
+    ∙ sym (ap (λ (k : Kind). testAs k (s .args .op) (ofParts is vs (s .args .ka) (s .args .za) (s .args .xa) (s .args .sa) (s .args .na)) (ofParts is vs (s .args .kb) (s .args .zb) (s .args .xb) (s .args .sb) (s .args .nb))) (common-parts is vs (s .args .ka) (s .args .za) (s .args .xa) (s .args .sa) (s .args .na) (s .args .kb) (s .args .zb) (s .args .xb) (s .args .sb) (s .args .nb) (c .before .before .before .before .common .result) (c .before .before .before .before .common .ensures) ∙ ap kindAt (c .before .before .before .match .keys1)))
 
 returns-2 : tie.Need-returns-2
 returns-2 c =
     let s = c .before .before .before .before .before .before in
     let is = s .args .items .now in
     let vs = s .args .values .now in
-    λ a b oa ob. c .test-float .ensures ∙ ap2 (testF (s .args .op))
-    (c .before .before .float-from .ensures a (parts-back (s .fits .za) (oa .parts)) ∙ float-in itemNumbers is vs a (oa .formed))
-    (c .before .float-from2 .ensures b (parts-back (s .fits .zb) (ob .parts)) ∙ float-in itemNumbers is vs b (ob .formed))
-    ∙ sym (ap (λ (k : Kind). testAs k (s .args .op) (valOf is vs a) (valOf is vs b)) (common-in is vs a b (c .before .before .before .before .common .result) (c .before .before .before .before .common .ensures ∙ ap2 (λ (i j : ℕ). max 1 (max i j)) (oa .parts .kind-is) (ob .parts .kind-is)) ∙ ap kindAt (c .before .before .before .match .keys2)))
+    c .test-float .ensures ∙ ap2 (testF (s .args .op))
+    (c .before .before .float-from .ensures is (s .pre .0 .items-in) ∙ read (λ (z : ℤ). asFloat (ofParts is vs (s .args .ka) z (s .args .xa) (s .args .sa) (s .args .na))) (s .args .za) (s .fits .za))
+    (c .before .float-from2 .ensures is (s .pre .1 .items-in) ∙ read (λ (z : ℤ). asFloat (ofParts is vs (s .args .kb) z (s .args .xb) (s .args .sb) (s .args .nb))) (s .args .zb) (s .fits .zb))
+    ∙ sym (ap (λ (k : Kind). testAs k (s .args .op) (ofParts is vs (s .args .ka) (s .args .za) (s .args .xa) (s .args .sa) (s .args .na)) (ofParts is vs (s .args .kb) (s .args .zb) (s .args .xb) (s .args .sb) (s .args .nb))) (common-parts is vs (s .args .ka) (s .args .za) (s .args .xa) (s .args .sa) (s .args .na) (s .args .kb) (s .args .zb) (s .args .xb) (s .args .sb) (s .args .nb) (c .before .before .before .before .common .result) (c .before .before .before .before .common .ensures) ∙ ap kindAt (c .before .before .before .match .keys2)))
 
 returns-3 : tie.Need-returns-3
 returns-3 c =
     let s = c .before .before .before .before in
     let is = s .args .items .now in
     let vs = s .args .values .now in
-    λ a b oa ob. c .test-lists .ensures a b (operand-back (s .fits .za) oa) (operand-back (s .fits .zb) ob)
-    ∙ sym (ap (λ (k : Kind). testAs k (s .args .op) (valOf is vs a) (valOf is vs b)) (common-in is vs a b (c .before .before .common .result) (c .before .before .common .ensures ∙ ap2 (λ (i j : ℕ). max 1 (max i j)) (oa .parts .kind-is) (ob .parts .kind-is)) ∙ ap kindAt (c .before .match .keys3)))
+    c .test-lists .ensures
+    ∙ read2 (λ (z w : ℤ). testLists (s .args .op) (ofParts is vs (s .args .ka) z (s .args .xa) (s .args .sa) (s .args .na)) (ofParts is vs (s .args .kb) w (s .args .xb) (s .args .sb) (s .args .nb))) (s .args .za) (s .args .zb) (s .fits .za) (s .fits .zb)
+    ∙ sym (ap (λ (k : Kind). testAs k (s .args .op) (ofParts is vs (s .args .ka) (s .args .za) (s .args .xa) (s .args .sa) (s .args .na)) (ofParts is vs (s .args .kb) (s .args .zb) (s .args .xb) (s .args .sb) (s .args .nb))) (common-parts is vs (s .args .ka) (s .args .za) (s .args .xa) (s .args .sa) (s .args .na) (s .args .kb) (s .args .zb) (s .args .xb) (s .args .sb) (s .args .nb) (c .before .before .common .result) (c .before .before .common .ensures) ∙ ap kindAt (c .before .match .keys3)))
 
 returns-4 : tie.Need-returns-4
 returns-4 c =
     let s = c .before .before .before in
     let is = s .args .items .now in
     let vs = s .args .values .now in
-    λ a b oa ob. sym (test-other (c .before .common .result) (c .match .rest .0 .0 .1) (c .match .rest .0 .1) (c .match .rest .1) (s .args .op) (valOf is vs a) (valOf is vs b))
-    ∙ sym (ap (λ (k : Kind). testAs k (s .args .op) (valOf is vs a) (valOf is vs b)) (common-in is vs a b (c .before .common .result) (c .before .common .ensures ∙ ap2 (λ (i j : ℕ). max 1 (max i j)) (oa .parts .kind-is) (ob .parts .kind-is))))
+    sym (test-other (c .before .common .result) (c .match .rest .0 .0 .1) (c .match .rest .0 .1) (c .match .rest .1) (s .args .op) (ofParts is vs (s .args .ka) (s .args .za) (s .args .xa) (s .args .sa) (s .args .na)) (ofParts is vs (s .args .kb) (s .args .zb) (s .args .xb) (s .args .sb) (s .args .nb)))
+    ∙ sym (ap (λ (k : Kind). testAs k (s .args .op) (ofParts is vs (s .args .ka) (s .args .za) (s .args .xa) (s .args .sa) (s .args .na)) (ofParts is vs (s .args .kb) (s .args .zb) (s .args .xb) (s .args .sb) (s .args .nb))) (common-parts is vs (s .args .ka) (s .args .za) (s .args .xa) (s .args .sa) (s .args .na) (s .args .kb) (s .args .zb) (s .args .xb) (s .args .sb) (s .args .nb) (c .before .common .result) (c .before .common .ensures)))
 
 pub test2-spec : {M : Type 1} → statement M
 test2-spec =

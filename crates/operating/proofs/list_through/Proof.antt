@@ -4,6 +4,7 @@ use Rattle.ink_list.specs.Entries.{itemNumbers}
 use Prim.Native.Nat.{zero-le}
 use Rattle.ink_value.proofs.Reading.{few-in, formed-limit}
 use Rattle.operating.proofs.Putting.{place-fits, formed-result, result-read, result-put, refusal}
+use Rattle.native_function_call.specs.Apply.{compute}
 use borrow.Author.Needs.{needs}
 use Rattle.operating.proofs.list_through.Statement.{statement}
 use Rattle.operating.proofs.list_through.Tie as tie
@@ -20,6 +21,7 @@ mul-to : tie.Need-mul-to
 mul-to c = let s = c .before .before .before .before .before .before .before .before .before .before .before .before .before .before .before in omega (arith, place-fits (s .args .format) (s .args .place) 0 (s .pre .0 .4) zero-le, s .pre .0 .1 .format .few)
 
 store-requires : tie.Need-store-requires
+unfolding compute
 store-requires c κs =
     let s = c .before .before .before .before .before .before .before .before .before .before .before .before .before .before .before .before .before .before .before in
     let f = formed-result (s .args .format) _ _ _ _ (s .pre .1 .1 .1 .0) (s .pre .1 .1 .1 .1) _ _ (c .before .before .before .before .before .before .before .before .before .before .before .list .ensures) (s .pre .1 .1 .0) _ (c .before .before .before .before .before .before .outcome .given .1) in
@@ -42,6 +44,7 @@ same-length-4 : tie.Need-same-length-4
 same-length-4 c = search needs
 
 returns : tie.Need-returns
+unfolding compute
 returns c =
     let s = c .before .before .before .before .before .before .before .before .before .before .before .before .before .before .before .before .before .before .before .before .before .before .before in
     let f = formed-result (s .args .format) _ _ _ _ (s .pre .1 .1 .1 .0) (s .pre .1 .1 .1 .1) _ _ (c .before .before .before .before .before .before .before .before .before .before .before .before .before .before .before .list .ensures) (s .pre .1 .1 .0) _ (c .before .before .before .before .before .before .before .before .before .before .outcome .given .1) in
@@ -60,6 +63,7 @@ same-length-8 : tie.Need-same-length-8
 same-length-8 c = search needs
 
 returns-2 : tie.Need-returns-2
+unfolding compute
 returns-2 c =
     refusal _ _ _ _ _ (c .before .before .before .before .before .before .list .ensures .answered) _ (c .before .outcome2 .given .1)
 

@@ -8,7 +8,7 @@ use Rattle.ink_list.specs.Entries.{Rising, itemNumbers}
 use Rattle.ink_value.specs.Val.{Val, kindAt}
 use Rattle.ink_value.specs.Value.{written}
 use Rattle.native_function_call.specs.Apply.{compute}
-use Rattle.native_function_call.specs.Lists.{definitions}
+use Rattle.list_operators.specs.Lists.{definitions}
 use Rattle.ink_value.proofs.Reading.{formed-limit}
 use Rattle.operating.specs.Stacked.{taken}
 use Rattle.operating.proofs.Operating.{call-rises, call-computes, call-stops, answered-is}
@@ -25,8 +25,8 @@ kind-requires-2 c κs = search needs
 kind-requires-3 : tie.Need-kind-requires-3
 kind-requires-3 c κs = search needs
 
-kinds-requires : tie.Need-kinds-requires
-kinds-requires c κs = search needs
+answer-requires : tie.Need-answer-requires
+answer-requires c κs = search needs
 
 returns : tie.Need-returns
 returns c =
@@ -34,7 +34,7 @@ returns c =
     let is = s .args .work-items .now in
     let vs = s .args .work-values .now in
     let u = definitions (s .args .ends .now) (s .args .defined .now) (s .args .format .limit) in
-    record { by = record { refused = call-stops is vs (s .args .a) (s .args .b) (s .args .c) u (s .args .op) (s .args .count) (c .before .before .before .before .kind .ensures .0) (c .before .before .before .kind2 .ensures .0) (c .before .before .kind3 .ensures .0) (c .before .kinds .ensures) (c .if1 .taken); items-same = refl; values-same = refl } }
+    record { by = record { refused = call-stops is vs (s .args .a) (s .args .b) (s .args .c) u (s .args .op) (s .args .count) (c .before .before .before .before .kind .ensures .0) (c .before .before .before .kind2 .ensures .0) (c .before .before .kind3 .ensures .0) (c .before .answer .ensures) (c .if1 .taken); items-same = refl; values-same = refl } }
 
 list-result-requires : tie.Need-list-result-requires
 list-result-requires c κs =
@@ -43,8 +43,8 @@ list-result-requires c κs =
     let vs = s .args .work-values .now in
     let u = definitions (s .args .ends .now) (s .args .defined .now) (s .args .format .limit) in
     let few = c .before .before .before .if1 .left in
-    let g = c .before .before .before .before .kinds .ensures .counted (omega arith) in
-    let e = call-computes is vs (s .args .a) (s .args .b) (s .args .c) u (s .args .op) (s .args .count) (c .before .before .before .before .before .before .before .kind .ensures .0) (c .before .before .before .before .before .before .kind2 .ensures .0) (c .before .before .before .before .before .kind3 .ensures .0) (c .before .before .before .before .kinds .ensures) (omega arith) ∙ ap (λ (j : ℕ). compute u (s .args .op) (taken is vs (s .args .a) (s .args .b) (s .args .c) (s .args .count)) (kindAt j)) (c .before .before .if2 .taken) in
+    let g = c .before .before .before .before .answer .ensures .counted (omega arith) in
+    let e = call-computes is vs (s .args .a) (s .args .b) (s .args .c) u (s .args .op) (s .args .count) (c .before .before .before .before .before .before .before .kind .ensures .0) (c .before .before .before .before .before .before .kind2 .ensures .0) (c .before .before .before .before .before .kind3 .ensures .0) (c .before .before .before .before .answer .ensures) (omega arith) ∙ ap (λ (j : ℕ). compute u (s .args .op) (taken is vs (s .args .a) (s .args .b) (s .args .c) (s .args .count)) (kindAt j)) (c .before .before .if2 .taken) in
     let up = call-rises is vs (s .args .a) (s .args .b) (s .args .c) u (s .args .op) (s .args .count) (s .args .format .limit) (s .pre .0 .1 .format .some) (s .pre .1) refl (s .pre .0 .0 .within) in
     ((s .pre .0 .0, s .pre .0 .1, g .0, g .1, s .pre .0 .2), (s .pre .1, subst (λ (x : Answer Val). Rising (s .args .format .limit) (written x)) e up))
 
@@ -61,13 +61,13 @@ returns-2 c =
     let vs = s .args .work-values .now in
     let u = definitions (s .args .ends .now) (s .args .defined .now) (s .args .format .limit) in
     let few = c .before .before .before .before .before .before .before .if1 .left in
-    answered-is _ _ _ _ _ _ _ _ (call-computes is vs (s .args .a) (s .args .b) (s .args .c) u (s .args .op) (s .args .count) (c .before .before .before .before .before .before .before .before .before .before .before .kind .ensures .0) (c .before .before .before .before .before .before .before .before .before .before .kind2 .ensures .0) (c .before .before .before .before .before .before .before .before .before .kind3 .ensures .0) (c .before .before .before .before .before .before .before .before .kinds .ensures) (omega arith) ∙ ap (λ (j : ℕ). compute u (s .args .op) (taken is vs (s .args .a) (s .args .b) (s .args .c) (s .args .count)) (kindAt j)) (c .before .before .before .before .before .before .if2 .taken)) (c .before .before .before .list-result .ensures)
+    answered-is _ _ _ _ _ _ _ _ (call-computes is vs (s .args .a) (s .args .b) (s .args .c) u (s .args .op) (s .args .count) (c .before .before .before .before .before .before .before .before .before .before .before .kind .ensures .0) (c .before .before .before .before .before .before .before .before .before .before .kind2 .ensures .0) (c .before .before .before .before .before .before .before .before .before .kind3 .ensures .0) (c .before .before .before .before .before .before .before .before .answer .ensures) (omega arith) ∙ ap (λ (j : ℕ). compute u (s .args .op) (taken is vs (s .args .a) (s .args .b) (s .args .c) (s .args .count)) (kindAt j)) (c .before .before .before .before .before .before .if2 .taken)) (c .before .before .before .list-result .ensures)
 
 scalar-result-requires : tie.Need-scalar-result-requires
 scalar-result-requires c κs =
     let s = c .before .before .before .before .before .before .before .before .before .before in
     let few = c .before .before .before .if1 .left in
-    let g = c .before .before .before .before .kinds .ensures .counted (omega arith) in
+    let g = c .before .before .before .before .answer .ensures .counted (omega arith) in
     let n3 : s .args .count ≡ 3 → ⊥ = λ e. c .before .before .if2 .left (g .2 e) in
     ((c .before .before .if2 .left, g .0, omega (arith, n3, g .1), s .pre .0 .2), (formed-limit (s .args .format .limit) _ _ itemNumbers (s .args .a) (omega (arith, s .pre .0 .1 .format .few)) (s .pre .1 .one (g .0)), λ t. formed-limit (s .args .format .limit) _ _ itemNumbers (s .args .b) (omega (arith, s .pre .0 .1 .format .few)) (s .pre .1 .two (omega arith))))
 
@@ -84,7 +84,7 @@ returns-3 c =
     let vs = s .args .work-values .now in
     let u = definitions (s .args .ends .now) (s .args .defined .now) (s .args .format .limit) in
     let few = c .before .before .before .before .if1 .left in
-    answered-is _ _ _ _ _ _ _ _ (call-computes is vs (s .args .a) (s .args .b) (s .args .c) u (s .args .op) (s .args .count) (c .before .before .before .before .before .before .before .before .kind .ensures .0) (c .before .before .before .before .before .before .before .kind2 .ensures .0) (c .before .before .before .before .before .before .kind3 .ensures .0) (c .before .before .before .before .before .kinds .ensures) (omega arith)) (c .scalar-result .ensures u (s .args .c) (s .args .format) is vs)
+    answered-is _ _ _ _ _ _ _ _ (call-computes is vs (s .args .a) (s .args .b) (s .args .c) u (s .args .op) (s .args .count) (c .before .before .before .before .before .before .before .before .kind .ensures .0) (c .before .before .before .before .before .before .before .kind2 .ensures .0) (c .before .before .before .before .before .before .kind3 .ensures .0) (c .before .before .before .before .before .answer .ensures) (omega arith)) (c .scalar-result .ensures u (s .args .c) (s .args .format) is vs)
 
 pub operate-spec : {M : Type 1} → statement M
 operate-spec =
@@ -93,7 +93,7 @@ operate-spec =
     kind-requires
     kind-requires-2
     kind-requires-3
-    kinds-requires
+    answer-requires
     returns
     list-result-requires
     same-length

@@ -9,10 +9,11 @@ use Rattle.ink_value.specs.Val.{bool, float, kindAt}
 use Rattle.ink_value.specs.Value.{valOf}
 use Rattle.ink_value.proofs.Reading.{few-in}
 use Rattle.native_function_call.specs.Apply.{compute}
-use Rattle.native_function_call.proofs.Applying.{kind-other}
+use Rattle.kind_table.proofs.Counting.{kind-other}
 use Rattle.ink_list.specs.Entries.{itemNumbers}
 use Rattle.operating.proofs.Putting.{scalar-put}
 use Rattle.operating.proofs.Operating.{spans-in, operand-in, computes-two, answered-is}
+use Rattle.native_function_call.proofs.Reading.{test-read, whole-read, real-read}
 use borrow.Author.Needs.{needs}
 use Rattle.operating.proofs.scalar_result.Statement.{statement}
 use Rattle.operating.proofs.scalar_result.Tie as tie
@@ -52,14 +53,14 @@ test-requires c κs =
     let s = c .before .before .before .before .before .before .before .before .before .before .before .before in
     let is = s .args .items .now in
     let vs = s .args .values .now in
-    (s .pre .0 .1, s .pre .0 .2, spans-in is vs (s .args .a) (c .before .before .before .before .before .before .before .start-of .ensures) (c .before .before .before .before .before .before .len-of .ensures) (s .pre .1 .0), λ t. spans-in is vs (s .args .b) (c .before .before .start-of2 .ensures) (c .before .len-of2 .ensures) (s .pre .1 .1 t))
+    ((s .pre .0 .1, s .pre .0 .2), (spans-in is vs (s .args .a) (c .before .before .before .before .before .before .before .start-of .ensures) (c .before .before .before .before .before .before .len-of .ensures) (s .pre .1 .0), λ t. spans-in is vs (s .args .b) (c .before .before .start-of2 .ensures) (c .before .len-of2 .ensures) (s .pre .1 .1 t)))
 
 whole-requires : tie.Need-whole-requires
 whole-requires c κs =
     let s = c .before .before .before .before .before .before .before .before .before .before .before .before in
     let is = s .args .items .now in
     let vs = s .args .values .now in
-    (s .pre .0 .1, s .pre .0 .2, spans-in is vs (s .args .a) (c .before .before .before .before .before .before .before .start-of .ensures) (c .before .before .before .before .before .before .len-of .ensures) (s .pre .1 .0) .values-in, omega (arith, c .before .before .before .before .before .before .len-of .ensures, few-in itemNumbers is vs (s .args .a) (s .pre .1 .0)), λ t. spans-in is vs (s .args .b) (c .before .before .start-of2 .ensures) (c .before .len-of2 .ensures) (s .pre .1 .1 t) .values-in)
+    ((s .pre .0 .1, s .pre .0 .2, omega (arith, c .before .before .before .before .before .before .len-of .ensures, few-in itemNumbers is vs (s .args .a) (s .pre .1 .0))), (spans-in is vs (s .args .a) (c .before .before .before .before .before .before .before .start-of .ensures) (c .before .before .before .before .before .before .len-of .ensures) (s .pre .1 .0) .values-in, λ t. spans-in is vs (s .args .b) (c .before .before .start-of2 .ensures) (c .before .len-of2 .ensures) (s .pre .1 .1 t) .values-in))
 
 whole-result-requires : tie.Need-whole-result-requires
 whole-result-requires c κs = search needs
@@ -69,7 +70,7 @@ real-requires c κs =
     let s = c .before .before .before .before .before .before .before .before .before .before .before .before in
     let is = s .args .items .now in
     let vs = s .args .values .now in
-    (s .pre .0 .1, s .pre .0 .2, spans-in is vs (s .args .a) (c .before .before .before .before .before .before .before .start-of .ensures) (c .before .before .before .before .before .before .len-of .ensures) (s .pre .1 .0) .values-in, λ t. spans-in is vs (s .args .b) (c .before .before .start-of2 .ensures) (c .before .len-of2 .ensures) (s .pre .1 .1 t) .values-in)
+    ((s .pre .0 .1, s .pre .0 .2), (spans-in is vs (s .args .a) (c .before .before .before .before .before .before .before .start-of .ensures) (c .before .before .before .before .before .before .len-of .ensures) (s .pre .1 .0) .values-in, λ t. spans-in is vs (s .args .b) (c .before .before .start-of2 .ensures) (c .before .len-of2 .ensures) (s .pre .1 .1 t) .values-in))
 
 returns : tie.Need-returns
 unfolding compute
@@ -78,7 +79,7 @@ returns c =
     let is = s .args .items .now in
     let vs = s .args .values .now in
     λ u x F wi wv. scalar-put _ (s .args .place) _ wi wv (s .pre .0 .3) (λ q. omega arith)
-    (computes-two u (s .args .op) (s .args .n) (valOf is vs (s .args .a)) (valOf is vs (s .args .b)) (valOf is vs x) (s .pre .0 .1) (s .pre .0 .2) (ap kindAt (c .before .match .keys1)) ∙ sym (ap (λ (t : Bool). gives (bool t)) (c .test .ensures (s .args .a) (s .args .b)
+    (computes-two u (s .args .op) (s .args .n) (valOf is vs (s .args .a)) (valOf is vs (s .args .b)) (valOf is vs x) (s .pre .0 .1) (s .pre .0 .2) (ap kindAt (c .before .match .keys1)) ∙ sym (ap (λ (t : Bool). gives (bool t)) (c .test .ensures ∙ test-read is vs (s .args .a) (s .args .b) (s .args .op) (s .args .n) (s .pre .0 .1) (s .pre .0 .2)
     (operand-in is vs (s .args .a) (c .before .before .before .before .before .before .before .before .start-of .ensures) (c .before .before .before .before .before .before .before .len-of .ensures) (s .pre .1 .0) (c .before .before .before .before .before .before .before .before .before .before .before .kind .ensures .0) (returned (c .before .before .before .before .before .before .before .before .before .before .whole-in .ok) ∙ c .before .before .before .before .before .before .before .before .before .before .whole-in .ensures) (c .before .before .before .before .before .before .before .before .before .real-in .ensures))
     (λ t. operand-in is vs (s .args .b) (c .before .before .before .start-of2 .ensures) (c .before .before .len-of2 .ensures) (s .pre .1 .1 t) (c .before .before .before .before .before .before .kind2 .ensures .0) (returned (c .before .before .before .before .before .whole-in2 .ok) ∙ c .before .before .before .before .before .whole-in2 .ensures) (c .before .before .before .before .real-in2 .ensures)))))
 
@@ -89,7 +90,7 @@ returns-2 c =
     let is = s .args .items .now in
     let vs = s .args .values .now in
     λ u x F wi wv. answered-is _ _ (s .args .place) _ wi wi wv wv
-    (computes-two u (s .args .op) (s .args .n) (valOf is vs (s .args .a)) (valOf is vs (s .args .b)) (valOf is vs x) (s .pre .0 .1) (s .pre .0 .2) (ap kindAt (c .before .before .match .keys2)) ∙ sym (c .before .whole .ensures (s .args .a) (s .args .b) is
+    (computes-two u (s .args .op) (s .args .n) (valOf is vs (s .args .a)) (valOf is vs (s .args .b)) (valOf is vs x) (s .pre .0 .1) (s .pre .0 .2) (ap kindAt (c .before .before .match .keys2)) ∙ sym (whole-read is vs (s .args .a) (s .args .b) (s .args .op) (s .args .n) (s .pre .0 .1) (s .pre .0 .2) (c .before .whole .ensures is)
     (operand-in is vs (s .args .a) (c .before .before .before .before .before .before .before .before .before .start-of .ensures) (c .before .before .before .before .before .before .before .before .len-of .ensures) (s .pre .1 .0) (c .before .before .before .before .before .before .before .before .before .before .before .before .kind .ensures .0) (returned (c .before .before .before .before .before .before .before .before .before .before .before .whole-in .ok) ∙ c .before .before .before .before .before .before .before .before .before .before .before .whole-in .ensures) (c .before .before .before .before .before .before .before .before .before .before .real-in .ensures))
     (λ t. operand-in is vs (s .args .b) (c .before .before .before .before .start-of2 .ensures) (c .before .before .before .len-of2 .ensures) (s .pre .1 .1 t) (c .before .before .before .before .before .before .before .kind2 .ensures .0) (returned (c .before .before .before .before .before .before .whole-in2 .ok) ∙ c .before .before .before .before .before .before .whole-in2 .ensures) (c .before .before .before .before .before .real-in2 .ensures)))) (c .whole-result .ensures F wi wv)
 
@@ -100,7 +101,7 @@ returns-3 c =
     let is = s .args .items .now in
     let vs = s .args .values .now in
     λ u x F wi wv. scalar-put _ (s .args .place) _ wi wv (s .pre .0 .3) (λ q. omega arith)
-    (computes-two u (s .args .op) (s .args .n) (valOf is vs (s .args .a)) (valOf is vs (s .args .b)) (valOf is vs x) (s .pre .0 .1) (s .pre .0 .2) (ap kindAt (c .before .match .keys3)) ∙ sym (ap (λ (y : Float). gives (float y)) (c .real .ensures (s .args .a) (s .args .b) is
+    (computes-two u (s .args .op) (s .args .n) (valOf is vs (s .args .a)) (valOf is vs (s .args .b)) (valOf is vs x) (s .pre .0 .1) (s .pre .0 .2) (ap kindAt (c .before .match .keys3)) ∙ sym (ap (λ (y : Float). gives (float y)) (real-read is vs (s .args .a) (s .args .b) (s .args .op) (s .args .n) (s .pre .0 .1) (s .pre .0 .2) (c .real .ensures is)
     (operand-in is vs (s .args .a) (c .before .before .before .before .before .before .before .before .start-of .ensures) (c .before .before .before .before .before .before .before .len-of .ensures) (s .pre .1 .0) (c .before .before .before .before .before .before .before .before .before .before .before .kind .ensures .0) (returned (c .before .before .before .before .before .before .before .before .before .before .whole-in .ok) ∙ c .before .before .before .before .before .before .before .before .before .before .whole-in .ensures) (c .before .before .before .before .before .before .before .before .before .real-in .ensures))
     (λ t. operand-in is vs (s .args .b) (c .before .before .before .start-of2 .ensures) (c .before .before .len-of2 .ensures) (s .pre .1 .1 t) (c .before .before .before .before .before .before .kind2 .ensures .0) (returned (c .before .before .before .before .before .whole-in2 .ok) ∙ c .before .before .before .before .before .whole-in2 .ensures) (c .before .before .before .before .real-in2 .ensures)))))
 

@@ -6,7 +6,7 @@ use native.Mathlib.Omega.{arith}
 use mathlib.Core.List.{map}
 use lib.ListN.{length, length-replicate}
 use Rattle.ink_value.specs.Value.{valOf}
-use Rattle.native_function_call.specs.Lists.{definitions}
+use Rattle.list_operators.specs.Lists.{definitions}
 use Rattle.pack.specs.Contents.{literalCount}
 use Rattle.pack.specs.Instruction.{instrOf}
 use Rattle.pack.specs.Read.{sheetEnd, literalOf}

@@ -3,7 +3,7 @@ use mathlib.Core.Path.{sym, _∙_, subst}
 use Prim.Native.Nat.{ℕ}
 use native.Mathlib.Omega.{arith}
 use Rattle.ink_value.specs.Value.{FirstFormed}
-use Rattle.native_function_call.specs.Lists.{definitions}
+use Rattle.list_operators.specs.Lists.{definitions}
 use Rattle.stepping.specs.Steps.{Operands}
 use Rattle.stepping.proofs.Stepping.{no-operator, no-operands, operands-topped, steps-of}
 use borrow.Author.Needs.{needs}

@@ -5,7 +5,7 @@ use native.Mathlib.Omega.{arith}
 use lib.ListN.{take}
 use Rattle.ink_value.specs.Val.{kindAt}
 use Rattle.kind_table.specs.Kinds.{kindCall}
-use Rattle.native_function_call.specs.Lists.{definitions}
+use Rattle.list_operators.specs.Lists.{definitions}
 use Rattle.native_function_call.specs.Apply.{compute}
 use Rattle.value_words.specs.Words.{valueAt}
 use Rattle.value_words.proofs.Saying.{refused-calls, calls-is}

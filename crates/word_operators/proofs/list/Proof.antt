@@ -3,7 +3,7 @@ use mathlib.Core.Path.{refl}
 use lib.ListN.{take}
 use Rattle.ink_value.specs.Val.{listK}
 use Rattle.ink_value.proofs.Results.{first-wf}
-use Rattle.native_function_call.specs.Lists.{definitions}
+use Rattle.list_operators.specs.Lists.{definitions}
 use Rattle.native_function_call.specs.Apply.{compute}
 use Rattle.native_function_call.proofs.Results.{compute-fine}
 use Rattle.value_words.specs.Words.{valueAt}
@@ -29,6 +29,7 @@ list-requires c κs =
     rw (c .before .before .before .before .operand-at .ensures, c .before .before .before .operand-at2 .ensures, c .before .before .operand-at3 .ensures) (s .pre .0 .0, (s .pre .1, (s .pre .0 .1, s .pre .0 .2)))
 
 outcome-requires : tie.Need-outcome-requires
+unfolding compute
 outcome-requires c κs =
     let s = c .before .before .before .before .before .before .before .before .before .before .before .before .before in
     let is = s .args .items .now in
@@ -46,6 +47,7 @@ same-length-2 : tie.Need-same-length-2
 same-length-2 c = search needs
 
 returns : tie.Need-returns
+unfolding compute
 returns c =
     calls _ _ _ _ _ _ _ _ _ refl (rw (c .before .before .before .before .before .before .before .before .before .before .operand-at .ensures, c .before .before .before .before .before .before .before .before .before .operand-at2 .ensures, c .before .before .before .before .before .before .before .before .operand-at3 .ensures) at (c .before .before .before .before .before .list .ensures)) (c .outcome .ensures)
 

@@ -6,6 +6,9 @@ use Rattle.native_function_call.specs.Apply.{ofInt}
 use Rattle.value_words.specs.Words.{valueAt}
 use Rattle.word_operators.proofs.Operands.{number-is, number-at}
 use Rattle.word_operators.proofs.Said.{said-bool, said-int, said-float}
+use Rattle.slices.proofs.Lists.{ap2}
+use Rattle.number_operators.specs.Numbers.{arithZ, arithF}
+use Rattle.native_function_call.proofs.Reading.{int-number, float-number, test-numbers}
 use borrow.Author.Needs.{needs}
 use Rattle.word_operators.proofs.number2.Statement.{statement}
 use Rattle.word_operators.proofs.number2.Tie as tie
@@ -58,7 +61,7 @@ returns c =
     let ws = s .args .operands .now in
     let a = number-is (number-at ws 0 (s .pre .left)) (c .before .before .before .before .before .before .before .before .before .before .before .before .before .before .code-in .ensures .0) (returned (c .before .before .before .before .before .before .before .before .before .before .before .before .whole-in .ok) ∙ c .before .before .before .before .before .before .before .before .before .before .before .before .whole-in .ensures) (c .before .before .before .before .before .before .before .before .before .before .real-in .ensures) in
     let b = number-is (number-at ws 1 (s .pre .right refl)) (c .before .before .before .before .before .before .before .before .code-in2 .ensures .0) (returned (c .before .before .before .before .before .before .whole-in2 .ok) ∙ c .before .before .before .before .before .before .whole-in2 .ensures) (c .before .before .before .before .real-in2 .ensures) in
-    λ u is vs. said-bool u (s .args .op) _ (s .args .kind) (c .before .before .before .if1 .taken) _ _ (c .before .before .number-test2 .ensures (valueAt ws 0) (valueAt ws 1) is vs a b) (c .put-value .ensures)
+    λ u is vs. said-bool u (s .args .op) _ (s .args .kind) (c .before .before .before .if1 .taken) _ _ (c .before .before .number-test2 .ensures ∙ test-numbers is vs (s .args .op) (valueAt ws 0) (valueAt ws 1) a b) (c .put-value .ensures)
 
 number-whole2-requires : tie.Need-number-whole2-requires
 number-whole2-requires c κs = search needs
@@ -72,7 +75,7 @@ returns-2 c =
     let ws = s .args .operands .now in
     let a = number-is (number-at ws 0 (s .pre .left)) (c .before .before .before .before .before .before .before .before .before .before .before .before .before .before .before .code-in .ensures .0) (returned (c .before .before .before .before .before .before .before .before .before .before .before .before .before .whole-in .ok) ∙ c .before .before .before .before .before .before .before .before .before .before .before .before .before .whole-in .ensures) (c .before .before .before .before .before .before .before .before .before .before .before .real-in .ensures) in
     let b = number-is (number-at ws 1 (s .pre .right refl)) (c .before .before .before .before .before .before .before .before .before .code-in2 .ensures .0) (returned (c .before .before .before .before .before .before .before .whole-in2 .ok) ∙ c .before .before .before .before .before .before .before .whole-in2 .ensures) (c .before .before .before .before .before .real-in2 .ensures) in
-    λ u is vs. said-int u (s .args .op) _ (s .args .kind) (c .before .before .before .if2 .taken) _ _ _ (ap ofInt (c .before .before .number-whole2 .ensures (valueAt ws 0) (valueAt ws 1) is vs a b)) (c .put-whole .ensures)
+    λ u is vs. said-int u (s .args .op) _ (s .args .kind) (c .before .before .before .if2 .taken) _ _ _ (ap ofInt (c .before .before .number-whole2 .ensures ∙ ap2 (arithZ (s .args .op)) (int-number is vs (valueAt ws 0) a) (int-number is vs (valueAt ws 1) b))) (c .put-whole .ensures)
 
 number-real2-requires : tie.Need-number-real2-requires
 number-real2-requires c κs = search needs
@@ -87,7 +90,7 @@ returns-3 c =
     let a = number-is (number-at ws 0 (s .pre .left)) (c .before .before .before .before .before .before .before .before .before .before .before .before .before .before .before .code-in .ensures .0) (returned (c .before .before .before .before .before .before .before .before .before .before .before .before .before .whole-in .ok) ∙ c .before .before .before .before .before .before .before .before .before .before .before .before .before .whole-in .ensures) (c .before .before .before .before .before .before .before .before .before .before .before .real-in .ensures) in
     let b = number-is (number-at ws 1 (s .pre .right refl)) (c .before .before .before .before .before .before .before .before .before .code-in2 .ensures .0) (returned (c .before .before .before .before .before .before .before .whole-in2 .ok) ∙ c .before .before .before .before .before .before .before .whole-in2 .ensures) (c .before .before .before .before .before .real-in2 .ensures) in
     let two : s .args .kind ≡ 2 = omega (arith, c .before .before .before .before .if1 .left, c .before .before .before .if2 .left, s .pre .small) in
-    λ u is vs. said-float u (s .args .op) _ (s .args .kind) two _ _ (c .before .before .number-real2 .ensures (valueAt ws 0) (valueAt ws 1) is vs a b) (c .put-value2 .ensures)
+    λ u is vs. said-float u (s .args .op) _ (s .args .kind) two _ _ (c .before .before .number-real2 .ensures ∙ ap2 (arithF (s .args .op)) (float-number is vs (valueAt ws 0) a) (float-number is vs (valueAt ws 1) b)) (c .put-value2 .ensures)
 
 pub number2-spec : {M : Type 1} → statement M
 number2-spec =

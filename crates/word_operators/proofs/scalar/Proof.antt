@@ -5,8 +5,10 @@ use Rattle.ink_number.proofs.Signed.{returned}
 use Rattle.ink_value.proofs.Reading.{few-in}
 use Rattle.ink_list.specs.Entries.{itemNumbers}
 use Rattle.value_words.specs.Words.{valueAt}
-use Rattle.word_operators.proofs.Operands.{first-at, second-at, operand-spans}
+use Rattle.word_operators.proofs.Operands.{first-at, second-at}
+use Rattle.ink_value.proofs.Parts.{operand-spans}
 use Rattle.word_operators.proofs.Said.{said-bool, said-int, said-float, said-void}
+use Rattle.native_function_call.proofs.Reading.{test-read, whole-read, real-read}
 use borrow.Author.Needs.{needs}
 use Rattle.word_operators.proofs.scalar.Statement.{statement}
 use Rattle.word_operators.proofs.scalar.Tie as tie
@@ -79,7 +81,7 @@ test-requires c κs =
     let ws = s .args .operands .now in
     let a = first-at is vs ws (s .args .n) (s .pre .1 .0) (s .pre .1 .1) (s .pre .0 .2) (c .before .before .before .before .before .before .before .before .before .before .before .before .before .before .before .before .before .before .before .code-in .ensures .0) (returned (c .before .before .before .before .before .before .before .before .before .before .before .before .before .before .before .before .before .whole-in .ok) ∙ c .before .before .before .before .before .before .before .before .before .before .before .before .before .before .before .before .before .whole-in .ensures) (c .before .before .before .before .before .before .before .before .before .before .before .before .before .before .before .real-in .ensures) (c .before .before .before .before .before .before .before .before .before .before .before .before .before .start-in .ensures) (c .before .before .before .before .before .before .before .before .before .before .before .len-in .ensures) in
     let b = second-at is vs ws (s .args .n) (s .pre .1 .0) (s .pre .1 .1) (c .before .before .before .before .before .before .before .before .before .code-in2 .ensures .0) (returned (c .before .before .before .before .before .before .before .whole-in2 .ok) ∙ c .before .before .before .before .before .before .before .whole-in2 .ensures) (c .before .before .before .before .before .real-in2 .ensures) (c .before .before .before .start-in2 .ensures) (c .before .len-in2 .ensures) in
-    (s .pre .0 .2, s .pre .0 .3, operand-spans a, λ t. operand-spans (b t))
+    ((s .pre .0 .2, s .pre .0 .3), (operand-spans a, λ t. operand-spans (b t)))
 
 put-value-requires : tie.Need-put-value-requires
 put-value-requires c κs = search needs
@@ -92,7 +94,7 @@ whole-requires c κs =
     let ws = s .args .operands .now in
     let a = first-at is vs ws (s .args .n) (s .pre .1 .0) (s .pre .1 .1) (s .pre .0 .2) (c .before .before .before .before .before .before .before .before .before .before .before .before .before .before .before .before .before .before .before .code-in .ensures .0) (returned (c .before .before .before .before .before .before .before .before .before .before .before .before .before .before .before .before .before .whole-in .ok) ∙ c .before .before .before .before .before .before .before .before .before .before .before .before .before .before .before .before .before .whole-in .ensures) (c .before .before .before .before .before .before .before .before .before .before .before .before .before .before .before .real-in .ensures) (c .before .before .before .before .before .before .before .before .before .before .before .before .before .start-in .ensures) (c .before .before .before .before .before .before .before .before .before .before .before .len-in .ensures) in
     let b = second-at is vs ws (s .args .n) (s .pre .1 .0) (s .pre .1 .1) (c .before .before .before .before .before .before .before .before .before .code-in2 .ensures .0) (returned (c .before .before .before .before .before .before .before .whole-in2 .ok) ∙ c .before .before .before .before .before .before .before .whole-in2 .ensures) (c .before .before .before .before .before .real-in2 .ensures) (c .before .before .before .start-in2 .ensures) (c .before .len-in2 .ensures) in
-    (s .pre .0 .2, s .pre .0 .3, operand-spans a .values-in, omega (arith, a .parts .len-is, few-in itemNumbers is vs (valueAt ws 0) (a .formed)), λ t. operand-spans (b t) .values-in)
+    ((s .pre .0 .2, s .pre .0 .3, omega (arith, a .parts .len-is, few-in itemNumbers is vs (valueAt ws 0) (a .formed))), (operand-spans a .values-in, λ t. operand-spans (b t) .values-in))
 
 put-whole-requires : tie.Need-put-whole-requires
 put-whole-requires c κs = search needs
@@ -105,7 +107,7 @@ real-requires c κs =
     let ws = s .args .operands .now in
     let a = first-at is vs ws (s .args .n) (s .pre .1 .0) (s .pre .1 .1) (s .pre .0 .2) (c .before .before .before .before .before .before .before .before .before .before .before .before .before .before .before .before .before .before .before .code-in .ensures .0) (returned (c .before .before .before .before .before .before .before .before .before .before .before .before .before .before .before .before .before .whole-in .ok) ∙ c .before .before .before .before .before .before .before .before .before .before .before .before .before .before .before .before .before .whole-in .ensures) (c .before .before .before .before .before .before .before .before .before .before .before .before .before .before .before .real-in .ensures) (c .before .before .before .before .before .before .before .before .before .before .before .before .before .start-in .ensures) (c .before .before .before .before .before .before .before .before .before .before .before .len-in .ensures) in
     let b = second-at is vs ws (s .args .n) (s .pre .1 .0) (s .pre .1 .1) (c .before .before .before .before .before .before .before .before .before .code-in2 .ensures .0) (returned (c .before .before .before .before .before .before .before .whole-in2 .ok) ∙ c .before .before .before .before .before .before .before .whole-in2 .ensures) (c .before .before .before .before .before .real-in2 .ensures) (c .before .before .before .start-in2 .ensures) (c .before .len-in2 .ensures) in
-    (s .pre .0 .2, s .pre .0 .3, operand-spans a .values-in, λ t. operand-spans (b t) .values-in)
+    ((s .pre .0 .2, s .pre .0 .3), (operand-spans a .values-in, λ t. operand-spans (b t) .values-in))
 
 put-value-requires-2 : tie.Need-put-value-requires-2
 put-value-requires-2 c κs = search needs
@@ -121,7 +123,7 @@ returns c =
     let ws = s .args .operands .now in
     let a = first-at is vs ws (s .args .n) (s .pre .1 .0) (s .pre .1 .1) (s .pre .0 .2) (c .before .before .before .before .before .before .before .before .before .before .before .before .before .before .before .before .before .before .before .before .before .before .code-in .ensures .0) (returned (c .before .before .before .before .before .before .before .before .before .before .before .before .before .before .before .before .before .before .before .before .whole-in .ok) ∙ c .before .before .before .before .before .before .before .before .before .before .before .before .before .before .before .before .before .before .before .before .whole-in .ensures) (c .before .before .before .before .before .before .before .before .before .before .before .before .before .before .before .before .before .before .real-in .ensures) (c .before .before .before .before .before .before .before .before .before .before .before .before .before .before .before .before .start-in .ensures) (c .before .before .before .before .before .before .before .before .before .before .before .before .before .before .len-in .ensures) in
     let b = second-at is vs ws (s .args .n) (s .pre .1 .0) (s .pre .1 .1) (c .before .before .before .before .before .before .before .before .before .before .before .before .code-in2 .ensures .0) (returned (c .before .before .before .before .before .before .before .before .before .before .whole-in2 .ok) ∙ c .before .before .before .before .before .before .before .before .before .before .whole-in2 .ensures) (c .before .before .before .before .before .before .before .before .real-in2 .ensures) (c .before .before .before .before .before .before .start-in2 .ensures) (c .before .before .before .before .len-in2 .ensures) in
-    λ u. said-bool u (s .args .op) _ (s .args .kind) (c .before .before .before .match .keys1) _ _ (c .before .before .test .ensures (valueAt ws 0) (valueAt ws 1) a b) (c .put-value .ensures)
+    λ u. said-bool u (s .args .op) _ (s .args .kind) (c .before .before .before .match .keys1) _ _ (c .before .before .test .ensures ∙ test-read is vs (valueAt ws 0) (valueAt ws 1) (s .args .op) (s .args .n) (s .pre .0 .2) (s .pre .0 .3) a b) (c .put-value .ensures)
 
 returns-2 : tie.Need-returns-2
 returns-2 c =
@@ -131,7 +133,7 @@ returns-2 c =
     let ws = s .args .operands .now in
     let a = first-at is vs ws (s .args .n) (s .pre .1 .0) (s .pre .1 .1) (s .pre .0 .2) (c .before .before .before .before .before .before .before .before .before .before .before .before .before .before .before .before .before .before .before .before .before .before .code-in .ensures .0) (returned (c .before .before .before .before .before .before .before .before .before .before .before .before .before .before .before .before .before .before .before .before .whole-in .ok) ∙ c .before .before .before .before .before .before .before .before .before .before .before .before .before .before .before .before .before .before .before .before .whole-in .ensures) (c .before .before .before .before .before .before .before .before .before .before .before .before .before .before .before .before .before .before .real-in .ensures) (c .before .before .before .before .before .before .before .before .before .before .before .before .before .before .before .before .start-in .ensures) (c .before .before .before .before .before .before .before .before .before .before .before .before .before .before .len-in .ensures) in
     let b = second-at is vs ws (s .args .n) (s .pre .1 .0) (s .pre .1 .1) (c .before .before .before .before .before .before .before .before .before .before .before .before .code-in2 .ensures .0) (returned (c .before .before .before .before .before .before .before .before .before .before .whole-in2 .ok) ∙ c .before .before .before .before .before .before .before .before .before .before .whole-in2 .ensures) (c .before .before .before .before .before .before .before .before .real-in2 .ensures) (c .before .before .before .before .before .before .start-in2 .ensures) (c .before .before .before .before .len-in2 .ensures) in
-    λ u. said-int u (s .args .op) _ (s .args .kind) (c .before .before .before .match .keys2) _ _ _ (c .before .before .whole .ensures (valueAt ws 0) (valueAt ws 1) is a b) (c .put-whole .ensures)
+    λ u. said-int u (s .args .op) _ (s .args .kind) (c .before .before .before .match .keys2) _ _ _ (whole-read is vs (valueAt ws 0) (valueAt ws 1) (s .args .op) (s .args .n) (s .pre .0 .2) (s .pre .0 .3) (c .before .before .whole .ensures is) a b) (c .put-whole .ensures)
 
 returns-3 : tie.Need-returns-3
 returns-3 c =
@@ -141,7 +143,7 @@ returns-3 c =
     let ws = s .args .operands .now in
     let a = first-at is vs ws (s .args .n) (s .pre .1 .0) (s .pre .1 .1) (s .pre .0 .2) (c .before .before .before .before .before .before .before .before .before .before .before .before .before .before .before .before .before .before .before .before .before .before .code-in .ensures .0) (returned (c .before .before .before .before .before .before .before .before .before .before .before .before .before .before .before .before .before .before .before .before .whole-in .ok) ∙ c .before .before .before .before .before .before .before .before .before .before .before .before .before .before .before .before .before .before .before .before .whole-in .ensures) (c .before .before .before .before .before .before .before .before .before .before .before .before .before .before .before .before .before .before .real-in .ensures) (c .before .before .before .before .before .before .before .before .before .before .before .before .before .before .before .before .start-in .ensures) (c .before .before .before .before .before .before .before .before .before .before .before .before .before .before .len-in .ensures) in
     let b = second-at is vs ws (s .args .n) (s .pre .1 .0) (s .pre .1 .1) (c .before .before .before .before .before .before .before .before .before .before .before .before .code-in2 .ensures .0) (returned (c .before .before .before .before .before .before .before .before .before .before .whole-in2 .ok) ∙ c .before .before .before .before .before .before .before .before .before .before .whole-in2 .ensures) (c .before .before .before .before .before .before .before .before .real-in2 .ensures) (c .before .before .before .before .before .before .start-in2 .ensures) (c .before .before .before .before .len-in2 .ensures) in
-    λ u. said-float u (s .args .op) _ (s .args .kind) (c .before .before .before .match .keys3) _ _ (c .before .before .real .ensures (valueAt ws 0) (valueAt ws 1) is a b) (c .put-value2 .ensures)
+    λ u. said-float u (s .args .op) _ (s .args .kind) (c .before .before .before .match .keys3) _ _ (real-read is vs (valueAt ws 0) (valueAt ws 1) (s .args .op) (s .args .n) (s .pre .0 .2) (s .pre .0 .3) (c .before .before .real .ensures is) a b) (c .put-value2 .ensures)
 
 returns-4 : tie.Need-returns-4
 returns-4 c =

@@ -1,0 +1,2 @@
+-- What the operators answer on Lists.
+pub mod Lists

@@ -1,0 +1,307 @@
+// The operators on lists: tests, and results that are Lists, written from the start of two output slices.
+use ink_value::Outcome;
+use ink_value::Value;
+use ink_value::kind_code;
+use kind_table::op;
+ghost use mathlib.Core.Path.{_≡_};
+ghost use mathlib.Core.List.{[], _∷_};
+ghost use Prim.Native.Nat.{ℕ, _≤_};
+ghost use lib.ListN.{length, take};
+ghost use Rattle.ink_list.specs.Entries.{itemNumbers, room, Ascends, Rising, Lent};
+ghost use Rattle.ink_list.specs.Slices.{list, Answers};
+ghost use Rattle.list_definitions.specs.Defs.{Tables, originsOf};
+ghost use Rattle.ink_value.specs.Val.{listK, codeOf};
+ghost use Rattle.ink_value.specs.Value.{codeOfValue, Spans, Formed, FirstFormed};
+ghost use Rattle.ink_value.specs.Slices.{valIn, firstIn, entriesIn, Gives};
+ghost use Rattle.ink_value.specs.declared.Value.the-variants as Is;
+ghost use Rattle.ink_value.specs.declared.Outcome.the-variants as Out;
+ghost use Rattle.list_operators.specs.Lists.{testL, mergeL, unaryL, shiftL, listAnswer, Room, definitions, definitionsIn};
+
+fn test_entries(op: u8, ai: &[u16], av: &[i32], bi: &[u16], bv: &[i32]) -> bool
+    requires { ⌜ Lent itemNumbers (now ai) (now av) × Lent itemNumbers (now bi) (now bv) ⌝ }
+    ensures { λ r. ⌜ r ≡ testL op (list ai av) (list bi bv) ⌝ }
+{
+    match op {
+        op::GREATER => list_extremes::greater(av, bv),
+        op::LESS => list_extremes::less(av, bv),
+        op::GREATER_THAN_OR_EQUALS => list_extremes::greater_or_equals(av, bv),
+        op::LESS_THAN_OR_EQUALS => list_extremes::less_or_equals(av, bv),
+        op::HAS => list_merge::has(ai, bi),
+        op::HASNT => list_merge::hasnt(ai, bi),
+        _ => false,
+    }
+}
+
+fn merge(
+    op: u8,
+    ai: &[u16],
+    av: &[i32],
+    bi: &[u16],
+    bv: &[i32],
+    oi: &mut [u16],
+    ov: &mut [i32],
+) -> usize
+    requires { ⌜ Lent (room (now oi) (now ov)) (now ai) (now av) ⌝ }
+    requires { ⌜ Lent (room (now oi) (now ov)) (now bi) (now bv) ⌝ }
+    ensures { λ r. ⌜ ((limit : ℕ) → Rising limit (list ai av) → Rising limit (list bi bv)
+        → Answers (mergeL limit op (list ai av) (list bi bv)) r oi ov) ⌝ }
+{
+    match op {
+        op::ADD => list_merge::union(ai, av, bi, bv, oi, ov),
+        op::SUBTRACT => list_merge::without(ai, av, bi, oi, ov),
+        op::INTERSECT => list_merge::intersect(ai, av, bi, oi, ov),
+        _ => 0,
+    }
+}
+
+fn unary(
+    op: u8,
+    ai: &[u16],
+    av: &[i32],
+    set: u64,
+    ends: &[u16],
+    defined: &[i32],
+    oi: &mut [u16],
+    ov: &mut [i32],
+) -> usize
+    requires { ⌜ Tables (now ends) (now defined) × Lent itemNumbers (now ai) (now av) ⌝ }
+    requires { ⌜ (1 ≤ room (now oi) (now ov)) × (length (now defined) ≤ room (now oi) (now ov)) ⌝ }
+    ensures { λ r. ⌜ Answers (unaryL (now (ends .entry)) (now (defined .entry)) op set (list ai av)) r oi ov ⌝ }
+{
+    match op {
+        op::LIST_MIN => list_extremes::list_min(ai, av, oi, ov),
+        op::LIST_MAX => list_extremes::list_max(ai, av, oi, ov),
+        op::ALL => list_definitions::all(set, ends, defined, oi, ov),
+        op::INVERT => list_definitions::invert(ai, set, ends, defined, oi, ov),
+        _ => 0,
+    }
+}
+
+fn shift(
+    op: u8,
+    ai: &[u16],
+    av: &[i32],
+    by: i32,
+    set: u64,
+    ends: &[u16],
+    defined: &[i32],
+    oi: &mut [u16],
+    ov: &mut [i32],
+) -> usize
+    requires { ⌜ Tables (now ends) (now defined) × Lent itemNumbers (now ai) (now av) ⌝ }
+    requires { ⌜ length (now defined) ≤ room (now oi) (now ov) ⌝ }
+    ensures { λ r. ⌜ Answers (shiftL (now (ends .entry)) (now (defined .entry)) op set by (list ai av)) r oi ov ⌝ }
+{
+    match op {
+        op::ADD => list_increment::increment(ai, av, by, set, ends, defined, oi, ov),
+        op::SUBTRACT => list_increment::decrement(ai, av, by, set, ends, defined, oi, ov),
+        _ => 0,
+    }
+}
+
+// The tests on the entries of two lists.
+pub fn test_held(
+    op: u8,
+    i: usize,
+    m: usize,
+    j: usize,
+    n: usize,
+    items: &[u16],
+    values: &[i32],
+) -> bool
+    requires { ⌜ Spans itemNumbers (now items) (now values) i m × Spans itemNumbers (now items) (now values) j n ⌝ }
+    ensures { λ r. ⌜ r ≡ testL op (entriesIn items values i m) (entriesIn items values j n) ⌝ }
+{
+    let e = i + m;
+    let f = j + n;
+    test_entries(op, &items[i..e], &values[i..e], &items[j..f], &values[j..f])
+}
+
+// The list of the first n entries of the output, with its items' origins.
+fn located(n: usize, items: &[u16], ends: &[u16]) -> Outcome
+    requires { ⌜ (n ≤ length (now items)) × Ascends 0 itemNumbers (take n (now items)) × (length (now ends) ≤ 64) ⌝ }
+    ensures { λ r. ⌜ r ≡ Out.Value (Is.List (originsOf (now (ends .entry)) (take n (now (items .entry)))) 0 n) ⌝ }
+{
+    let origins = list_definitions::origins_of(&items[..n], ends);
+    Outcome::Value(Value::List {
+        origins,
+        start: 0,
+        len: n,
+    })
+}
+
+// ListMin, ListMax, All, Invert.
+fn list1(
+    op: u8,
+    a: Value,
+    items: &[u16],
+    values: &[i32],
+    ends: &[u16],
+    defined: &[i32],
+    limit: usize,
+    oi: &mut [u16],
+    ov: &mut [i32],
+) -> Outcome
+    requires { ⌜ Room (definitions (now ends) (now defined) limit) (now oi) (now ov) ⌝ }
+    requires { ⌜ Formed limit (now items) (now values) a ⌝ }
+    ensures { λ r. ⌜ Gives (listAnswer (definitionsIn ends defined limit) op (valIn items values a ∷ [])) r oi ov ⌝ }
+{
+    let i = ink_value::start_of(a);
+    let m = ink_value::len_of(a);
+    let set = ink_value::origins_in(a);
+    let e = i + m;
+    let n = unary(op, &items[i..e], &values[i..e], set, ends, defined, oi, ov);
+    located(n, oi, ends)
+}
+
+// Add, Subtract and Intersect of two lists.
+fn list_list(
+    op: u8,
+    a: Value,
+    b: Value,
+    items: &[u16],
+    values: &[i32],
+    ends: &[u16],
+    defined: &[i32],
+    limit: usize,
+    oi: &mut [u16],
+    ov: &mut [i32],
+) -> Outcome
+    requires { ⌜ Room (definitions (now ends) (now defined) limit) (now oi) (now ov) ⌝ }
+    requires { ⌜ Formed limit (now items) (now values) a × Formed limit (now items) (now values) b ⌝ }
+    requires { ⌜ codeOfValue b ≡ codeOf listK ⌝ }
+    ensures { λ r. ⌜ Gives (listAnswer (definitionsIn ends defined limit) op (valIn items values a ∷ valIn items values b ∷ [])) r oi ov ⌝ }
+{
+    let i = ink_value::start_of(a);
+    let m = ink_value::len_of(a);
+    let j = ink_value::start_of(b);
+    let k = ink_value::len_of(b);
+    let e = i + m;
+    let f = j + k;
+    let n = merge(
+        op,
+        &items[i..e],
+        &values[i..e],
+        &items[j..f],
+        &values[j..f],
+        oi,
+        ov,
+    );
+    located(n, oi, ends)
+}
+
+// Add and Subtract of a list and an Int.
+fn list_int(
+    op: u8,
+    a: Value,
+    b: Value,
+    items: &[u16],
+    values: &[i32],
+    ends: &[u16],
+    defined: &[i32],
+    limit: usize,
+    oi: &mut [u16],
+    ov: &mut [i32],
+) -> Outcome
+    requires { ⌜ Room (definitions (now ends) (now defined) limit) (now oi) (now ov) ⌝ }
+    requires { ⌜ Formed limit (now items) (now values) a × Formed limit (now items) (now values) b ⌝ }
+    requires { ⌜ (codeOfValue b ≡ codeOf listK → ⊥) ⌝ }
+    ensures { λ r. ⌜ Gives (listAnswer (definitionsIn ends defined limit) op (valIn items values a ∷ valIn items values b ∷ [])) r oi ov ⌝ }
+{
+    let i = ink_value::start_of(a);
+    let m = ink_value::len_of(a);
+    let set = ink_value::origins_in(a);
+    let by = ink_value::to_int(b, values);
+    let e = i + m;
+    let n = shift(
+        op,
+        &items[i..e],
+        &values[i..e],
+        by,
+        set,
+        ends,
+        defined,
+        oi,
+        ov,
+    );
+    located(n, oi, ends)
+}
+
+fn list2(
+    op: u8,
+    a: Value,
+    b: Value,
+    items: &[u16],
+    values: &[i32],
+    ends: &[u16],
+    defined: &[i32],
+    limit: usize,
+    oi: &mut [u16],
+    ov: &mut [i32],
+) -> Outcome
+    requires { ⌜ Room (definitions (now ends) (now defined) limit) (now oi) (now ov) ⌝ }
+    requires { ⌜ Formed limit (now items) (now values) a × Formed limit (now items) (now values) b ⌝ }
+    ensures { λ r. ⌜ Gives (listAnswer (definitionsIn ends defined limit) op (valIn items values a ∷ valIn items values b ∷ [])) r oi ov ⌝ }
+{
+    if ink_value::kind(b) == kind_code::LIST {
+        return list_list(op, a, b, items, values, ends, defined, limit, oi, ov);
+    }
+    list_int(op, a, b, items, values, ends, defined, limit, oi, ov)
+}
+
+// Range, its first operand a list.
+fn list3(
+    op: u8,
+    a: Value,
+    b: Value,
+    c: Value,
+    items: &[u16],
+    values: &[i32],
+    ends: &[u16],
+    defined: &[i32],
+    limit: usize,
+    oi: &mut [u16],
+    ov: &mut [i32],
+) -> Outcome
+    requires { ⌜ Room (definitions (now ends) (now defined) limit) (now oi) (now ov) ⌝ }
+    requires { ⌜ Formed limit (now items) (now values) a × Formed limit (now items) (now values) b ⌝ }
+    requires { ⌜ Formed limit (now items) (now values) c ⌝ }
+    ensures { λ r. ⌜ Gives (listAnswer (definitionsIn ends defined limit) op (firstIn items values 3 a b c)) r oi ov ⌝ }
+{
+    let i = ink_value::start_of(a);
+    let m = ink_value::len_of(a);
+    let lower = ink_value::lower_bound(b, values);
+    let upper = ink_value::upper_bound(c, values);
+    let e = i + m;
+    let n = list_extremes::range(&items[i..e], &values[i..e], lower, upper, oi, ov);
+    located(n, oi, ends)
+}
+
+// A result that is a List, written from the start of the two output slices.
+pub fn list(
+    op: u8,
+    count: usize,
+    a: Value,
+    b: Value,
+    c: Value,
+    items: &[u16],
+    values: &[i32],
+    ends: &[u16],
+    defined: &[i32],
+    limit: usize,
+    oi: &mut [u16],
+    ov: &mut [i32],
+) -> Outcome
+    requires { ⌜ Room (definitions (now ends) (now defined) limit) (now oi) (now ov) ⌝ }
+    requires { ⌜ FirstFormed limit (now items) (now values) count a b c ⌝ }
+    requires { ⌜ (1 ≤ count) × (count ≤ 3) ⌝ }
+    ensures { λ r. ⌜ Gives (listAnswer (definitionsIn ends defined limit) op (firstIn items values count a b c)) r oi ov ⌝ }
+{
+    if count == 1 {
+        return list1(op, a, items, values, ends, defined, limit, oi, ov);
+    }
+    if count == 2 {
+        return list2(op, a, b, items, values, ends, defined, limit, oi, ov);
+    }
+    list3(op, a, b, c, items, values, ends, defined, limit, oi, ov)
+}

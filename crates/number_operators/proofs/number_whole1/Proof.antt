@@ -1,0 +1,94 @@
+-- `number_operators::number_whole1` meets its contract: each arm is its operator's case of the definition. Assumes nothing.
+use mathlib.Core.Path.{refl, ap, _∙_, _≡_}
+use mathlib.Core.Bool.{Bool, true, false, cond, not}
+use lib.Dec.{eqb}
+use lib.IntN.{ℤ, pos, negℤ}
+use lib.Ieee.{Float}
+use lib.ListN.{length}
+use Prim.Native.Nat.{ℕ}
+use borrow.Author.Tests.{ne-eqb}
+use Rattle.ink_number.specs.Int.{wrap}
+use Rattle.ink_number.proofs.Signed.{read, returned}
+use Rattle.ink_value.specs.Val.{int, float}
+use Rattle.ink_value.specs.Convert.{bitZ, asInt, truthy, entriesOf}
+use Rattle.ink_value.specs.Value.{numberOf}
+use Rattle.ink_value.proofs.Chosen.{at}
+use Rattle.number_operators.specs.Numbers.{wholeUnary}
+use borrow.Author.Needs.{needs}
+use Rattle.number_operators.proofs.number_whole1.Statement.{statement}
+use Rattle.number_operators.proofs.number_whole1.Tie as tie
+
+-- a number has no entries
+uncounted : (k : ℕ) (z : ℤ) (x : Float) (t : Bool) → pos 0 ≡ cond t (pos (length (entriesOf (numberOf k z x)))) (pos 0)
+uncounted k z x true = go (eqb k 2)
+  where
+    go : (s : Bool) → pos 0 ≡ pos (length (entriesOf (cond s (float x) (int z))))
+    go true = refl
+    go false = refl
+uncounted k z x false = refl
+
+number-int-requires : tie.Need-number-int-requires
+number-int-requires c κs = search needs
+
+wrapping-neg-requires : tie.Need-wrapping-neg-requires
+wrapping-neg-requires c κs = search needs
+
+number-truth-requires : tie.Need-number-truth-requires
+number-truth-requires c κs = search needs
+
+bit-requires : tie.Need-bit-requires
+bit-requires c κs = search needs
+
+number-int-requires-2 : tie.Need-number-int-requires-2
+number-int-requires-2 c κs = search needs
+
+number-int-requires-3 : tie.Need-number-int-requires-3
+number-int-requires-3 c κs = search needs
+
+returns : tie.Need-returns
+unfolding wholeUnary
+returns c =
+    let s = c .before .before .before in
+    at (λ p. wholeUnary p (numberOf (s .args .ka) (s .args .za) (s .args .xa))) (c .before .before .match .keys1)
+    (returned (c .wrapping-neg .ok) ∙ c .wrapping-neg .ensures ∙ ap (λ (z : ℤ). wrap (negℤ z)) (returned (c .before .number-int .ok) ∙ c .before .number-int .ensures ∙ read (λ (z : ℤ). asInt (numberOf (s .args .ka) z (s .args .xa))) (s .args .za) (s .fits .za)))
+
+returns-2 : tie.Need-returns-2
+unfolding wholeUnary
+returns-2 c =
+    let s = c .before .before .before in
+    at (λ p. wholeUnary p (numberOf (s .args .ka) (s .args .za) (s .args .xa))) (c .before .before .match .keys2)
+    (returned (c .bit .ok) ∙ c .bit .ensures ∙ ap (λ (t : Bool). bitZ (not t)) (c .before .number-truth .ensures ∙ read (λ (z : ℤ). truthy (numberOf (s .args .ka) z (s .args .xa))) (s .args .za) (s .fits .za)))
+
+returns-3 : tie.Need-returns-3
+unfolding wholeUnary
+returns-3 c =
+    let s = c .before .before in
+    at (λ p. wholeUnary p (numberOf (s .args .ka) (s .args .za) (s .args .xa))) (c .before .match .keys3) (returned (c .number-int2 .ok) ∙ c .number-int2 .ensures ∙ read (λ (z : ℤ). asInt (numberOf (s .args .ka) z (s .args .xa))) (s .args .za) (s .fits .za))
+
+returns-4 : tie.Need-returns-4
+unfolding wholeUnary
+returns-4 c =
+    let s = c .before .before in
+    at (λ p. wholeUnary p (numberOf (s .args .ka) (s .args .za) (s .args .xa))) (c .before .match .keys4) (returned (c .number-int3 .ok) ∙ c .number-int3 .ensures ∙ read (λ (z : ℤ). asInt (numberOf (s .args .ka) z (s .args .xa))) (s .args .za) (s .fits .za))
+
+returns-5 : tie.Need-returns-5
+unfolding wholeUnary
+returns-5 c =
+    let s = c .before in
+    rw (ne-eqb _ _ (c .match .rest .0 .0 .0 .1), ne-eqb _ _ (c .match .rest .0 .0 .1), ne-eqb _ _ (c .match .rest .0 .1), ne-eqb _ _ (c .match .rest .1)) (uncounted (s .args .ka) (s .args .za) (s .args .xa) (eqb (s .args .op) 28))
+
+pub number-whole1-spec : {M : Type 1} → statement M
+number-whole1-spec =
+    tie.close
+    (tie.spec
+    number-int-requires
+    wrapping-neg-requires
+    number-truth-requires
+    bit-requires
+    number-int-requires-2
+    number-int-requires-3
+    returns
+    returns-2
+    returns-3
+    returns-4
+    returns-5)

@@ -1,0 +1,2 @@
+-- What the operators answer on numbers.
+pub mod Numbers
