@@ -1,14 +1,3 @@
 pub mod Magnitude
 pub mod Nans
 pub mod Truncation
-pub mod Known
-pub mod Binary32
-pub mod Values
-pub mod Grid
-pub mod Rounds
-pub mod Unique
-pub mod Sums
-pub mod Remainder
-pub mod Orders
-pub mod Fields
-pub mod Meets

@@ -1,3 +1,1 @@
 pub mod Real
-pub mod Known
-pub mod Rounding

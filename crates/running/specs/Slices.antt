@@ -19,6 +19,7 @@ use Rattle.machine.specs.Whole.{askedSeven, askedSix, opened}
 use Rattle.running.specs.Run.{longEnough, runMemory, RanTo, runOf, Runs}
 use Rattle.running.specs.Work.{Worked}
 use Rattle.running.specs.declared.Ran.{Ran}
+use Rattle.list_operators.specs.Lists.{definitionsIn}
 
 -- ---- the work
 

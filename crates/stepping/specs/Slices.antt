@@ -16,6 +16,7 @@ use Rattle.pack.specs.declared.format.Format.{Format}
 use Rattle.machine.specs.Machine.{step, valuePushed}
 use Rattle.stepping.specs.Steps.{Steps, Operands}
 use Rattle.operating.specs.declared.Step.{Step}
+use Rattle.list_operators.specs.Lists.{definitionsIn}
 
 -- an operator's operands are the topmost of a stack of n whose values, from below, are those of f
 abbrev pub OperandsIn : Slice ℕ → Slice ℤ → Value → Value → Value → ℕ → ℕ → (ℕ → Val) → Type 0

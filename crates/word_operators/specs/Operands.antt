@@ -15,6 +15,7 @@ use Rattle.calls.specs.Call.{operandsOk}
 use Rattle.value_words.specs.Words.{unheld, valueAt, codeAt}
 use Rattle.value_words.specs.Calls.{operandsIn}
 use Rattle.kind_table.specs.Op.{opInvert}
+use Rattle.list_operators.specs.Lists.{definitions}
 
 -- the words of the first n operands are a value's
 pub record Held (ws : List ℕ) (n : ℕ) : Type 0 where

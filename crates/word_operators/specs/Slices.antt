@@ -12,6 +12,7 @@ use Rattle.calls.specs.Slices.{calledIn}
 use Rattle.value_words.specs.Calls.{operandsIn}
 use Rattle.value_words.specs.Slices.{SaysIn, CallsIn}
 use Rattle.word_operators.specs.Operands.{twoAt, valsAt}
+use Rattle.list_operators.specs.Lists.{definitionsIn}
 
 -- an operator's result of a kind on the first n of two numbers: no slice and no definitions are looked at
 abbrev pub NumberSays : ℕ → ℕ → ℕ → Slice ℕ → ℕ → Slice ℕ → Type 0

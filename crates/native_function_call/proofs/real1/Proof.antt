@@ -40,7 +40,7 @@ returns-2 c =
 
 returns-3 : tie.Need-returns-3
 unfolding realUnary
-returns-3 c = λ is h. rw (ne-eqb _ _ (c .before .match .rest .0 .1), ne-eqb _ _ (c .before .match .rest .1)) (c .int-to-float .ensures)
+returns-3 c = λ is h. rw (ne-eqb _ _ (c .before .match .rest .0 .1), ne-eqb _ _ (c .before .match .rest .1)) (c .int-to-float .ensures .0)
 
 pub real1-spec : {M : Type 1} → statement M
 real1-spec =
