@@ -1,4 +1,5 @@
--- The laws of the boundary.
+-- The laws of the boundary; Foretold has demand 3 in its words.
 mod Clearing
 mod Ending
 mod Duties
+pub mod Foretold
