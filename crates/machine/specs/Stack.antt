@@ -1,4 +1,5 @@
 -- A stack that is held in an array, from below. Assumes nothing.
+-- For inner steps alone: no entry point's contract cites it.
 use mathlib.Core.List.{List, [], _∷_}
 use Prim.Native.Nat.{ℕ, zero, suc}
 

@@ -1,5 +1,6 @@
 -- The words of the contracts of an operator, of lent slices. In an `ensures` a slice is what it was at entry and what it is at exit.
 -- Assumes nothing.
+-- For inner steps alone: no entry point's contract cites it.
 use mathlib.Core.List.{List}
 use Prim.Native.Nat.{ℕ}
 use denote.Ref.{now}

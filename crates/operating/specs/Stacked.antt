@@ -1,5 +1,6 @@
 -- The words of the contracts: work slices, a value put at a place of two slices, and an operator's answer put at a place of the stack.
 -- Assumes nothing.
+-- For inner steps: no entry point's contract cites it, but for `workLimit`.
 use mathlib.Core.Path.{_≡_}
 use mathlib.Core.List.{List, [], _∷_}
 use Prim.Native.Nat.{ℕ, _*_, _≤_, _<_}

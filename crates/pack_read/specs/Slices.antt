@@ -1,4 +1,5 @@
 -- The words of the contracts for slices that a pack's parts are read into, each as it was at entry and as it is at exit. Assumes nothing.
+-- For inner steps alone: no entry point's contract cites it.
 use mathlib.Core.Path.{_≡_}
 use mathlib.Core.List.{List}
 use Prim.Native.Nat.{ℕ}

@@ -1,4 +1,5 @@
 -- The work slices cleared after a run. Assumes nothing.
+-- For inner steps alone: no entry point's contract cites it.
 use mathlib.Core.Path.{_≡_}
 use mathlib.Core.List.{List}
 use Prim.Native.Nat.{ℕ, zero, suc}

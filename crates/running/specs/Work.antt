@@ -1,5 +1,6 @@
 -- The words of the inner contracts: the places of the work slices that a run has used, and how the work ends.
 -- Assumes nothing.
+-- For inner steps alone: no entry point's contract cites it.
 use mathlib.Core.Path.{_≡_}
 use mathlib.Core.List.{List}
 use Prim.Native.Nat.{ℕ, _≤_, _<_}

@@ -1,4 +1,5 @@
 -- The words of the contracts: what a run goes by, and one step on a stack that is held in an array. Assumes nothing.
+-- For inner steps: no entry point's contract cites it, but for `Inputs`, which `run_checked` asks.
 use mathlib.Core.Path.{_≡_}
 use mathlib.Core.Bool.{false}
 use mathlib.Core.List.{List, _∷_}
