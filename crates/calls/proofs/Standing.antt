@@ -14,7 +14,7 @@ use Rattle.ink_value.specs.Convert.{asInt, asFloat, coerceBool, coerceInt, coer
 use Rattle.ink_value.specs.Value.{valOf, placed, outcomeOf, Gave}
 use Rattle.ink_value.specs.declared.Outcome.{Outcome}
 use Rattle.ink_value.specs.declared.Value.{Value}
-use Rattle.ink_value.proofs.Results.{read-back}
+use Rattle.ink_value.proofs.ReadBack.{read-back}
 use Rattle.pack.specs.Bodies.{Pack}
 use Rattle.pack.specs.Judge.{judge}
 use Rattle.pack.specs.Read.{definitionsOf}

@@ -10,7 +10,7 @@ use Rattle.slices.specs.Every.{_and_}
 use Rattle.ink_list.specs.Entries.{formed, formedLent}
 use Rattle.slices.proofs.Every.{and-left, and-right, and-no-left, and-no-right}
 use Rattle.ink_list.proofs.Formed.{ascends-sound}
-use Rattle.ink_list.proofs.Results.{ascends-limit}
+use Rattle.ink_list.proofs.Wrote.{ascends-limit}
 use Rattle.slices.specs.Filled.{part}
 use Rattle.ink_value.specs.Value.{startOf, lenOf, setIn, Formed, formedIn}
 use Rattle.ink_value.specs.declared.Value.{Value}

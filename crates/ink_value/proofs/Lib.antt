@@ -1,8 +1,8 @@
 -- The laws that the functions' proofs, and those of crates above, cite.
-pub mod Chosen
+pub mod Arms
 pub mod Reading
 pub mod Parts
 pub mod Given
 pub mod Casting
-pub mod Results
+pub mod ReadBack
 pub mod Forming

@@ -12,7 +12,7 @@ use Rattle.ink_value.specs.Value.{valOf, codeOfValue, startOf, lenOf, se
 use Rattle.slices.specs.Filled.{part}
 use Rattle.ink_value.specs.declared.Value.{Value}
 use Rattle.slices.proofs.Filled.{length-part}
-use Rattle.ink_list.proofs.Results.{lent-limit}
+use Rattle.ink_list.proofs.Wrote.{lent-limit}
 use Rattle.ink_list.proofs.Laws.{rising-length}
 use Rattle.ink_list.proofs.Rests.{values-entries, length-entries, of-lent}
 use Rattle.ink_value.specs.declared.Value.the-variants as Is

@@ -3,7 +3,7 @@ pub mod DefLaws
 pub mod OriginLaws
 pub mod Order
 pub mod Raised
-pub mod Chosen
+pub mod IncrementSearch
 pub mod TargetLaws
-pub mod Results
+pub mod AnswersFormed
 mod Known

@@ -23,7 +23,7 @@ use Rattle.slices.proofs.Lists.{drop-at}
 use Rattle.ink_list.proofs.Rests.{rest}
 use Rattle.list_definitions.proofs.DefLaws.{ends-here, ends-below, onward, onward-start, onward-ext, onward-skip, onward-split}
 use Rattle.list_definitions.proofs.Raised.{length-raised, raised-part}
-use Rattle.list_definitions.proofs.Chosen.{pick, chosen-items}
+use Rattle.list_definitions.proofs.IncrementSearch.{pick, chosen-items}
 
 -- ---- a search among numbers
 

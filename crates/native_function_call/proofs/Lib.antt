@@ -1,5 +1,5 @@
 pub mod Agree
-pub mod Reading
+pub mod InParts
 pub mod Results
 pub mod Known
 pub mod Calling

@@ -16,7 +16,7 @@ use Rattle.list_operators.specs.Lists.{mergeL, shiftL, listBinary, entriesFor, 
 use Rattle.native_function_call.specs.Apply.{compute, guarded, applyOp}
 use Rattle.ink_value.specs.Value.{written, AllWf}
 use Rattle.list_operators.proofs.Listing.{Fine, none-fine, merge-fine, shift-fine, range-fine, unary-fine}
-use Rattle.ink_value.proofs.Results.{entries-wf}
+use Rattle.ink_value.proofs.ReadBack.{entries-wf}
 use Rattle.native_function_call.proofs.Calling.{whole-none}
 
 -- ---- well formed

@@ -18,7 +18,7 @@ use Rattle.ink_value.specs.declared.Value.the-variants as Is
 use Rattle.ink_value.specs.declared.Outcome.{Outcome}
 use Rattle.ink_value.specs.declared.Outcome.the-variants as Out
 use Rattle.ink_value.proofs.Reading.{lends-held, list-in, len-in, entries-in, rising-in}
-use Rattle.ink_value.proofs.Results.{read-back, formed-back}
+use Rattle.ink_value.proofs.ReadBack.{read-back, formed-back}
 use Rattle.pack.specs.declared.format.Format.{Format}
 use Rattle.machine.specs.Machine.{stackLimit}
 use Rattle.operating.specs.Stacked.{workLimit, placedAt, Put, startAt, Answered}

@@ -11,7 +11,7 @@ use Rattle.ink_value.specs.Convert.{entriesOf}
 use Rattle.ink_value.specs.Value.{valOf, placedVal, Gave}
 use Rattle.ink_value.specs.declared.Value.{Value}
 use Rattle.ink_value.specs.declared.Outcome.the-variants as Out
-use Rattle.ink_value.proofs.Results.{read-back}
+use Rattle.ink_value.proofs.ReadBack.{read-back}
 use Rattle.list_operators.specs.Lists.{definitions}
 use Rattle.pack.specs.Bodies.{decoded}
 use Rattle.pack.specs.declared.format.Format.{Format}

@@ -17,7 +17,7 @@ use Rattle.slices.specs.Filled.{fill, Outside}
 use Rattle.slices.proofs.Filled.{length-fill, part-filled, part-before, getD-outside}
 use Rattle.ink_list.proofs.Laws.{lt-or-le, rising-length}
 use Rattle.ink_list.proofs.Output.{length-items, length-values}
-use Rattle.ink_list.proofs.Results.{entries-of}
+use Rattle.ink_list.proofs.Wrote.{entries-of}
 use Rattle.ink_value.specs.Val.{Val, bool, int, float, list, void}
 use Rattle.ink_value.specs.Convert.{entriesOf}
 use Rattle.ink_value.specs.Value.{valOf, startOf, lenOf, Formed}

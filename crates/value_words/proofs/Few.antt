@@ -21,7 +21,7 @@ use Rattle.ink_value.specs.Value.{valOf, eachFormed, written, placed, Wf, AllWf
 use Rattle.ink_value.specs.declared.Value.{Value}
 use Rattle.ink_value.specs.declared.Outcome.{Outcome}
 use Rattle.ink_value.proofs.Forming.{formed-yes}
-use Rattle.ink_value.proofs.Results.{entries-wf, wf-of}
+use Rattle.ink_value.proofs.ReadBack.{entries-wf, wf-of}
 use Rattle.native_function_call.specs.Apply.{call, applyOp}
 use Rattle.kind_table.specs.Kinds.{known, arity}
 use Rattle.list_operators.specs.Lists.{definitions}

@@ -1,5 +1,5 @@
 -- The laws of values as words, and of calls on them.
-pub mod Reading
+pub mod Unheld
 pub mod Round
 pub mod Saying
 pub mod Few

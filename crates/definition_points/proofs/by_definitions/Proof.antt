@@ -4,7 +4,7 @@ use borrow.Author.Tests.{not-false}
 use Rattle.ink_list.proofs.Formed.{formed-sound}
 use native.Mathlib.Omega.{arith}
 use Rattle.ink_list.specs.Entries.{itemNumbers}
-use Rattle.ink_list.proofs.Results.{lent-limit}
+use Rattle.ink_list.proofs.Wrote.{lent-limit}
 use borrow.Author.Needs.{needs}
 use Rattle.definition_points.proofs.by_definitions.Statement.{statement}
 use Rattle.definition_points.proofs.by_definitions.Tie as tie

@@ -1,7 +1,7 @@
 -- `definition_points::show_increment` is safe: it meets what it calls for. Assumes nothing.
 use native.Mathlib.Omega.{arith}
 use Rattle.ink_list.specs.Entries.{itemNumbers}
-use Rattle.ink_list.proofs.Results.{lent-limit}
+use Rattle.ink_list.proofs.Wrote.{lent-limit}
 use borrow.Author.Needs.{needs}
 use Rattle.definition_points.proofs.show_increment.Statement.{statement}
 use Rattle.definition_points.proofs.show_increment.Tie as tie

@@ -2,7 +2,7 @@
 use mathlib.Core.Path.{refl}
 use borrow.Author.Tests.{ne-eqb}
 use Rattle.ink_value.specs.Convert.{castable}
-use Rattle.ink_value.proofs.Chosen.{at}
+use Rattle.ink_value.proofs.Arms.{at}
 use Rattle.ink_value.proofs.castable.Statement.{statement}
 use Rattle.ink_value.proofs.castable.Tie as tie
 

@@ -18,7 +18,7 @@ use Rattle.ink_list.proofs.Rests.{rest, of-lent}
 use Rattle.ink_list.proofs.Output.{Writing, begin, appended, fits, turn, kept, done}
 use Rattle.list_definitions.proofs.Raised.{length-raised, raised-entries}
 use Rattle.list_definitions.proofs.DefLaws.{onward, onward-end, ends-done}
-use Rattle.list_definitions.proofs.Chosen.{chosen-length}
+use Rattle.list_definitions.proofs.IncrementSearch.{chosen-length}
 use Rattle.list_definitions.proofs.TargetLaws.{targetFrom, retarget-length, retarget-start, cursor-on, low-on, numbered-on, rising-on, step-out, step-in}
 use Rattle.list_increment.proofs.increment.Statement.{statement}
 use Rattle.list_increment.proofs.increment.Tie as tie

@@ -5,7 +5,7 @@ use borrow.Author.Tests.{ne-eqb}
 use Rattle.ink_list.specs.Entries.{entries}
 use Rattle.list_operators.specs.Lists.{testL}
 use Rattle.list_operators.proofs.Listing.{by-values, by-items}
-use Rattle.ink_value.proofs.Chosen.{at}
+use Rattle.ink_value.proofs.Arms.{at}
 use Rattle.ink_list.specs.Ops.{has, hasnt, greater, greaterOrEquals, less, lessOrEquals}
 use Rattle.list_operators.proofs.test_entries.Statement.{statement}
 use Rattle.list_operators.proofs.test_entries.Tie as tie

@@ -4,7 +4,7 @@ use borrow.Author.Tests.{not-false}
 use Rattle.ink_list.proofs.Formed.{formed-sound}
 use native.Mathlib.Omega.{arith}
 use Rattle.ink_list.specs.Entries.{itemNumbers}
-use Rattle.ink_list.proofs.Results.{lent-limit}
+use Rattle.ink_list.proofs.Wrote.{lent-limit}
 use borrow.Author.Needs.{needs}
 use Rattle.list_points.proofs.pair.Statement.{statement}
 use Rattle.list_points.proofs.pair.Tie as tie

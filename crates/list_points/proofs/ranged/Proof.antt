@@ -3,7 +3,7 @@ use mathlib.Core.Path.{sym, _∙_}
 use borrow.Author.Tests.{not-false}
 use Rattle.ink_list.proofs.Formed.{formed-sound}
 use native.Mathlib.Omega.{arith}
-use Rattle.ink_list.proofs.Results.{lent-limit}
+use Rattle.ink_list.proofs.Wrote.{lent-limit}
 use borrow.Author.Needs.{needs}
 use Rattle.list_points.proofs.ranged.Statement.{statement}
 use Rattle.list_points.proofs.ranged.Tie as tie

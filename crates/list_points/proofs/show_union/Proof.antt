@@ -1,6 +1,6 @@
 -- `list_points::show_union` is safe: it meets what it calls for. Assumes nothing.
 use native.Mathlib.Omega.{arith}
-use Rattle.ink_list.proofs.Results.{lent-limit}
+use Rattle.ink_list.proofs.Wrote.{lent-limit}
 use borrow.Author.Needs.{needs}
 use Rattle.list_points.proofs.show_union.Statement.{statement}
 use Rattle.list_points.proofs.show_union.Tie as tie

@@ -6,7 +6,7 @@ use Rattle.ink_number.proofs.Signed.{read}
 use Rattle.ink_float.specs.Real.{negF}
 use Rattle.ink_value.specs.Convert.{asFloat}
 use Rattle.ink_value.specs.Value.{ofParts}
-use Rattle.ink_value.proofs.Chosen.{at}
+use Rattle.ink_value.proofs.Arms.{at}
 use Rattle.number_operators.specs.Numbers.{realUnary}
 use borrow.Author.Needs.{needs}
 use Rattle.native_function_call.proofs.real1.Statement.{statement}

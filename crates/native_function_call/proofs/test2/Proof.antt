@@ -6,7 +6,7 @@ use Rattle.ink_value.specs.Val.{Kind, kindAt}
 use Rattle.ink_value.specs.Value.{ofParts}
 use Rattle.slices.proofs.Lists.{ap2}
 use Rattle.native_function_call.specs.Apply.{testAs, testLists}
-use Rattle.native_function_call.proofs.Reading.{test-other, common-parts}
+use Rattle.native_function_call.proofs.InParts.{test-other, common-parts}
 use Rattle.ink_value.specs.Convert.{asInt, asFloat}
 use Rattle.number_operators.specs.Numbers.{testZ, testF}
 use borrow.Author.Needs.{needs}

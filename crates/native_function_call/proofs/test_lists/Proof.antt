@@ -7,10 +7,10 @@ use Rattle.slices.proofs.Lists.{ap2}
 use lib.IntN.{ℤ}
 use Rattle.ink_number.proofs.Signed.{read}
 use Rattle.ink_value.specs.Convert.{truthy}
-use Rattle.ink_value.proofs.Chosen.{at}
+use Rattle.ink_value.proofs.Arms.{at}
 use Rattle.list_operators.specs.Lists.{testL}
 use Rattle.native_function_call.specs.Apply.{testLists}
-use Rattle.native_function_call.proofs.Reading.{parts-entries, spans-cut}
+use Rattle.native_function_call.proofs.InParts.{parts-entries, spans-cut}
 use borrow.Author.Needs.{needs}
 use Rattle.native_function_call.proofs.test_lists.Statement.{statement}
 use Rattle.native_function_call.proofs.test_lists.Tie as tie

@@ -8,9 +8,9 @@ use Rattle.ink_number.specs.Int.{wrap}
 use Rattle.ink_number.proofs.Signed.{read, back32, returned}
 use Rattle.ink_value.specs.Convert.{bitZ, asInt, truthy}
 use Rattle.ink_value.specs.Value.{ofParts}
-use Rattle.ink_value.proofs.Chosen.{at}
+use Rattle.ink_value.proofs.Arms.{at}
 use Rattle.number_operators.specs.Numbers.{wholeUnary}
-use Rattle.native_function_call.proofs.Reading.{len-le, parts-length}
+use Rattle.native_function_call.proofs.InParts.{len-le, parts-length}
 use borrow.Author.Needs.{needs}
 use Rattle.native_function_call.proofs.whole1.Statement.{statement}
 use Rattle.native_function_call.proofs.whole1.Tie as tie

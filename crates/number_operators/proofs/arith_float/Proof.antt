@@ -2,7 +2,7 @@
 use borrow.Author.Needs.{needs}
 use borrow.Author.Tests.{ne-eqb}
 use Rattle.number_operators.specs.Numbers.{arithF}
-use Rattle.ink_value.proofs.Chosen.{at}
+use Rattle.ink_value.proofs.Arms.{at}
 use Rattle.number_operators.proofs.arith_float.Statement.{statement}
 use Rattle.number_operators.proofs.arith_float.Tie as tie
 

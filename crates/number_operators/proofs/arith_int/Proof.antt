@@ -4,7 +4,7 @@ use mathlib.Core.Path.{ap, _∙_}
 use lib.IntN.{ℤ, _+ℤ_, _-ℤ_, _*ℤ_}
 use borrow.Author.Tests.{ne-eqb}
 use Rattle.number_operators.specs.Numbers.{arithZ}
-use Rattle.ink_value.proofs.Chosen.{at}
+use Rattle.ink_value.proofs.Arms.{at}
 use Rattle.ink_number.specs.Int.{wrap, quotient, remainder, minZ, maxZ}
 use Rattle.ink_number.specs.Answer.{gives}
 use Rattle.ink_number.proofs.Signed.{read2, returned}

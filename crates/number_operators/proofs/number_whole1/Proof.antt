@@ -12,7 +12,7 @@ use Rattle.ink_number.proofs.Signed.{read, returned}
 use Rattle.ink_value.specs.Val.{int, float}
 use Rattle.ink_value.specs.Convert.{bitZ, asInt, truthy, entriesOf}
 use Rattle.ink_value.specs.Value.{numberOf}
-use Rattle.ink_value.proofs.Chosen.{at}
+use Rattle.ink_value.proofs.Arms.{at}
 use Rattle.number_operators.specs.Numbers.{wholeUnary}
 use borrow.Author.Needs.{needs}
 use Rattle.number_operators.proofs.number_whole1.Statement.{statement}

@@ -2,7 +2,7 @@
 use borrow.Author.Needs.{needs}
 use borrow.Author.Tests.{ne-eqb}
 use Rattle.number_operators.specs.Numbers.{testF}
-use Rattle.ink_value.proofs.Chosen.{at}
+use Rattle.ink_value.proofs.Arms.{at}
 use Rattle.number_operators.proofs.test_float.Statement.{statement}
 use Rattle.number_operators.proofs.test_float.Tie as tie
 

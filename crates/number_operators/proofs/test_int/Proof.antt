@@ -6,7 +6,7 @@ use lib.IntN.{ℤ}
 use lib.Signed.{ltZ, leZ}
 use borrow.Author.Tests.{ne-eqb}
 use Rattle.number_operators.specs.Numbers.{testZ}
-use Rattle.ink_value.proofs.Chosen.{at}
+use Rattle.ink_value.proofs.Arms.{at}
 use Rattle.ink_number.specs.Int.{eqZ, truthyZ}
 use Rattle.ink_number.proofs.Signed.{read, read2}
 use Rattle.number_operators.proofs.test_int.Statement.{statement}

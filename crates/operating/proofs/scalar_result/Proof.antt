@@ -13,7 +13,7 @@ use Rattle.kind_table.proofs.Counting.{kind-other}
 use Rattle.ink_list.specs.Entries.{itemNumbers}
 use Rattle.operating.proofs.Putting.{scalar-put}
 use Rattle.operating.proofs.Operating.{spans-in, operand-in, computes-two, answered-is}
-use Rattle.native_function_call.proofs.Reading.{test-read, whole-read, real-read}
+use Rattle.native_function_call.proofs.InParts.{test-read, whole-read, real-read}
 use borrow.Author.Needs.{needs}
 use Rattle.operating.proofs.scalar_result.Statement.{statement}
 use Rattle.operating.proofs.scalar_result.Tie as tie

@@ -2,7 +2,7 @@
 use mathlib.Core.Path.{refl}
 use lib.ListN.{take}
 use Rattle.ink_value.specs.Val.{listK}
-use Rattle.ink_value.proofs.Results.{first-wf}
+use Rattle.ink_value.proofs.ReadBack.{first-wf}
 use Rattle.list_operators.specs.Lists.{definitions}
 use Rattle.native_function_call.specs.Apply.{compute}
 use Rattle.native_function_call.proofs.Results.{compute-fine}

@@ -13,7 +13,7 @@ use Rattle.number_operators.specs.Numbers.{wholeUnary}
 use Rattle.value_words.specs.Words.{valueAt, wordsOf}
 use Rattle.word_operators.proofs.Operands.{number-is, number-at}
 use Rattle.word_operators.proofs.Said.{said-bool, said-int, said-float}
-use Rattle.native_function_call.proofs.Reading.{truth-number, whole-number, real-number}
+use Rattle.native_function_call.proofs.InParts.{truth-number, whole-number, real-number}
 use borrow.Author.Needs.{needs}
 use Rattle.word_operators.proofs.number1.Statement.{statement}
 use Rattle.word_operators.proofs.number1.Tie as tie

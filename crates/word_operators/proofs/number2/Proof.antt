@@ -8,7 +8,7 @@ use Rattle.word_operators.proofs.Operands.{number-is, number-at}
 use Rattle.word_operators.proofs.Said.{said-bool, said-int, said-float}
 use Rattle.slices.proofs.Lists.{ap2}
 use Rattle.number_operators.specs.Numbers.{arithZ, arithF}
-use Rattle.native_function_call.proofs.Reading.{int-number, float-number, test-numbers}
+use Rattle.native_function_call.proofs.InParts.{int-number, float-number, test-numbers}
 use borrow.Author.Needs.{needs}
 use Rattle.word_operators.proofs.number2.Statement.{statement}
 use Rattle.word_operators.proofs.number2.Tie as tie

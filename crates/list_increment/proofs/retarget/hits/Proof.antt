@@ -9,7 +9,7 @@ use mir.Val.{toZ}
 use Rattle.ink_number.proofs.Signed.{back, read2}
 use Rattle.list_definitions.specs.Search.{among, raised}
 use Rattle.list_definitions.proofs.Raised.{sum-of}
-use Rattle.list_definitions.proofs.Chosen.{hit-yes, hit-no, hit-end}
+use Rattle.list_definitions.proofs.IncrementSearch.{hit-yes, hit-no, hit-end}
 use Rattle.list_definitions.proofs.Order.{bits-same-back, bits-differ-back}
 use Rattle.list_increment.proofs.retarget.hits.Statement.{statement}
 use Rattle.list_increment.proofs.retarget.hits.Tie as tie

@@ -7,7 +7,7 @@ use lib.IntN.{ℤ}
 use Rattle.ink_list.specs.Entries.{Entry, Stored}
 use Rattle.list_definitions.specs.Search.{rises}
 use Rattle.ink_list.proofs.Output.{nothing}
-use Rattle.list_definitions.proofs.Chosen.{stored-read, chosen-empty}
+use Rattle.list_definitions.proofs.IncrementSearch.{stored-read, chosen-empty}
 use Rattle.list_increment.proofs.retarget.retarget.Statement.{statement}
 use Rattle.list_increment.proofs.retarget.retarget.Tie as tie
 

@@ -14,7 +14,7 @@ use Rattle.list_definitions.specs.Search.{raised, risesAbove, rises}
 use Rattle.slices.proofs.Every.{not-both}
 use Rattle.list_definitions.proofs.Raised.{sum-of, ints-more}
 use Rattle.list_definitions.proofs.Order.{le-not-lt, not-le-lt}
-use Rattle.list_definitions.proofs.Chosen.{rises-none, rises-first, rise-yes, rise-no, rise-end}
+use Rattle.list_definitions.proofs.IncrementSearch.{rises-none, rises-first, rise-yes, rise-no, rise-end}
 use Rattle.list_increment.proofs.retarget.rises.Statement.{statement}
 use Rattle.list_increment.proofs.retarget.rises.Tie as tie
 

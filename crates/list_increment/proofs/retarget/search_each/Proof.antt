@@ -15,7 +15,7 @@ use Rattle.ink_number.proofs.Signed.{back, returned}
 use Rattle.list_definitions.specs.Search.{among, raised, chosen}
 use Rattle.list_definitions.proofs.Raised.{ints-more}
 use Rattle.ink_list.proofs.Output.{Writing, begin, turn, has-room, pushed, kept, stored}
-use Rattle.list_definitions.proofs.Chosen.{stored-read, chosen-start, chosen-end, chosen-length, each-yes, each-seen, each-no}
+use Rattle.list_definitions.proofs.IncrementSearch.{stored-read, chosen-start, chosen-end, chosen-length, each-yes, each-seen, each-no}
 use Rattle.list_increment.proofs.retarget.search_each.Statement.{statement}
 use Rattle.list_increment.proofs.retarget.search_each.Tie as tie
 

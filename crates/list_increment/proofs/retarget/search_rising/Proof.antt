@@ -17,7 +17,7 @@ use Rattle.list_definitions.specs.Search.{raised, rises, chosen}
 use Rattle.list_definitions.proofs.Raised.{sum-of}
 use Rattle.list_definitions.proofs.Order.{neither-less}
 use Rattle.ink_list.proofs.Output.{Writing, begin, turn, has-room, pushed, kept, stored}
-use Rattle.list_definitions.proofs.Chosen.{stored-read, matched, rising-matched, chosen-length, on-d, on-v, merge-less, merge-more, merge-same, matched-end, matched-none}
+use Rattle.list_definitions.proofs.IncrementSearch.{stored-read, matched, rising-matched, chosen-length, on-d, on-v, merge-less, merge-more, merge-same, matched-end, matched-none}
 use Rattle.list_increment.proofs.retarget.search_rising.Statement.{statement}
 use Rattle.list_increment.proofs.retarget.search_rising.Tie as tie
 

@@ -1,6 +1,6 @@
 -- `value_words::words::plain_at` meets its contract: each arm at its code. Assumes nothing.
 use borrow.Author.Tests.{ne-eqb}
-use Rattle.ink_value.proofs.Chosen.{at}
+use Rattle.ink_value.proofs.Arms.{at}
 use Rattle.value_words.specs.Words.{plainAt}
 use borrow.Author.Needs.{needs}
 use Rattle.value_words.proofs.words.plain_at.Statement.{statement}

@@ -16,7 +16,7 @@ use Rattle.ink_value.specs.declared.Value.{Value}
 use Rattle.ink_value.specs.declared.Value.the-variants as Is
 use Rattle.ink_value.proofs.Reading.{rising-in}
 use Rattle.ink_list.proofs.Output.{length-items, length-values}
-use Rattle.ink_list.proofs.Results.{read-entries, read-lent}
+use Rattle.ink_list.proofs.Wrote.{read-entries, read-lent}
 use Rattle.ink_list.proofs.Laws.{rising-length}
 
 module _ (A : Answer Val) (r : Outcome) (oi oi′ : List ℕ) (ov ov′ : List ℤ) (g : Gave A r oi oi′ ov ov′) where
