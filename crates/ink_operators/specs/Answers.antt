@@ -14,7 +14,7 @@ use Rattle.pack.specs.Bodies.{Pack, decoded}
 use Rattle.pack.specs.Format.{definitionLimit}
 use Rattle.pack.specs.declared.format.Format.{Format}
 use Rattle.pack.specs.Judge.{judge}
-use Rattle.pack.specs.Read.{endsOf, definedOf}
+use Rattle.pack.specs.Read.{endsOf, definedOf, PackLists}
 use Rattle.operating.specs.Stacked.{workLimit}
 use Rattle.running.specs.Run.{ranTo, endAfter, Runs}
 use Rattle.running.specs.declared.Ran.{Ran}

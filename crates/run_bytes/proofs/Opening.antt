@@ -27,7 +27,6 @@ use Rattle.pack.proofs.Values.{pack-tables}
 use Rattle.stepping.specs.Steps.{Inputs}
 use Rattle.running.specs.Run.{longEnough, RanTo, Memory, runOf, Runs, runMemory}
 use Rattle.running.specs.declared.Ran.{Ran}
-use Rattle.running.specs.declared.Ran.the-variants as Rn
 use Rattle.operating.specs.Stacked.{workLimit}
 use Rattle.running.specs.declared.Ran.the-variants as Rn
 use Rattle.run_bytes.proofs.Forming.{each-at}

@@ -21,7 +21,6 @@ use Rattle.stepping.specs.Steps.{Inputs}
 use Rattle.running.specs.Run.{RanTo, Memory, runOf}
 use Rattle.running.specs.Work.{Worked}
 use Rattle.running.specs.declared.Ran.{Ran}
-use Rattle.running.specs.declared.Ran.the-variants as Rn
 use Rattle.machine.specs.Machine.{End, ended, stopped, stackLimit, run}
 use Rattle.operating.specs.Stacked.{placedAt, Put, Roomy}
 use Rattle.run_checked.specs.Clear.{cleared}

@@ -33,11 +33,13 @@ allCodes (c ∷ cs) = leb c 4 and allCodes cs
 abbrev pub forecastLimit : ℕ
 forecastLimit = 2 * instructionLimit
 
+-- both, whatever the pack
 unfoldable pub vetMemory : List ℕ → List ℕ → Pack → Bool
 vetMemory codes f d = allCodes codes and leb forecastLimit (length f)
 
 -- ---- the answer
 
+-- the verdict that an answer stands for
 abbrev pub verdictOf : Vetted → Verdict
 verdictOf (Vet.Passed n) = passed
 verdictOf (Vet.Refused r k) = turned r k

@@ -1,4 +1,4 @@
--- `ink_operators::ink_run` meets its contract: the answer of `running::run` on the slots that the words hold. Assumes nothing.
+-- `ink_operators::ink_run` meets its contract: the answer of `run_bytes::run` on the slots that the words hold. Assumes nothing.
 use Rattle.pack.proofs.Formats.{runnable1}
 use Rattle.ink_operators.proofs.Ending.{run-says, runs-small}
 use borrow.Author.Needs.{needs}
