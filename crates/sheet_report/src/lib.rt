@@ -16,7 +16,9 @@ const WORK_LIMIT: usize = STACK_LIMIT * ITEM_LIMIT;
 fn answer(o: Output, out: &mut [u8], r: Ran, items: &[u16], values: &[i32]) -> Output {
     match r {
         Ran::Ended(v) => o.value(out, v, items, values),
-        Ran::Stopped { number, index } => o.refused(out, number).text(out, b" ").natural(out, index as u64),
+        Ran::Stopped { number, index } => o.refused(out, number)
+            .text(out, b" ")
+            .natural(out, index as u64),
     }
 }
 
@@ -46,7 +48,9 @@ fn sheet_lines(o: Output, out: &mut [u8], pack: &[u8]) -> Output
     requires { ⌜ Framed (now pack) ⌝ }
 {
     let n = pack_read::sheet_count(pack);
-    let mut told = o.text(out, b"sheets ").natural(out, n as u64).text(out, b"\n");
+    let mut told = o.text(out, b"sheets ")
+        .natural(out, n as u64)
+        .text(out, b"\n");
     let mut s = 0;
     while s < n {
         if told.failed {
