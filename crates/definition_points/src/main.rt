@@ -12,6 +12,7 @@ use list_cases::ITEM_LIMIT;
 use list_cases::UNWRITTEN_ITEM;
 use list_cases::UNWRITTEN_VALUE;
 use list_cases::every_item;
+use list_cases::line;
 use list_cases::number;
 use list_cases::operand;
 use list_cases::ramp;
@@ -21,8 +22,6 @@ use list_definitions::invert;
 use list_definitions::origins_of;
 use list_increment::decrement;
 use list_increment::increment;
-use printing::natural;
-use printing::text;
 
 // Are the ends those of definitions with so many items.
 fn numbered(ends: &[u16], defined: &[i32]) -> bool
@@ -87,31 +86,27 @@ fn show_decrement(ai: &[u16], av: &[i32], by: i32, set: u64, ends: &[u16], defin
 // The operators that go by definitions.
 fn by_definitions(ai: &[u16], av: &[i32], set: u64, by: i32, ends: &[u16], defined: &[i32]) {
     operand(b"a", ai, av);
-    text(b"  set ");
-    natural(set);
-    text(b"\n");
+    list_cases::set(b"set", set);
     number(b"by", by);
     if ITEM_LIMIT < defined.len() {
-        text(b"  too many items\n");
+        line(b"  too many items");
         return;
     }
     if !numbered(ends, defined) {
-        text(b"  not numbered\n");
+        line(b"  not numbered");
         return;
     }
     if 64 < ends.len() {
-        text(b"  too many definitions\n");
+        line(b"  too many definitions");
         return;
     }
     if !is_formed(ai, av, set, defined.len(), ends.len()) {
-        text(b"  a is not well formed\n");
+        line(b"  a is not well formed");
         return;
     }
     show_all(set, ends, defined);
     show_invert(ai, av, set, ends, defined);
-    text(b"  origins ");
-    natural(origins_of(ai, ends));
-    text(b"\n");
+    list_cases::set(b"origins", origins_of(ai, ends));
     show_increment(ai, av, by, set, ends, defined);
     show_decrement(ai, av, by, set, ends, defined);
 }
@@ -173,7 +168,7 @@ fn level_definitions() {
 }
 
 fn main() {
-    text(b"definitions\n");
+    line(b"definitions");
     small_definitions();
     other_origins();
     unlike_definitions();

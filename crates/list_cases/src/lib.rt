@@ -1,11 +1,9 @@
 // What the test programs of lists share: long lists, and how operands and answers are printed. A list of more than 12 entries is shown by
 // its length, its first and last entry, and the sums of its items and of its values.
 use ink_number::int::wrapping_add;
-use printing::decimal;
-use printing::entry;
-use printing::natural;
-use printing::text;
+use printing::Output;
 ghost use mathlib.Core.Path.{_≡_};
+ghost use Prim.Native.Nat.{_<_};
 ghost use lib.ListN.{length};
 
 pub const ITEM_LIMIT: usize = 256;
@@ -43,91 +41,130 @@ fn value_sum(values: &[i32]) -> i32 {
     sum
 }
 
-// A list by its length, ends and sums.
-fn summary(items: &[u16], values: &[i32])
+// The first and the last entry.
+fn ends(o: Output, out: &mut [u8], items: &[u16], values: &[i32]) -> Output
     requires { ⌜ length (now items) ≡ length (now values) ⌝ }
+    requires { ⌜ 0 < length (now items) ⌝ }
 {
-    text(b" ");
-    natural(items.len() as u64);
-    text(b" entries");
-    if items.len() == 0 {
-        return;
-    }
     let last = items.len() - 1;
-    entry(items[0], values[0]);
-    text(b" to");
-    entry(items[last], values[last]);
-    text(b", sums ");
-    natural(item_sum(items));
-    text(b" ");
-    decimal(value_sum(values));
+    let first = o.entry(out, items[0], values[0]);
+    first
+        .text(out, b" to")
+        .entry(out, items[last], values[last])
+}
+
+fn sums(o: Output, out: &mut [u8], items: &[u16], values: &[i32]) -> Output {
+    let first = o.text(out, b", sums ").natural(out, item_sum(items));
+    first.text(out, b" ").decimal(out, value_sum(values))
+}
+
+// A list by its length, ends and sums.
+fn summary(o: Output, out: &mut [u8], items: &[u16], values: &[i32]) -> Output
+    requires { ⌜ length (now items) ≡ length (now values) ⌝ }
+    requires { ⌜ 0 < length (now items) ⌝ }
+{
+    let counted = o.text(out, b" ")
+        .natural(out, items.len() as u64)
+        .text(out, b" entries");
+    sums(ends(counted, out, items, values), out, items, values)
 }
 
 // The entries of a list, or none; of a long one its summary.
-fn list(items: &[u16], values: &[i32]) {
+fn list(o: Output, out: &mut [u8], items: &[u16], values: &[i32]) -> Output {
     if items.len() != values.len() {
-        text(b" not parallel");
-        return;
+        return o.text(out, b" not parallel");
     }
     if items.len() == 0 {
-        text(b" none");
-        return;
+        return o.text(out, b" none");
     }
     if SHOWN < items.len() {
-        summary(items, values);
-        return;
+        return summary(o, out, items, values);
     }
+    let mut told = o;
     let mut i = 0;
     while i < items.len() {
-        entry(items[i], values[i]);
+        told = told.entry(out, items[i], values[i]);
         i += 1;
     }
+    told
+}
+
+// A line of text.
+pub fn line(s: &[u8]) {
+    let mut out = io::buffer();
+    Output::new()
+        .text(&mut out, s)
+        .text(&mut out, b"\n")
+        .flush(&out);
 }
 
 pub fn operand(name: &[u8], items: &[u16], values: &[i32]) {
-    text(name);
-    list(items, values);
-    text(b"\n");
+    let mut out = io::buffer();
+    list(Output::new().text(&mut out, name), &mut out, items, values).text(&mut out, b"\n")
+        .flush(&out);
 }
 
-// A list that was written: its n entries, and a word where the place beyond was changed.
-pub fn result(name: &[u8], n: usize, items: &[u16], values: &[i32]) {
-    text(b"  ");
-    text(name);
+fn beyond_item(o: Output, out: &mut [u8], item: u16) -> Output {
+    if item != UNWRITTEN_ITEM {
+        return o.text(out, b" and an item beyond");
+    }
+    o
+}
+
+fn beyond_value(o: Output, out: &mut [u8], value: i32) -> Output {
+    if value != UNWRITTEN_VALUE {
+        return o.text(out, b" and a value beyond");
+    }
+    o
+}
+
+// The n entries of a list that was written, and a word where the place beyond was changed.
+fn written(o: Output, out: &mut [u8], n: usize, items: &[u16], values: &[i32]) -> Output {
     if items.len() <= n {
-        text(b" too long\n");
-        return;
+        return o.text(out, b" too long");
     }
     if values.len() <= n {
-        text(b" too long\n");
-        return;
+        return o.text(out, b" too long");
     }
-    list(&items[..n], &values[..n]);
-    if items[n] != UNWRITTEN_ITEM {
-        text(b" and an item beyond");
-    }
-    if values[n] != UNWRITTEN_VALUE {
-        text(b" and a value beyond");
-    }
-    text(b"\n");
+    let told = list(o, out, &items[..n], &values[..n]);
+    beyond_value(beyond_item(told, out, items[n]), out, values[n])
+}
+
+pub fn result(name: &[u8], n: usize, items: &[u16], values: &[i32]) {
+    let mut out = io::buffer();
+    let o = Output::new().text(&mut out, b"  ").text(&mut out, name);
+    written(o, &mut out, n, items, values)
+        .text(&mut out, b"\n")
+        .flush(&out);
 }
 
 pub fn test(name: &[u8], yes: bool) {
-    text(b"  ");
-    text(name);
+    let mut out = io::buffer();
+    let o = Output::new().text(&mut out, b"  ").text(&mut out, name);
     if yes {
-        text(b" yes\n");
+        o.text(&mut out, b" yes\n").flush(&out);
         return;
     }
-    text(b" no\n");
+    o.text(&mut out, b" no\n").flush(&out);
 }
 
 pub fn number(name: &[u8], v: i32) {
-    text(b"  ");
-    text(name);
-    text(b" ");
-    decimal(v);
-    text(b"\n");
+    let mut out = io::buffer();
+    let o = Output::new()
+        .text(&mut out, b"  ")
+        .text(&mut out, name)
+        .text(&mut out, b" ");
+    o.decimal(&mut out, v).text(&mut out, b"\n").flush(&out);
+}
+
+// A set of origins.
+pub fn set(name: &[u8], bits: u64) {
+    let mut out = io::buffer();
+    let o = Output::new()
+        .text(&mut out, b"  ")
+        .text(&mut out, name)
+        .text(&mut out, b" ");
+    o.natural(&mut out, bits).text(&mut out, b"\n").flush(&out);
 }
 
 // The item numbers from 0 on.

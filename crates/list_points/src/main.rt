@@ -8,6 +8,7 @@ use list_cases::ITEM_LIMIT;
 use list_cases::UNWRITTEN_ITEM;
 use list_cases::UNWRITTEN_VALUE;
 use list_cases::every_item;
+use list_cases::line;
 use list_cases::number;
 use list_cases::operand;
 use list_cases::ramp;
@@ -28,7 +29,6 @@ use list_merge::hasnt;
 use list_merge::intersect;
 use list_merge::union;
 use list_merge::without;
-use printing::text;
 
 fn show_union(ai: &[u16], av: &[i32], bi: &[u16], bv: &[i32])
     requires { ⌜ Lent 256 (now ai) (now av) ⌝ }
@@ -65,11 +65,11 @@ fn pair(ai: &[u16], av: &[i32], bi: &[u16], bv: &[i32]) {
     operand(b"a", ai, av);
     operand(b"b", bi, bv);
     if !is_formed(ai, av, 0, ITEM_LIMIT, 0) {
-        text(b"  a is not well formed\n");
+        line(b"  a is not well formed");
         return;
     }
     if !is_formed(bi, bv, 0, ITEM_LIMIT, 0) {
-        text(b"  b is not well formed\n");
+        line(b"  b is not well formed");
         return;
     }
     show_union(ai, av, bi, bv);
@@ -114,7 +114,7 @@ fn show_copy(ai: &[u16], av: &[i32])
 fn single(ai: &[u16], av: &[i32]) {
     operand(b"a", ai, av);
     if !is_formed(ai, av, 0, ITEM_LIMIT, 0) {
-        text(b"  a is not well formed\n");
+        line(b"  a is not well formed");
         return;
     }
     show_list_min(ai, av);
@@ -129,7 +129,7 @@ fn single(ai: &[u16], av: &[i32]) {
 fn ranged(ai: &[u16], av: &[i32], lower: i32, upper: i32) {
     operand(b"a", ai, av);
     if !is_formed(ai, av, 0, ITEM_LIMIT, 0) {
-        text(b"  a is not well formed\n");
+        line(b"  a is not well formed");
         return;
     }
     number(b"lower", lower);
@@ -229,14 +229,14 @@ fn ranges() {
 }
 
 fn main() {
-    text(b"two lists\n");
+    line(b"two lists");
     small_pairs();
     pairs_with_itself();
     order_pairs();
     full_pairs();
-    text(b"one list\n");
+    line(b"one list");
     singles();
     not_lists();
-    text(b"range\n");
+    line(b"range");
     ranges();
 }

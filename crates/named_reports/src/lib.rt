@@ -1,6 +1,6 @@
 // What sheetrun prints of each pack of a stream of named packs, after the pack's name.
 use named_packs::Named;
-use printing::text;
+use printing::Output;
 ghost use Prim.Native.Nat.{_<_, _≤_};
 ghost use lib.ListN.{length};
 
@@ -8,9 +8,11 @@ ghost use lib.ListN.{length};
 fn report_named(s: &[u8], name: usize, after: usize, start: usize, end: usize)
     requires { ⌜ (name ≤ after) × (after ≤ length (now s)) × (start ≤ end) × (end ≤ length (now s)) ⌝ }
 {
-    text(&s[name..after]);
-    text(b":\n");
-    sheet_report::report(&s[start..end]);
+    let mut out = io::large_buffer();
+    let o = Output::new()
+        .text(&mut out, &s[name..after])
+        .text(&mut out, b":\n");
+    sheet_report::report(o, &mut out, &s[start..end]).flush(&out);
 }
 
 // Reports on the pack whose name's length is at a position, and says where the next one is.

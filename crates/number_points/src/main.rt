@@ -2,11 +2,11 @@
 // value and each pair, and document 01's known points on numbers. An Int is printed in decimal, a
 // Float as its bit pattern in hexadecimal, a Bool as 0 or 1, a refusal as R and its number.
 
-ghost use Prim.Native.Nat.{_^_, _<_};
 use ink_float::convert;
 use ink_float::float;
 use ink_number::int;
 use ink_number::int::Divided;
+use printing::Output;
 
 // What a row shows: an Int, two Ints, a pattern, two Floats.
 enum Row {
@@ -96,161 +96,136 @@ const PATTERNS: [u32; 12] = [
     0xffff_ffff,
 ];
 
-fn space() {
-    io::write_all(1, b" ");
+fn print_int(o: Output, out: &mut [u8], n: i32) -> Output {
+    o.text(out, b" ").decimal(out, n)
 }
 
-fn colon() {
-    io::write_all(1, b":");
+fn print_pattern(o: Output, out: &mut [u8], b: u32) -> Output {
+    o.text(out, b" ").pattern(out, b)
 }
 
-fn end() {
-    io::write_all(1, b"\n");
+fn print_float(o: Output, out: &mut [u8], x: f32) -> Output {
+    print_pattern(o, out, convert::float_to_bits(x))
 }
 
-fn wide(x: u32) -> u64
-    ensures { λ r. ⌜ r < 2 ^ 32 ⌝ }
-{
-    x as u64
-}
-
-fn print_int(n: i32) {
-    space();
-    let pattern = wide(int::pattern(n));
-    if n < 0 {
-        io::write_all(1, b"-");
-        io::print_decimal(1, 0x1_0000_0000 - pattern);
-    } else {
-        io::print_decimal(1, pattern);
-    }
-}
-
-fn print_pattern(b: u32) {
-    space();
-    io::print_hex(1, wide(b), 8);
-}
-
-fn print_float(x: f32) {
-    print_pattern(convert::float_to_bits(x));
-}
-
-fn print_bool(b: bool) {
+fn print_bool(o: Output, out: &mut [u8], b: bool) -> Output {
     if b {
-        io::write_all(1, b" 1");
-    } else {
-        io::write_all(1, b" 0");
+        return o.text(out, b" 1");
     }
+    o.text(out, b" 0")
 }
 
-fn print_divided(d: Divided) {
+fn print_divided(o: Output, out: &mut [u8], d: Divided) -> Output {
     match d {
-        Divided::Value(z) => {
-            print_int(z);
-        }
-        Divided::Refused => {
-            io::write_all(1, b" R 15");
-        }
+        Divided::Value(z) => print_int(o, out, z),
+        Divided::Refused => o.text(out, b" R 15"),
     }
 }
 
-fn int_value(a: i32) {
-    io::write_all(1, b"int");
-    print_int(a);
-    colon();
-    print_pattern(int::pattern(a));
-    print_int(int::wrapping_neg(a));
-    print_bool(int::truthy(a));
-    print_float(convert::int_to_float(a));
-    end();
+fn two_ints(o: Output, out: &mut [u8], a: i32, b: i32) -> Output {
+    let one = print_int(o, out, a);
+    print_int(one, out, b)
 }
 
-fn int_arithmetic(a: i32, b: i32) {
-    print_int(int::wrapping_add(a, b));
-    print_int(int::wrapping_sub(a, b));
-    print_int(int::wrapping_mul(a, b));
-    print_divided(int::divide(a, b));
-    print_divided(int::remainder_of(a, b));
-    print_int(int::min(a, b));
-    print_int(int::max(a, b));
+fn two_floats(o: Output, out: &mut [u8], x: f32, y: f32) -> Output {
+    let one = print_float(o, out, x);
+    print_float(one, out, y)
 }
 
-fn int_tests(a: i32, b: i32) {
-    print_bool(int::eq(a, b));
-    print_bool(int::ne(a, b));
-    print_bool(int::lt(a, b));
-    print_bool(int::le(a, b));
-    print_bool(int::gt(a, b));
-    print_bool(int::ge(a, b));
-    print_bool(int::can_divide(a, b));
+fn three_bools(o: Output, out: &mut [u8], a: bool, b: bool, c: bool) -> Output {
+    let one = print_bool(o, out, a);
+    let two = print_bool(one, out, b);
+    print_bool(two, out, c)
 }
 
-fn int_pair(a: i32, b: i32) {
-    io::write_all(1, b"int");
-    print_int(a);
-    print_int(b);
-    colon();
-    int_arithmetic(a, b);
-    int_tests(a, b);
-    end();
+// The pattern of an Int, what is opposite, its truth and its Float.
+fn int_forms(o: Output, out: &mut [u8], a: i32) -> Output {
+    let pattern = print_pattern(o, out, int::pattern(a));
+    let opposite = print_int(pattern, out, int::wrapping_neg(a));
+    let truth = print_bool(opposite, out, int::truthy(a));
+    print_float(truth, out, convert::int_to_float(a))
 }
 
-fn pattern_value(b: u32) {
-    io::write_all(1, b"pattern");
-    print_pattern(b);
-    colon();
-    print_int(int::signed_of(b));
+fn int_value(out: &mut [u8], a: i32) -> Output {
+    let o = print_int(Output::new().text(out, b"int"), out, a).text(out, b":");
+    int_forms(o, out, a)
+}
+
+fn int_division(o: Output, out: &mut [u8], a: i32, b: i32) -> Output {
+    let quotient = print_divided(o, out, int::divide(a, b));
+    print_divided(quotient, out, int::remainder_of(a, b))
+}
+
+fn int_arithmetic(o: Output, out: &mut [u8], a: i32, b: i32) -> Output {
+    let sum = two_ints(o, out, int::wrapping_add(a, b), int::wrapping_sub(a, b));
+    let product = print_int(sum, out, int::wrapping_mul(a, b));
+    let divided = int_division(product, out, a, b);
+    two_ints(divided, out, int::min(a, b), int::max(a, b))
+}
+
+fn int_tests(o: Output, out: &mut [u8], a: i32, b: i32) -> Output {
+    let three = three_bools(o, out, int::eq(a, b), int::ne(a, b), int::lt(a, b));
+    let six = three_bools(three, out, int::le(a, b), int::gt(a, b), int::ge(a, b));
+    print_bool(six, out, int::can_divide(a, b))
+}
+
+fn int_pair(out: &mut [u8], a: i32, b: i32) -> Output {
+    let o = two_ints(Output::new().text(out, b"int"), out, a, b).text(out, b":");
+    int_tests(int_arithmetic(o, out, a, b), out, a, b)
+}
+
+// A Float and what is opposite, its truth and its Int.
+fn float_forms(o: Output, out: &mut [u8], x: f32) -> Output {
+    let both = two_floats(o, out, x, float::neg(x));
+    let truth = print_bool(both, out, float::truthy(x));
+    print_int(truth, out, convert::float_to_int(x))
+}
+
+fn pattern_value(out: &mut [u8], b: u32) -> Output {
     let x = convert::float_from_bits(b);
-    print_float(x);
-    print_float(float::neg(x));
-    print_bool(float::truthy(x));
-    print_int(convert::float_to_int(x));
-    end();
+    let o = print_pattern(Output::new().text(out, b"pattern"), out, b).text(out, b":");
+    float_forms(print_int(o, out, int::signed_of(b)), out, x)
 }
 
-fn float_arithmetic(x: f32, y: f32) {
-    print_float(float::add(x, y));
-    print_float(float::sub(x, y));
-    print_float(float::mul(x, y));
-    print_float(float::div(x, y));
-    print_float(float::rem(x, y));
-    print_float(float::min(x, y));
-    print_float(float::max(x, y));
+fn float_arithmetic(o: Output, out: &mut [u8], x: f32, y: f32) -> Output {
+    let sum = two_floats(o, out, float::add(x, y), float::sub(x, y));
+    let product = two_floats(sum, out, float::mul(x, y), float::div(x, y));
+    let remainder = print_float(product, out, float::rem(x, y));
+    two_floats(remainder, out, float::min(x, y), float::max(x, y))
 }
 
-fn float_tests(x: f32, y: f32) {
-    print_bool(float::eq(x, y));
-    print_bool(float::ne(x, y));
-    print_bool(float::lt(x, y));
-    print_bool(float::le(x, y));
-    print_bool(float::gt(x, y));
-    print_bool(float::ge(x, y));
+fn float_tests(o: Output, out: &mut [u8], x: f32, y: f32) -> Output {
+    let three = three_bools(o, out, float::eq(x, y), float::ne(x, y), float::lt(x, y));
+    three_bools(
+        three,
+        out,
+        float::le(x, y),
+        float::gt(x, y),
+        float::ge(x, y),
+    )
 }
 
-fn float_pair(x: f32, y: f32) {
-    io::write_all(1, b"float");
-    print_float(x);
-    print_float(y);
-    colon();
-    float_arithmetic(x, y);
-    float_tests(x, y);
-    end();
+fn float_pair(out: &mut [u8], x: f32, y: f32) -> Output {
+    let o = two_floats(Output::new().text(out, b"float"), out, x, y).text(out, b":");
+    float_tests(float_arithmetic(o, out, x, y), out, x, y)
+}
+
+fn told(what: Row, out: &mut [u8], a: u32, b: u32) -> Output {
+    match what {
+        Row::Int => int_value(out, int::signed_of(b)),
+        Row::Ints => int_pair(out, int::signed_of(a), int::signed_of(b)),
+        Row::Pattern => pattern_value(out, b),
+        Row::Floats => float_pair(
+            out,
+            convert::float_from_bits(a),
+            convert::float_from_bits(b),
+        ),
+    }
 }
 
 fn print_row(what: Row, a: u32, b: u32) {
-    match what {
-        Row::Int => {
-            int_value(int::signed_of(b));
-        }
-        Row::Ints => {
-            int_pair(int::signed_of(a), int::signed_of(b));
-        }
-        Row::Pattern => {
-            pattern_value(b);
-        }
-        Row::Floats => {
-            float_pair(convert::float_from_bits(a), convert::float_from_bits(b));
-        }
-    }
+    let mut out = io::buffer();
+    told(what, &mut out, a, b).text(&mut out, b"\n").flush(&out);
 }
 
 // A row of each pattern, beside a where the row is of two.
@@ -267,40 +242,53 @@ fn pairs(what: Row, patterns: &[u32]) {
     }
 }
 
+fn line(s: &[u8]) {
+    let mut out = io::buffer();
+    Output::new()
+        .text(&mut out, s)
+        .text(&mut out, b"\n")
+        .flush(&out);
+}
+
+fn divided_point(name: &[u8], d: Divided) {
+    let mut out = io::buffer();
+    let o = Output::new().text(&mut out, b"point ").text(&mut out, name);
+    print_divided(o, &mut out, d)
+        .text(&mut out, b"\n")
+        .flush(&out);
+}
+
+fn float_point(name: &[u8], n: i32) {
+    let mut out = io::buffer();
+    let o = Output::new().text(&mut out, b"point ").text(&mut out, name);
+    print_float(o, &mut out, convert::int_to_float(n))
+        .text(&mut out, b"\n")
+        .flush(&out);
+}
+
 fn points() {
-    io::write_all(1, b"point -7 / 2:");
-    print_divided(int::divide(-7, 2));
-    io::write_all(1, b"\npoint -7 % 2:");
-    print_divided(int::remainder_of(-7, 2));
-    io::write_all(1, b"\npoint -2147483648 / -1:");
-    print_divided(int::divide(-2147483648, -1));
-    io::write_all(1, b"\npoint 16777216 to Float:");
-    print_float(convert::int_to_float(16777216));
-    io::write_all(1, b"\npoint 16777217 to Float:");
-    print_float(convert::int_to_float(16777217));
-    io::write_all(1, b"\npoint 16777219 to Float:");
-    print_float(convert::int_to_float(16777219));
-    io::write_all(1, b"\npoint Int of 2147483648.0:");
-    print_int(convert::float_to_int(2147483648.0));
-    end();
+    divided_point(b"-7 / 2:", int::divide(-7, 2));
+    divided_point(b"-7 % 2:", int::remainder_of(-7, 2));
+    divided_point(b"-2147483648 / -1:", int::divide(-2147483648, -1));
+    float_point(b"16777216 to Float:", 16777216);
+    float_point(b"16777217 to Float:", 16777217);
+    float_point(b"16777219 to Float:", 16777219);
+    divided_point(
+        b"Int of 2147483648.0:",
+        Divided::Value(convert::float_to_int(2147483648.0)),
+    );
 }
 
 fn main() {
     points();
-    io::write_all(1, b"# int a: pattern, -a, truthy, as Float\n");
+    line(b"# int a: pattern, -a, truthy, as Float");
     rows(Row::Int, 0, &INTS);
     rows(Row::Int, 0, &ROUNDED);
-    io::write_all(
-        1,
-        b"# int a b: + - * / % min max == != < <= > >= can_divide\n",
-    );
+    line(b"# int a b: + - * / % min max == != < <= > >= can_divide");
     pairs(Row::Ints, &INTS);
-    io::write_all(
-        1,
-        b"# pattern b: as Int; the Float x, -x, truthy, x to Int\n",
-    );
+    line(b"# pattern b: as Int; the Float x, -x, truthy, x to Int");
     rows(Row::Pattern, 0, &FLOATS);
     rows(Row::Pattern, 0, &PATTERNS);
-    io::write_all(1, b"# float x y: + - * / % min max == != < <= > >=\n");
+    line(b"# float x y: + - * / % min max == != < <= > >=");
     pairs(Row::Floats, &FLOATS);
 }

@@ -1,11 +1,10 @@
-// What the sheets of a pack come to: "sheets" and how many there are, then a line for each, which has its number and what a run with all slots
-// Void answers, a refusal with its number and index. Of a pack that is turned back, "pack R" and the number.
+// What the sheets of a pack come to, as text: "sheets" and how many there are, then a line for each, which has its number and what a run with all slots
+// Void answers, a refusal with its number and index. Of a pack that is turned back, "pack R" and the number. Where the text cannot be written, no further sheet is run.
 use ink_value::Value;
 use machine::STACK_LIMIT;
 use pack::Checked;
 use pack_check::format::FORMAT1;
-use printing::natural;
-use printing::text;
+use printing::Output;
 use running::Ran;
 ghost use Rattle.pack.specs.Judge.{Framed};
 
@@ -14,21 +13,17 @@ const ITEM_LIMIT: usize = FORMAT1.limit;
 
 const WORK_LIMIT: usize = STACK_LIMIT * ITEM_LIMIT;
 
-fn answer(r: Ran, items: &[u16], values: &[i32]) {
+fn answer(o: Output, out: &mut [u8], r: Ran, items: &[u16], values: &[i32]) -> Output {
     match r {
-        Ran::Ended(v) => {
-            printing::value(v, items, values);
-        }
-        Ran::Stopped { number, index } => {
-            printing::refused(number);
-            text(b" ");
-            natural(index as u64);
-        }
+        Ran::Ended(v) => o.value(out, v, items, values),
+        Ran::Stopped { number, index } => o.refused(out, number)
+            .text(out, b" ")
+            .natural(out, index as u64),
     }
 }
 
 // The line of one sheet.
-fn sheet_line(pack: &[u8], sheet: usize) {
+fn sheet_line(o: Output, out: &mut [u8], pack: &[u8], sheet: usize) -> Output {
     let no_items = [0u16; 1];
     let no_values = [0i32; 1];
     let mut work_items = [0u16; WORK_LIMIT];
@@ -46,34 +41,30 @@ fn sheet_line(pack: &[u8], sheet: usize) {
         &mut items,
         &mut values,
     );
-    natural(sheet as u64);
-    answer(r, &items, &values);
-    text(b"\n");
+    answer(o.natural(out, sheet as u64), out, r, &items, &values).text(out, b"\n")
 }
 
-fn sheet_lines(pack: &[u8])
+fn sheet_lines(o: Output, out: &mut [u8], pack: &[u8]) -> Output
     requires { ⌜ Framed (now pack) ⌝ }
 {
     let n = pack_read::sheet_count(pack);
-    text(b"sheets ");
-    natural(n as u64);
-    text(b"\n");
+    let mut told = o.text(out, b"sheets ")
+        .natural(out, n as u64)
+        .text(out, b"\n");
     let mut s = 0;
     while s < n {
-        sheet_line(pack, s);
+        if told.failed {
+            return told;
+        }
+        told = sheet_line(told, out, pack, s);
         s += 1;
     }
+    told
 }
 
-pub fn report(pack: &[u8]) {
+pub fn report(o: Output, out: &mut [u8], pack: &[u8]) -> Output {
     match pack_check::check(pack) {
-        Checked::Passed => {
-            sheet_lines(pack);
-        }
-        Checked::Refused(number) => {
-            text(b"pack");
-            printing::refused(number);
-            text(b"\n");
-        }
+        Checked::Passed => sheet_lines(o, out, pack),
+        Checked::Refused(number) => o.text(out, b"pack").refused(out, number).text(out, b"\n"),
     }
 }

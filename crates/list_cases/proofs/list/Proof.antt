@@ -1,21 +1,25 @@
 -- `list_cases::list` is safe and ends. Assumes nothing.
+use mathlib.Core.Path.{_≡_}
 use Prim.Native.Nat.{_-_, _≤_}
-use borrow.Author.Needs.{needs}
 use lib.ListN.{length}
+use borrow.Author.Needs.{needs}
 use Rattle.list_cases.proofs.list.Statement.{statement}
 use Rattle.list_cases.proofs.list.Tie as tie
 
 abbrev Inv-loop : tie.InvT-loop
-Inv-loop items values i₀ i = i ≤ length items
+Inv-loop out₀ items values told₀ i₀ out told i = (i ≤ length items) × (length out ≡ length out₀)
 
 abbrev μ-loop : tie.MeasureT-loop
-μ-loop items values i₀ i = length items - i
+μ-loop out₀ items values told₀ i₀ out told i = length items - i
 
 slice-aggregate-text : tie.Need-slice-aggregate-text Inv-loop μ-loop
 slice-aggregate-text c = search needs
 
 text-requires : tie.Need-text-requires Inv-loop μ-loop
 text-requires c κs = search needs
+
+same-length : tie.Need-same-length Inv-loop μ-loop
+same-length c = search needs
 
 returns : tie.Need-returns Inv-loop μ-loop
 returns c = search needs
@@ -26,11 +30,17 @@ slice-aggregate-text-2 c = search needs
 text-requires-2 : tie.Need-text-requires-2 Inv-loop μ-loop
 text-requires-2 c κs = search needs
 
+same-length-2 : tie.Need-same-length-2 Inv-loop μ-loop
+same-length-2 c = search needs
+
 returns-2 : tie.Need-returns-2 Inv-loop μ-loop
 returns-2 c = search needs
 
 summary-requires : tie.Need-summary-requires Inv-loop μ-loop
 summary-requires c κs = search needs
+
+same-length-3 : tie.Need-same-length-3 Inv-loop μ-loop
+same-length-3 c = search needs
 
 returns-3 : tie.Need-returns-3 Inv-loop μ-loop
 returns-3 c = search needs
@@ -62,6 +72,9 @@ loop-less c = search needs
 loop-again : tie.Need-loop-again Inv-loop μ-loop
 loop-again c = search needs
 
+same-length-4 : tie.Need-same-length-4 Inv-loop μ-loop
+same-length-4 c = search needs
+
 returns-4 : tie.Need-returns-4 Inv-loop μ-loop
 returns-4 c = search needs
 
@@ -73,11 +86,14 @@ list-spec =
     μ-loop
     slice-aggregate-text
     text-requires
+    same-length
     returns
     slice-aggregate-text-2
     text-requires-2
+    same-length-2
     returns-2
     summary-requires
+    same-length-3
     returns-3
     loop-holds
     mul-entry
@@ -88,4 +104,5 @@ list-spec =
     add-i
     loop-less
     loop-again
+    same-length-4
     returns-4)

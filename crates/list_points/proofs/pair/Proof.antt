@@ -24,11 +24,11 @@ operand-requires-2 c κs = search needs
 is-formed-requires : tie.Need-is-formed-requires
 is-formed-requires c κs = search needs
 
-slice-aggregate-text : tie.Need-slice-aggregate-text
-slice-aggregate-text c = search needs
+slice-aggregate-line : tie.Need-slice-aggregate-line
+slice-aggregate-line c = search needs
 
-text-requires : tie.Need-text-requires
-text-requires c κs = search needs
+line-requires : tie.Need-line-requires
+line-requires c κs = search needs
 
 returns : tie.Need-returns
 returns c = search needs
@@ -36,11 +36,11 @@ returns c = search needs
 is-formed-requires-2 : tie.Need-is-formed-requires-2
 is-formed-requires-2 c κs = search needs
 
-slice-aggregate-text-2 : tie.Need-slice-aggregate-text-2
-slice-aggregate-text-2 c = search needs
+slice-aggregate-line-2 : tie.Need-slice-aggregate-line-2
+slice-aggregate-line-2 c = search needs
 
-text-requires-2 : tie.Need-text-requires-2
-text-requires-2 c κs = search needs
+line-requires-2 : tie.Need-line-requires-2
+line-requires-2 c κs = search needs
 
 returns-2 : tie.Need-returns-2
 returns-2 c = search needs
@@ -120,12 +120,12 @@ pair-spec =
     slice-aggregate-operand-2
     operand-requires-2
     is-formed-requires
-    slice-aggregate-text
-    text-requires
+    slice-aggregate-line
+    line-requires
     returns
     is-formed-requires-2
-    slice-aggregate-text-2
-    text-requires-2
+    slice-aggregate-line-2
+    line-requires-2
     returns-2
     show-union-requires
     show-without-requires

@@ -15,11 +15,11 @@ operand-requires c κs = search needs
 is-formed-requires : tie.Need-is-formed-requires
 is-formed-requires c κs = search needs
 
-slice-aggregate-text : tie.Need-slice-aggregate-text
-slice-aggregate-text c = search needs
+slice-aggregate-line : tie.Need-slice-aggregate-line
+slice-aggregate-line c = search needs
 
-text-requires : tie.Need-text-requires
-text-requires c κs = search needs
+line-requires : tie.Need-line-requires
+line-requires c κs = search needs
 
 returns : tie.Need-returns
 returns c = search needs
@@ -70,8 +70,8 @@ single-spec =
     slice-aggregate-operand
     operand-requires
     is-formed-requires
-    slice-aggregate-text
-    text-requires
+    slice-aggregate-line
+    line-requires
     returns
     show-list-min-requires
     show-list-max-requires

@@ -12,7 +12,7 @@ enum-told c = search needs
 
 sheet-lines-requires : tie.Need-sheet-lines-requires
 sheet-lines-requires c κs =
-    passed _ (c .before .before .before .before .args .pack .now) (c .before .before .check .result) (c .enum-told .given .1) (c .before .before .check .ensures) .contents .frame
+    passed _ (c .before .before .before .before .before .before .args .pack .now) (c .before .before .before .check .result) (c .before .enum-told .given .1) (c .before .before .before .check .ensures) .contents .frame
 
 enum-known-number : tie.Need-enum-known-number
 enum-known-number c = search needs
@@ -32,8 +32,14 @@ slice-aggregate-text-2 c = search needs
 text-requires-2 : tie.Need-text-requires-2
 text-requires-2 c κs = search needs
 
+same-length : tie.Need-same-length
+same-length c = search needs
+
 returns : tie.Need-returns
 returns c = search needs
+
+same-length-2 : tie.Need-same-length-2
+same-length-2 c = search needs
 
 returns-2 : tie.Need-returns-2
 returns-2 c = search needs
@@ -51,5 +57,7 @@ report-spec =
     refused-requires
     slice-aggregate-text-2
     text-requires-2
+    same-length
     returns
+    same-length-2
     returns-2)

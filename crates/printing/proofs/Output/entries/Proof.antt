@@ -1,20 +1,28 @@
--- `printing::entries` is safe and ends. Assumes nothing.
+-- `printing::Output::entries` is safe and ends. Assumes nothing.
+use mathlib.Core.Path.{_≡_}
 use Prim.Native.Nat.{_-_, _≤_}
+use lib.ListN.{length}
 use borrow.Author.Needs.{needs}
-use Rattle.printing.proofs.entries.Statement.{statement}
-use Rattle.printing.proofs.entries.Tie as tie
+use Rattle.printing.proofs.Output.entries.Statement.{statement}
+use Rattle.printing.proofs.Output.entries.Tie as tie
 
 abbrev Inv-loop : tie.InvT-loop
-Inv-loop n items values i₀ i = i ≤ n
+Inv-loop out₀ n items values o₀ i₀ out o i = (i ≤ n) × (length out ≡ length out₀)
 
 abbrev μ-loop : tie.MeasureT-loop
-μ-loop n items values i₀ i = n - i
+μ-loop out₀ n items values o₀ i₀ out o i = n - i
 
 loop-holds : tie.Need-loop-holds Inv-loop μ-loop
 loop-holds c = search needs
 
+same-length : tie.Need-same-length Inv-loop μ-loop
+same-length c = search needs
+
 returns : tie.Need-returns Inv-loop μ-loop
 returns c = search needs
+
+same-length-2 : tie.Need-same-length-2 Inv-loop μ-loop
+same-length-2 c = search needs
 
 returns-2 : tie.Need-returns-2 Inv-loop μ-loop
 returns-2 c = search needs
@@ -43,6 +51,9 @@ loop-less c = search needs
 loop-again : tie.Need-loop-again Inv-loop μ-loop
 loop-again c = search needs
 
+same-length-3 : tie.Need-same-length-3 Inv-loop μ-loop
+same-length-3 c = search needs
+
 returns-3 : tie.Need-returns-3 Inv-loop μ-loop
 returns-3 c = search needs
 
@@ -53,7 +64,9 @@ entries-spec =
     Inv-loop
     μ-loop
     loop-holds
+    same-length
     returns
+    same-length-2
     returns-2
     mul-entry
     shared-slice-read-entry
@@ -63,4 +76,5 @@ entries-spec =
     add-i
     loop-less
     loop-again
+    same-length-3
     returns-3)

@@ -1,15 +1,13 @@
-// The operators called on values, a line for each call: its name, then B and 0 or 1, I and a decimal number, F and eight hexadecimal
-// digits, L and its entries, V, or R and the number of the question that said no.
-use call_cases::ITEMS;
-use call_cases::PACK;
-use call_cases::UNWRITTEN_ITEM;
-use call_cases::UNWRITTEN_VALUE;
-use call_cases::VALUES;
-use call_cases::float;
-use call_cases::list;
-use call_cases::report;
+// The operators called on values, a line for each call.
+use crate::cases::ITEMS;
+use crate::cases::PACK;
+use crate::cases::UNWRITTEN_ITEM;
+use crate::cases::UNWRITTEN_VALUE;
+use crate::cases::VALUES;
+use crate::cases::float;
+use crate::cases::list;
+use crate::cases::report;
 use ink_value::Value;
-use printing::text;
 
 const ADD: u8 = 0;
 
@@ -58,10 +56,8 @@ const RANGE: u8 = 31;
 fn call(name: &[u8], op: u8, count: usize, a: Value, b: Value, c: Value) {
     let mut oi = [UNWRITTEN_ITEM; 257];
     let mut ov = [UNWRITTEN_VALUE; 257];
-    text(name);
-    text(b":");
     let r = calls::call(&PACK, op, count, a, b, c, &ITEMS, &VALUES, &mut oi, &mut ov);
-    report(r, &oi, &ov);
+    report(name, r, &oi, &ov);
 }
 
 fn one(name: &[u8], op: u8, a: Value) {
@@ -338,7 +334,7 @@ fn ill_formed() {
     );
 }
 
-fn main() {
+pub fn points() {
     bools();
     ints();
     floats();
