@@ -1,106 +1,78 @@
-// What the calls have in common: a pack, the entries of the operands, and how an answer is printed: B and 0 or 1, I and a decimal number, F
-// and eight hexadecimal digits, L and its entries, V, or R and the number of the question that said no. Behind "then" stands the first
-// place of the two result slices after the entries, which held 9999 before.
-use ink_value::Outcome;
+// A call as bytes: its name after the name's length, and from byte 48 on what is called and with what (make_cases.py writes them). A byte
+// past the end is 0.
 use ink_value::Value;
-use printing::Output;
+ghost use Prim.Native.Nat.{_<_, _≤_};
 
-// A pack of two definitions, of the values 1, 2, 3 and of 10, 20.
-pub const PACK: [u8; 34] = [
-    1,
-    2,
-    0,
-    0,
-    12,
-    0,
-    13,
-    0,
-    25,
-    0,
-    9,
-    0,
-    3,
-    1,
-    0,
-    0,
-    0,
-    2,
-    0,
-    0,
-    0,
-    3,
-    0,
-    0,
-    0,
-    2,
-    10,
-    0,
-    0,
-    0,
-    20,
-    0,
-    0,
-    0,
-];
+// How many bytes a call takes, and where its parts are.
+pub const CASE: usize = 80;
 
-// The entries of the operands.
-pub const ITEMS: [u16; 7] = [0, 2, 2, 0, 1, 2, 5];
+pub const WHAT: usize = 48;
 
-pub const VALUES: [i32; 7] = [1, 3, 30, -5, 1, 3, 4];
+pub const WHICH: usize = 49;
 
-// What the places of the result slices hold before a call.
-pub const UNWRITTEN_ITEM: u16 = 9999;
+pub const COUNT: usize = 50;
 
-pub const UNWRITTEN_VALUE: i32 = 9999;
+pub const FIRST: usize = 51;
 
-fn written(r: Outcome) -> usize {
-    match r {
-        Outcome::Value(v) => ink_value::len_of(v),
-        Outcome::Refused(_) => 0,
-    }
+pub const SECOND: usize = 56;
+
+pub const THIRD: usize = 61;
+
+pub const LENT: usize = 66;
+
+pub const RESULTS: usize = 67;
+
+pub const PACK_LENGTH: usize = 68;
+
+pub const PACK_START: usize = 69;
+
+fn widen(x: u8) -> usize
+    ensures { λ r. ⌜ r < 256 ⌝ }
+{
+    x as usize
 }
 
-pub fn show(o: Output, out: &mut [u8], r: Outcome, items: &[u16], values: &[i32]) -> Output {
-    match r {
-        Outcome::Value(v) => o.value(out, v, items, values),
-        Outcome::Refused(number) => o.refused(out, number),
+pub fn byte(s: &[u8], at: usize) -> u8 {
+    if at < s.len() {
+        return s[at];
     }
+    0
 }
 
-// The place after the first n entries.
-fn place_after(o: Output, out: &mut [u8], n: usize, items: &[u16], values: &[i32]) -> Output {
-    if items.len() <= n {
-        return o;
-    }
-    if values.len() <= n {
-        return o;
-    }
-    o.text(out, b" then").entry(out, items[n], values[n])
+pub fn number(s: &[u8], at: usize) -> usize
+    ensures { λ r. ⌜ r < 256 ⌝ }
+{
+    widen(byte(s, at))
 }
 
-// The line of a call that has result slices.
-pub fn report(name: &[u8], r: Outcome, items: &[u16], values: &[i32]) {
-    let mut out = io::buffer();
-    let o = show(
-        Output::new().text(&mut out, name).text(&mut out, b":"),
-        &mut out,
-        r,
-        items,
-        values,
-    );
-    place_after(o, &mut out, written(r), items, values)
-        .text(&mut out, b"\n")
-        .flush(&out);
+fn word(s: &[u8], at: usize) -> u32
+    requires { ⌜ at ≤ 80 ⌝ }
+{
+    (number(s, at)
+        + 256 * number(s, at + 1)
+        + 65536 * number(s, at + 2)
+        + 16777216 * number(s, at + 3)) as u32
 }
 
-pub fn list(origins: u64, start: usize, len: usize) -> Value {
+fn list(s: &[u8], at: usize) -> Value
+    requires { ⌜ at ≤ 80 ⌝ }
+{
     Value::List {
-        origins,
-        start,
-        len,
+        origins: number(s, at) as u64,
+        start: number(s, at + 1),
+        len: number(s, at + 2),
     }
 }
 
-pub fn float(bits: u32) -> Value {
-    Value::Float(ink_float::convert::float_from_bits(bits))
+// An operand: its kind, and what it holds.
+pub fn operand(s: &[u8], at: usize) -> Value
+    requires { ⌜ at ≤ 64 ⌝ }
+{
+    match byte(s, at) {
+        0 => Value::Bool(byte(s, at + 1) == 1),
+        1 => Value::Int(ink_number::int::signed_of(word(s, at + 1))),
+        2 => Value::Float(ink_float::convert::float_from_bits(word(s, at + 1))),
+        3 => list(s, at + 1),
+        _ => Value::Void,
+    }
 }

@@ -1,5 +1,5 @@
 -- Laws of `Adds`: nothing; one text after another; a byte where there is room, and into a buffer that was written. Assumes nothing.
-use mathlib.Core.Path.{_≡_, refl, ap, sym, _∙_, subst, subst⁻¹}
+use mathlib.Core.Path.{_≡_, ap, sym, _∙_, subst, subst⁻¹}
 use mathlib.Core.Bool.{true}
 use mathlib.Core.List.{List, [], _∷_, _++_, append-assoc, append-nil}
 use Prim.Native.Nat.{ℕ, _+_, _<_, _≤_}

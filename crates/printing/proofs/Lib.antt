@@ -1,1 +1,2 @@
+-- The laws of text that waits to be written.
 pub mod Adding
