@@ -7,3 +7,4 @@ pub mod IncrementSearch
 pub mod TargetLaws
 pub mod AnswersFormed
 mod Known
+pub mod ByEntry
