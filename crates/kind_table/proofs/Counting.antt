@@ -8,9 +8,11 @@ use native.Mathlib.Omega.{arith}
 use lib.Dec.{eqb, leb}
 use lib.ListN.{take}
 use borrow.Author.Tests.{eq-eqb, ne-eqb, eqb-true, eqb-false, lt-leb, lt-ltb, le-ltb}
+use Rattle.slices.specs.Every.{every}
+use Rattle.slices.proofs.Every.{every-at}
 use Rattle.ink_number.specs.Answer.{gives, refuses}
 use Rattle.ink_value.specs.Val.{Kind, boolK, intK, floatK, listK, voidK, kindAt, codeOf}
-use Rattle.kind_table.specs.Kinds.{isList, isVoid, known, unary, arity, operandCount, kindApply, kindCall, kindRange, kindEntry, kindUnary, kindBinary, KindsGiven, decoded}
+use Rattle.kind_table.specs.Kinds.{isList, isVoid, known, unary, arity, operandCount, kindApply, kindCall, kindRange, kindEntry, kindUnary, kindBinary, KindsGiven, decoded, bitsOf}
 
 -- what an operand count says of an operator
 pub record Takes (o n : ℕ) : Type 0 where
@@ -47,6 +49,28 @@ unfolding kindApply kindEntry
 entry-one o k j e =
     let t = takes o 1 (omega arith) e in
     rw (t .arity-is, t .is-known, arity-unary o (t .arity-is))
+
+-- of one operand the right kind says nothing, so the left may stand for it
+one-kind : (o : ℕ) (k i j : Kind) → operandCount o ≡ 1 → kindEntry o k i ≡ kindEntry o k j
+one-kind o k i j e = sym (entry-one o k i e) ∙ entry-one o k j e
+
+module _ (n a b : ℕ) where
+  pub second-below : a < 5 → b < 5 → cond (eqb n 1) a b < 5
+  second-below h k = go (eqb n 1)
+    where
+      go : (t : Bool) → cond t a b < 5
+      go true = h
+      go false = k
+
+  pub second-alike : n ≡ 1 → a ≡ cond (eqb n 1) a b
+  second-alike e = rw (eq-eqb n 1 e) refl
+
+  pub second-entry : (o : ℕ) → operandCount o ≡ n → kindEntry o (kindAt a) (kindAt (cond (eqb n 1) a b)) ≡ kindEntry o (kindAt a) (kindAt b)
+  second-entry o e = go (eqb n 1) refl
+    where
+      go : (t : Bool) → eqb n 1 ≡ t → kindEntry o (kindAt a) (kindAt (cond t a b)) ≡ kindEntry o (kindAt a) (kindAt b)
+      go true w = one-kind o (kindAt a) (kindAt a) (kindAt b) (e ∙ eqb-true n 1 w)
+      go false w = refl
 
 pub entry-two : (o : ℕ) (j k : Kind) → operandCount o ≡ 2 → kindApply o (j ∷ k ∷ []) ≡ kindEntry o j k
 unfolding kindApply kindEntry
@@ -101,6 +125,10 @@ count-three o m e h n1 n2 = let t = takes o m h e in go (unary o) (eqb o 31) (t 
     go true t q = absurd (n1 (sym q))
     go false true q = sym q
     go false false q = absurd (n2 (sym q))
+
+-- a word has the counts, by a test computed of all
+pub counted : (w o : ℕ) → every 32 (λ o. eqb (bitsOf w o) (operandCount o)) ≡ true → o < 32 → bitsOf w o ≡ operandCount o
+counted w o t l = eqb-true (bitsOf w o) (operandCount o) (every-at (λ o. eqb (bitsOf w o) (operandCount o)) 32 o t l)
 
 -- ---- question 8
 
@@ -172,6 +200,11 @@ below-three o n h e ne =
     let t = takes o n h e in
     ⊎-elim (λ q. inl (sym (t .arity-is) ∙ q))
     (λ w. ⊎-elim (λ q. inr (sym (t .arity-is) ∙ q)) (λ q. absurd (ne (sym (t .arity-is) ∙ q))) w) (arity-some o)
+
+-- an operator below range that takes not one operand takes two
+pub two-taken : (o : ℕ) → o < 31 → 1 ≤ operandCount o → (operandCount o ≡ 1 → ⊥) → operandCount o ≡ 2
+two-taken o l h ne =
+    ⊎-elim (λ q. absurd (ne q)) (λ q. q) (below-three o (operandCount o) h refl (λ q. let w = is-range o q in omega (arith, l, w)))
 
 module _ (o : ℕ) (a b c : Kind) where
   by-entry : (n : ℕ) → operandCount o ≡ n → (n ≡ 1) ⊎ (n ≡ 2) → kindCall o n (take n (a ∷ b ∷ c ∷ [])) ≡ kindEntry o a b

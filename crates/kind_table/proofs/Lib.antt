@@ -1,3 +1,2 @@
-pub mod Every
 pub mod KindTable
 pub mod Counting

@@ -116,20 +116,12 @@ abbrev pub decoded : ℕ → Answer Kind
 decoded e = cond (ltb e 5) (gives (kindAt e)) (refuses e)
 
 -- the table has for each operator its 25 answers, by the left kind and then by the right
-pub record Table (table : List ℕ) : Type 0 where
-  pub answers : (o a b : ℕ) → o < opRange → a < 5 → b < 5 → decoded (getD table (o * 25 + a * 5 + b) 0) ≡ kindEntry o (kindAt a) (kindAt b)
+pub record Table (table : List (List ℕ)) : Type 0 where
+  pub answers : (o a b : ℕ) → o < opRange → a < 5 → b < 5 → decoded (getD (getD table o []) (a * 5 + b) 0) ≡ kindEntry o (kindAt a) (kindAt b)
 
--- an answer takes four bits of a word, from the lowest on
-abbrev pub answerIn : ℕ → ℕ → ℕ
-answerIn w k = w / 2 ^ (4 * k) % 16
-
--- the entry at one of an operator's 25 places, five right kinds to each left kind
-abbrev pub entryAt : ℕ → ℕ → Answer Kind
-entryAt o k = kindEntry o (kindAt (k / 5)) (kindAt (k % 5))
-
--- a word has the entries of n of an operator's places, from a place on
-abbrev pub AnswersFrom : ℕ → ℕ → ℕ → ℕ → Type 0
-AnswersFrom from n o w = (k : ℕ) → k < n → decoded (answerIn w k) ≡ entryAt o (from + k)
+-- a word has two bits for each operator, from Add's in the lowest on
+abbrev pub bitsOf : ℕ → ℕ → ℕ
+bitsOf w o = w / 2 ^ (2 * o) % 4
 
 -- how many operands an operator takes, 0 where question 8 says no
 unfoldable pub operandCount : ℕ → ℕ

@@ -1,15 +1,17 @@
-// The operators on kinds: the table of 775 answers that vetting works from, the same answers as the operators look them up, range beside
-// them, and how many operands an operator takes.
+// The operators on kinds: the table of 775 answers that vetting works from, the same answers as operators compute them, range beside them,
+// and how many operands an operator takes.
 pub mod op;
 
 use ink_value::kind_code;
 ghost use mathlib.Core.Path.{_≡_};
 ghost use mathlib.Core.List.{[], _∷_};
-ghost use Prim.Native.Nat.{_<_, _≤_};
+ghost use mathlib.Core.Bool.{cond};
+ghost use Prim.Native.Nat.{_<_, _≤_, max};
+ghost use lib.Dec.{eqb};
 ghost use lib.ListN.{take};
-ghost use Rattle.ink_value.specs.Val.{kindAt, listK, codeOf};
+ghost use Rattle.ink_value.specs.Val.{kindAt, intK, listK, codeOf};
 ghost use Rattle.kind_table.specs.Op.{opRange};
-ghost use Rattle.kind_table.specs.Kinds.{kindEntry, decoded, operandCount, kindRange, kindAnswer, Table, answerIn, AnswersFrom, Coded, KindsGiven};
+ghost use Rattle.kind_table.specs.Kinds.{kindEntry, decoded, operandCount, kindRange, kindAnswer, Table, bitsOf, Coded, KindsGiven};
 
 // What an operator gives on kinds: the kind of its result, or a refusal.
 pub enum KindAnswer {
@@ -17,159 +19,163 @@ pub enum KindAnswer {
     Refused(u8),
 }
 
-// How many answers the table has.
-pub const ANSWERS: usize = 775;
+// How many operators the table has.
+pub const OPERATORS: usize = 31;
+
+// How many pairs of kinds.
+pub const PAIRS: usize = 25;
 
 // The table of 775 answers, 31 operators by five left by five right kinds: a kind code, or a refusal's number. A line has an operator's 25, by
 // the left kind and then by the right.
-const KINDS: [u8; ANSWERS] =
-    *b"\x01\x01\x02\x0c\x0b\x01\x01\x02\x0c\x0b\x02\x02\x02\x0c\x0b\x0c\x03\x0c\x03\x0b\x0b\x0b\x0b\x0b\x0b\
-    \x01\x01\x02\x0c\x0b\x01\x01\x02\x0c\x0b\x02\x02\x02\x0c\x0b\x0c\x03\x0c\x03\x0b\x0b\x0b\x0b\x0b\x0b\
-    \x01\x01\x02\x0c\x0b\x01\x01\x02\x0c\x0b\x02\x02\x02\x0c\x0b\x0c\x0c\x0c\x0d\x0b\x0b\x0b\x0b\x0b\x0b\
-    \x01\x01\x02\x0c\x0b\x01\x01\x02\x0c\x0b\x02\x02\x02\x0c\x0b\x0c\x0c\x0c\x0d\x0b\x0b\x0b\x0b\x0b\x0b\
-    \x01\x01\x02\x0c\x0b\x01\x01\x02\x0c\x0b\x02\x02\x02\x0c\x0b\x0c\x0c\x0c\x0d\x0b\x0b\x0b\x0b\x0b\x0b\
-    \x01\x01\x01\x01\x01\x01\x01\x01\x01\x01\x02\x02\x02\x02\x02\x0d\x0d\x0d\x0d\x0d\x0b\x0b\x0b\x0b\x0b\
-    \x00\x00\x00\x0c\x0b\x00\x00\x00\x0c\x0b\x00\x00\x00\x0c\x0b\x0c\x0c\x0c\x0e\x0b\x0b\x0b\x0b\x0b\x0b\
-    \x00\x00\x00\x0c\x0b\x00\x00\x00\x0c\x0b\x00\x00\x00\x0c\x0b\x0c\x0c\x0c\x00\x0b\x0b\x0b\x0b\x0b\x0b\
-    \x00\x00\x00\x0c\x0b\x00\x00\x00\x0c\x0b\x00\x00\x00\x0c\x0b\x0c\x0c\x0c\x00\x0b\x0b\x0b\x0b\x0b\x0b\
-    \x00\x00\x00\x0c\x0b\x00\x00\x00\x0c\x0b\x00\x00\x00\x0c\x0b\x0c\x0c\x0c\x00\x0b\x0b\x0b\x0b\x0b\x0b\
-    \x00\x00\x00\x0c\x0b\x00\x00\x00\x0c\x0b\x00\x00\x00\x0c\x0b\x0c\x0c\x0c\x00\x0b\x0b\x0b\x0b\x0b\x0b\
-    \x00\x00\x00\x0c\x0b\x00\x00\x00\x0c\x0b\x00\x00\x00\x0c\x0b\x0c\x0c\x0c\x0e\x0b\x0b\x0b\x0b\x0b\x0b\
-    \x00\x00\x00\x00\x00\x00\x00\x00\x00\x00\x00\x00\x00\x00\x00\x01\x01\x01\x01\x01\x0b\x0b\x0b\x0b\x0b\
-    \x00\x00\x00\x00\x0b\x00\x00\x00\x00\x0b\x00\x00\x00\x00\x0b\x00\x00\x00\x00\x0b\x0b\x0b\x0b\x0b\x0b\
-    \x00\x00\x00\x00\x0b\x00\x00\x00\x00\x0b\x00\x00\x00\x00\x0b\x00\x00\x00\x00\x0b\x0b\x0b\x0b\x0b\x0b\
-    \x01\x01\x02\x0c\x0b\x01\x01\x02\x0c\x0b\x02\x02\x02\x0c\x0b\x0c\x0c\x0c\x0d\x0b\x0b\x0b\x0b\x0b\x0b\
-    \x01\x01\x02\x0c\x0b\x01\x01\x02\x0c\x0b\x02\x02\x02\x0c\x0b\x0c\x0c\x0c\x0d\x0b\x0b\x0b\x0b\x0b\x0b\
-    \x08\x08\x08\x08\x08\x08\x08\x08\x08\x08\x08\x08\x08\x08\x08\x08\x08\x08\x08\x08\x08\x08\x08\x08\x08\
-    \x08\x08\x08\x08\x08\x08\x08\x08\x08\x08\x08\x08\x08\x08\x08\x08\x08\x08\x08\x08\x08\x08\x08\x08\x08\
-    \x08\x08\x08\x08\x08\x08\x08\x08\x08\x08\x08\x08\x08\x08\x08\x08\x08\x08\x08\x08\x08\x08\x08\x08\x08\
-    \x01\x01\x01\x01\x01\x01\x01\x01\x01\x01\x01\x01\x01\x01\x01\x0d\x0d\x0d\x0d\x0d\x0b\x0b\x0b\x0b\x0b\
-    \x02\x02\x02\x02\x02\x02\x02\x02\x02\x02\x02\x02\x02\x02\x02\x0d\x0d\x0d\x0d\x0d\x0b\x0b\x0b\x0b\x0b\
-    \x0d\x0d\x0d\x0c\x0b\x0d\x0d\x0d\x0c\x0b\x0d\x0d\x0d\x0c\x0b\x0c\x0c\x0c\x00\x0b\x0b\x0b\x0b\x0b\x0b\
-    \x0d\x0d\x0d\x0c\x0b\x0d\x0d\x0d\x0c\x0b\x0d\x0d\x0d\x0c\x0b\x0c\x0c\x0c\x00\x0b\x0b\x0b\x0b\x0b\x0b\
-    \x0d\x0d\x0d\x0c\x0b\x0d\x0d\x0d\x0c\x0b\x0d\x0d\x0d\x0c\x0b\x0c\x0c\x0c\x03\x0b\x0b\x0b\x0b\x0b\x0b\
-    \x0d\x0d\x0d\x0d\x0d\x0d\x0d\x0d\x0d\x0d\x0d\x0d\x0d\x0d\x0d\x03\x03\x03\x03\x03\x0b\x0b\x0b\x0b\x0b\
-    \x0d\x0d\x0d\x0d\x0d\x0d\x0d\x0d\x0d\x0d\x0d\x0d\x0d\x0d\x0d\x03\x03\x03\x03\x03\x0b\x0b\x0b\x0b\x0b\
-    \x0d\x0d\x0d\x0d\x0d\x0d\x0d\x0d\x0d\x0d\x0d\x0d\x0d\x0d\x0d\x03\x03\x03\x03\x03\x0b\x0b\x0b\x0b\x0b\
-    \x0d\x0d\x0d\x0d\x0d\x0d\x0d\x0d\x0d\x0d\x0d\x0d\x0d\x0d\x0d\x01\x01\x01\x01\x01\x0b\x0b\x0b\x0b\x0b\
-    \x0d\x0d\x0d\x0d\x0d\x0d\x0d\x0d\x0d\x0d\x0d\x0d\x0d\x0d\x0d\x01\x01\x01\x01\x01\x0b\x0b\x0b\x0b\x0b\
-    \x0d\x0d\x0d\x0d\x0d\x0d\x0d\x0d\x0d\x0d\x0d\x0d\x0d\x0d\x0d\x03\x03\x03\x03\x03\x0b\x0b\x0b\x0b\x0b";
+const KINDS: [[u8; PAIRS]; OPERATORS] = [
+    *b"\x01\x01\x02\x0c\x0b\x01\x01\x02\x0c\x0b\x02\x02\x02\x0c\x0b\x0c\x03\x0c\x03\x0b\x0b\x0b\x0b\x0b\x0b", // ADD
+    *b"\x01\x01\x02\x0c\x0b\x01\x01\x02\x0c\x0b\x02\x02\x02\x0c\x0b\x0c\x03\x0c\x03\x0b\x0b\x0b\x0b\x0b\x0b", // SUBTRACT
+    *b"\x01\x01\x02\x0c\x0b\x01\x01\x02\x0c\x0b\x02\x02\x02\x0c\x0b\x0c\x0c\x0c\x0d\x0b\x0b\x0b\x0b\x0b\x0b", // DIVIDE
+    *b"\x01\x01\x02\x0c\x0b\x01\x01\x02\x0c\x0b\x02\x02\x02\x0c\x0b\x0c\x0c\x0c\x0d\x0b\x0b\x0b\x0b\x0b\x0b", // MULTIPLY
+    *b"\x01\x01\x02\x0c\x0b\x01\x01\x02\x0c\x0b\x02\x02\x02\x0c\x0b\x0c\x0c\x0c\x0d\x0b\x0b\x0b\x0b\x0b\x0b", // MOD
+    *b"\x01\x01\x01\x01\x01\x01\x01\x01\x01\x01\x02\x02\x02\x02\x02\x0d\x0d\x0d\x0d\x0d\x0b\x0b\x0b\x0b\x0b", // NEGATE
+    *b"\x00\x00\x00\x0c\x0b\x00\x00\x00\x0c\x0b\x00\x00\x00\x0c\x0b\x0c\x0c\x0c\x0e\x0b\x0b\x0b\x0b\x0b\x0b", // EQUAL
+    *b"\x00\x00\x00\x0c\x0b\x00\x00\x00\x0c\x0b\x00\x00\x00\x0c\x0b\x0c\x0c\x0c\x00\x0b\x0b\x0b\x0b\x0b\x0b", // GREATER
+    *b"\x00\x00\x00\x0c\x0b\x00\x00\x00\x0c\x0b\x00\x00\x00\x0c\x0b\x0c\x0c\x0c\x00\x0b\x0b\x0b\x0b\x0b\x0b", // LESS
+    *b"\x00\x00\x00\x0c\x0b\x00\x00\x00\x0c\x0b\x00\x00\x00\x0c\x0b\x0c\x0c\x0c\x00\x0b\x0b\x0b\x0b\x0b\x0b", // GREATER_THAN_OR_EQUALS
+    *b"\x00\x00\x00\x0c\x0b\x00\x00\x00\x0c\x0b\x00\x00\x00\x0c\x0b\x0c\x0c\x0c\x00\x0b\x0b\x0b\x0b\x0b\x0b", // LESS_THAN_OR_EQUALS
+    *b"\x00\x00\x00\x0c\x0b\x00\x00\x00\x0c\x0b\x00\x00\x00\x0c\x0b\x0c\x0c\x0c\x0e\x0b\x0b\x0b\x0b\x0b\x0b", // NOT_EQUALS
+    *b"\x00\x00\x00\x00\x00\x00\x00\x00\x00\x00\x00\x00\x00\x00\x00\x01\x01\x01\x01\x01\x0b\x0b\x0b\x0b\x0b", // NOT
+    *b"\x00\x00\x00\x00\x0b\x00\x00\x00\x00\x0b\x00\x00\x00\x00\x0b\x00\x00\x00\x00\x0b\x0b\x0b\x0b\x0b\x0b", // AND
+    *b"\x00\x00\x00\x00\x0b\x00\x00\x00\x00\x0b\x00\x00\x00\x00\x0b\x00\x00\x00\x00\x0b\x0b\x0b\x0b\x0b\x0b", // OR
+    *b"\x01\x01\x02\x0c\x0b\x01\x01\x02\x0c\x0b\x02\x02\x02\x0c\x0b\x0c\x0c\x0c\x0d\x0b\x0b\x0b\x0b\x0b\x0b", // MIN
+    *b"\x01\x01\x02\x0c\x0b\x01\x01\x02\x0c\x0b\x02\x02\x02\x0c\x0b\x0c\x0c\x0c\x0d\x0b\x0b\x0b\x0b\x0b\x0b", // MAX
+    *b"\x08\x08\x08\x08\x08\x08\x08\x08\x08\x08\x08\x08\x08\x08\x08\x08\x08\x08\x08\x08\x08\x08\x08\x08\x08", // POW
+    *b"\x08\x08\x08\x08\x08\x08\x08\x08\x08\x08\x08\x08\x08\x08\x08\x08\x08\x08\x08\x08\x08\x08\x08\x08\x08", // FLOOR
+    *b"\x08\x08\x08\x08\x08\x08\x08\x08\x08\x08\x08\x08\x08\x08\x08\x08\x08\x08\x08\x08\x08\x08\x08\x08\x08", // CEILING
+    *b"\x01\x01\x01\x01\x01\x01\x01\x01\x01\x01\x01\x01\x01\x01\x01\x0d\x0d\x0d\x0d\x0d\x0b\x0b\x0b\x0b\x0b", // INT
+    *b"\x02\x02\x02\x02\x02\x02\x02\x02\x02\x02\x02\x02\x02\x02\x02\x0d\x0d\x0d\x0d\x0d\x0b\x0b\x0b\x0b\x0b", // FLOAT
+    *b"\x0d\x0d\x0d\x0c\x0b\x0d\x0d\x0d\x0c\x0b\x0d\x0d\x0d\x0c\x0b\x0c\x0c\x0c\x00\x0b\x0b\x0b\x0b\x0b\x0b", // HAS
+    *b"\x0d\x0d\x0d\x0c\x0b\x0d\x0d\x0d\x0c\x0b\x0d\x0d\x0d\x0c\x0b\x0c\x0c\x0c\x00\x0b\x0b\x0b\x0b\x0b\x0b", // HASNT
+    *b"\x0d\x0d\x0d\x0c\x0b\x0d\x0d\x0d\x0c\x0b\x0d\x0d\x0d\x0c\x0b\x0c\x0c\x0c\x03\x0b\x0b\x0b\x0b\x0b\x0b", // INTERSECT
+    *b"\x0d\x0d\x0d\x0d\x0d\x0d\x0d\x0d\x0d\x0d\x0d\x0d\x0d\x0d\x0d\x03\x03\x03\x03\x03\x0b\x0b\x0b\x0b\x0b", // LIST_MIN
+    *b"\x0d\x0d\x0d\x0d\x0d\x0d\x0d\x0d\x0d\x0d\x0d\x0d\x0d\x0d\x0d\x03\x03\x03\x03\x03\x0b\x0b\x0b\x0b\x0b", // LIST_MAX
+    *b"\x0d\x0d\x0d\x0d\x0d\x0d\x0d\x0d\x0d\x0d\x0d\x0d\x0d\x0d\x0d\x03\x03\x03\x03\x03\x0b\x0b\x0b\x0b\x0b", // ALL
+    *b"\x0d\x0d\x0d\x0d\x0d\x0d\x0d\x0d\x0d\x0d\x0d\x0d\x0d\x0d\x0d\x01\x01\x01\x01\x01\x0b\x0b\x0b\x0b\x0b", // COUNT
+    *b"\x0d\x0d\x0d\x0d\x0d\x0d\x0d\x0d\x0d\x0d\x0d\x0d\x0d\x0d\x0d\x01\x01\x01\x01\x01\x0b\x0b\x0b\x0b\x0b", // VALUE_OF_LIST
+    *b"\x0d\x0d\x0d\x0d\x0d\x0d\x0d\x0d\x0d\x0d\x0d\x0d\x0d\x0d\x0d\x03\x03\x03\x03\x03\x0b\x0b\x0b\x0b\x0b", // INVERT
+];
 
 // The table, for a caller that looks up often: a constant array is stored anew where it is used.
-pub fn table() -> [u8; ANSWERS]
+pub fn table() -> [[u8; PAIRS]; OPERATORS]
     ensures { λ r. ⌜ Table r ⌝ }
 {
     KINDS
 }
 
-// The answers as an operator looks them up: constants that are not stored. An answer takes four bits, so an operator's 25 stand in two words,
-// from the lowest bits on.
-
-// The answers where the left operand is a Bool, an Int or a Float.
-fn number_answers(op: u8) -> u64
-    requires { ⌜ op < opRange ⌝ }
-    ensures { λ r. ⌜ AnswersFrom 0 15 op r ⌝ }
+// The higher of two kind codes.
+fn higher(left: u8, right: u8) -> u8
+    ensures { λ r. ⌜ r ≡ max left right ⌝ }
 {
-    match op {
-        op::ADD => 0xbc222bc211bc211,
-        op::SUBTRACT => 0xbc222bc211bc211,
-        op::DIVIDE => 0xbc222bc211bc211,
-        op::MULTIPLY => 0xbc222bc211bc211,
-        op::MOD => 0xbc222bc211bc211,
-        op::NEGATE => 0x222221111111111,
-        op::EQUAL => 0xbc000bc000bc000,
-        op::GREATER => 0xbc000bc000bc000,
-        op::LESS => 0xbc000bc000bc000,
-        op::GREATER_THAN_OR_EQUALS => 0xbc000bc000bc000,
-        op::LESS_THAN_OR_EQUALS => 0xbc000bc000bc000,
-        op::NOT_EQUALS => 0xbc000bc000bc000,
-        op::NOT => 0x000000000000000,
-        op::AND => 0xb0000b0000b0000,
-        op::OR => 0xb0000b0000b0000,
-        op::MIN => 0xbc222bc211bc211,
-        op::MAX => 0xbc222bc211bc211,
-        op::POW => 0x888888888888888,
-        op::FLOOR => 0x888888888888888,
-        op::CEILING => 0x888888888888888,
-        op::INT => 0x111111111111111,
-        op::FLOAT => 0x222222222222222,
-        op::HAS => 0xbcdddbcdddbcddd,
-        op::HASNT => 0xbcdddbcdddbcddd,
-        op::INTERSECT => 0xbcdddbcdddbcddd,
-        op::LIST_MIN => 0xddddddddddddddd,
-        op::LIST_MAX => 0xddddddddddddddd,
-        op::ALL => 0xddddddddddddddd,
-        op::COUNT => 0xddddddddddddddd,
-        op::VALUE_OF_LIST => 0xddddddddddddddd,
-        _ => 0xddddddddddddddd,
-    }
+    if left < right { right } else { left }
 }
 
-// The answers where the left operand is a List or Void.
-fn other_answers(op: u8) -> u64
-    requires { ⌜ op < opRange ⌝ }
-    ensures { λ r. ⌜ AnswersFrom 15 10 op r ⌝ }
+// The code of the common kind: the highest code present, at least Int's.
+fn common(left: u8, right: u8) -> u8
+    ensures { λ r. ⌜ r ≡ max (codeOf intK) (max left right) ⌝ }
 {
-    match op {
-        op::ADD => 0xbbbbbb3c3c,
-        op::SUBTRACT => 0xbbbbbb3c3c,
-        op::DIVIDE => 0xbbbbbbdccc,
-        op::MULTIPLY => 0xbbbbbbdccc,
-        op::MOD => 0xbbbbbbdccc,
-        op::NEGATE => 0xbbbbbddddd,
-        op::EQUAL => 0xbbbbbbeccc,
-        op::GREATER => 0xbbbbbb0ccc,
-        op::LESS => 0xbbbbbb0ccc,
-        op::GREATER_THAN_OR_EQUALS => 0xbbbbbb0ccc,
-        op::LESS_THAN_OR_EQUALS => 0xbbbbbb0ccc,
-        op::NOT_EQUALS => 0xbbbbbbeccc,
-        op::NOT => 0xbbbbb11111,
-        op::AND => 0xbbbbbb0000,
-        op::OR => 0xbbbbbb0000,
-        op::MIN => 0xbbbbbbdccc,
-        op::MAX => 0xbbbbbbdccc,
-        op::POW => 0x8888888888,
-        op::FLOOR => 0x8888888888,
-        op::CEILING => 0x8888888888,
-        op::INT => 0xbbbbbddddd,
-        op::FLOAT => 0xbbbbbddddd,
-        op::HAS => 0xbbbbbb0ccc,
-        op::HASNT => 0xbbbbbb0ccc,
-        op::INTERSECT => 0xbbbbbb3ccc,
-        op::LIST_MIN => 0xbbbbb33333,
-        op::LIST_MAX => 0xbbbbb33333,
-        op::ALL => 0xbbbbb33333,
-        op::COUNT => 0xbbbbb11111,
-        op::VALUE_OF_LIST => 0xbbbbb11111,
-        _ => 0xbbbbb33333,
-    }
+    higher(kind_code::INT, higher(left, right))
 }
 
-// The answer at a place of a word.
-fn answer_in(word: u64, place: u8) -> u8
-    requires { ⌜ place < 16 ⌝ }
-    ensures { λ r. ⌜ r ≡ answerIn word place ⌝ }
-{
-    ((word >> (4 * place)) % 16) as u8
-}
-
-// The answer for an operator below range, with a Bool, an Int or a Float on the left.
+// The answer for an operator below range on numbers, of which it may take one, the left.
 pub fn number_entry(op: u8, left: u8, right: u8) -> u8
-    requires { ⌜ (op < opRange) × (left < codeOf listK) × (right < 5) ⌝ }
+    requires { ⌜ (op < opRange) × (left < codeOf listK) × (right < 5) × (operandCount op ≡ 2 → right < codeOf listK) ⌝ }
     ensures { λ r. ⌜ decoded r ≡ kindEntry op (kindAt left) (kindAt right) ⌝ }
 {
-    answer_in(number_answers(op), left * 5 + right)
+    if op < op::MIN {
+        if op < op::NEGATE {
+            return common(left, right);
+        }
+        if op == op::NEGATE {
+            return common(left, left);
+        }
+        return kind_code::BOOL;
+    }
+    if op < op::POW {
+        return common(left, right);
+    }
+    if op::FLOAT < op {
+        return 13;
+    }
+    if op < op::INT {
+        return 8;
+    }
+    if op == op::INT {
+        return kind_code::INT;
+    }
+    kind_code::FLOAT
 }
 
-// The answer for an operator below range and two kind codes.
-pub fn entry(op: u8, left: u8, right: u8) -> u8
-    requires { ⌜ (op < opRange) × (left < 5) × (right < 5) ⌝ }
+// The two bits of an operator in a word, from Add's in the lowest on.
+fn bits_of(word: u64, op: u8) -> u8
+    requires { ⌜ op < 32 ⌝ }
+    ensures { λ r. ⌜ r ≡ bitsOf word op ⌝ }
+{
+    ((word >> (2 * op)) % 4) as u8
+}
+
+// The kind that each operator gives on Lists, two bits for each from Invert down to Add; Float's code where question 13 or 14 says no.
+const ON_LISTS: u64 = 0b11_0101_111111_11_0000_10101010101010_0000_01_10_00000000_10_10101010_1111;
+
+// The answer for an operator below range on Lists.
+fn lists(op: u8) -> u8
+    requires { ⌜ (op < opRange) × (1 ≤ operandCount op) ⌝ }
+    ensures { λ r. ⌜ decoded r ≡ kindEntry op listK listK ⌝ }
+{
+    let kind = bits_of(ON_LISTS, op);
+    if kind != kind_code::FLOAT {
+        return kind;
+    }
+    if op == op::EQUAL {
+        return 14;
+    }
+    if op == op::NOT_EQUALS {
+        return 14;
+    }
+    13
+}
+
+// The answer for an operator of two operands, a List and a number or a number and a List.
+fn mixed(op: u8, left: u8, right: u8) -> u8
+    requires { ⌜ (op < opRange) × (operandCount op ≡ 2) × (left ≡ right → ⊥) × (max left right ≡ codeOf listK) ⌝ }
     ensures { λ r. ⌜ decoded r ≡ kindEntry op (kindAt left) (kindAt right) ⌝ }
 {
-    if left < kind_code::LIST {
+    if op < op::DIVIDE {
+        if right == kind_code::INT {
+            return kind_code::LIST;
+        }
+        return 12;
+    }
+    if op < op::AND {
+        return 12;
+    }
+    if op < op::MIN {
+        return kind_code::BOOL;
+    }
+    12
+}
+
+// The answer for an operator below range and two kind codes, or one twice where it takes one operand.
+pub fn entry(op: u8, left: u8, right: u8) -> u8
+    requires { ⌜ (op < opRange) × (left < 5) × (right < 5) × (1 ≤ operandCount op) × (operandCount op ≡ 1 → left ≡ right) ⌝ }
+    ensures { λ r. ⌜ decoded r ≡ kindEntry op (kindAt left) (kindAt right) ⌝ }
+{
+    let highest = higher(left, right);
+    if highest < kind_code::LIST {
         return number_entry(op, left, right);
     }
-    answer_in(other_answers(op), left * 5 + right - 15)
+    if highest == kind_code::VOID {
+        return 11;
+    }
+    if left == right {
+        return lists(op);
+    }
+    mixed(op, left, right)
 }
 
 // Range's answer for three kind codes.
@@ -205,12 +211,11 @@ fn decoded(e: u8) -> KindAnswer
 }
 
 // The table's answer for an operator below range and two kind codes.
-pub fn kind_entry(table: &[u8; ANSWERS], op: u8, left: u8, right: u8) -> KindAnswer
+pub fn kind_entry(table: &[[u8; PAIRS]; OPERATORS], op: u8, left: u8, right: u8) -> KindAnswer
     requires { ⌜ Table (now table) × (op < opRange) × (left < 5) × (right < 5) ⌝ }
     ensures { λ r. ⌜ (kindAnswer r ≡ kindEntry op (kindAt left) (kindAt right)) × Coded r ⌝ }
 {
-    let at = (op as usize) * 25 + (left as usize) * 5 + right as usize;
-    decoded(table[at])
+    decoded(table[op as usize][(left as usize) * 5 + right as usize])
 }
 
 // Range's answer, for three kind codes.
@@ -221,45 +226,22 @@ pub fn kind_range(list: u8, lower: u8, upper: u8) -> KindAnswer
     decoded(range(list, lower, upper))
 }
 
+// How many operands each operator takes, two bits for each from range down to Add.
+const TAKEN: u64 = 0b11_010101010101_101010_0101_000000_10101010_01_101010101010_01_1010101010;
+
 // How many operands an operator takes, 0 where there is no such operator.
 pub fn operands(op: u8) -> usize
     requires { ⌜ op < 32 ⌝ }
     ensures { λ r. ⌜ r ≡ operandCount op ⌝ }
 {
-    match op {
-        op::ADD => 2,
-        op::SUBTRACT => 2,
-        op::DIVIDE => 2,
-        op::MULTIPLY => 2,
-        op::MOD => 2,
-        op::NEGATE => 1,
-        op::EQUAL => 2,
-        op::GREATER => 2,
-        op::LESS => 2,
-        op::GREATER_THAN_OR_EQUALS => 2,
-        op::LESS_THAN_OR_EQUALS => 2,
-        op::NOT_EQUALS => 2,
-        op::NOT => 1,
-        op::AND => 2,
-        op::OR => 2,
-        op::MIN => 2,
-        op::MAX => 2,
-        op::POW => 0,
-        op::FLOOR => 0,
-        op::CEILING => 0,
-        op::INT => 1,
-        op::FLOAT => 1,
-        op::HAS => 2,
-        op::HASNT => 2,
-        op::INTERSECT => 2,
-        op::LIST_MIN => 1,
-        op::LIST_MAX => 1,
-        op::ALL => 1,
-        op::COUNT => 1,
-        op::VALUE_OF_LIST => 1,
-        op::INVERT => 1,
-        _ => 3,
-    }
+    bits_of(TAKEN, op) as usize
+}
+
+// The second of an operator's kinds, the first again where it takes one operand.
+fn second(count: usize, left: u8, middle: u8) -> u8
+    ensures { λ r. ⌜ r ≡ cond (eqb count 1) left middle ⌝ }
+{
+    if count == 1 { left } else { middle }
 }
 
 // Questions 11 to 14 of an operator and as many kind codes as it takes, of three: the code of the answer.
@@ -270,7 +252,7 @@ pub fn answer(op: u8, count: usize, left: u8, middle: u8, right: u8) -> u8
     if count == 3 {
         return range(left, middle, right);
     }
-    entry(op, left, middle)
+    entry(op, left, second(count, left, middle))
 }
 
 // The same of any operator and count, after questions 8 and 10.

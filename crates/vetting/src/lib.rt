@@ -1,7 +1,8 @@
 // Vetting: a sheet's instructions worked on kinds alone.
 use ink_value::kind_code;
-use kind_table::ANSWERS;
 use kind_table::KindAnswer;
+use kind_table::OPERATORS;
+use kind_table::PAIRS;
 use machine::STACK_LIMIT;
 use pack::Checked;
 use pack::instruction::Instruction;
@@ -39,7 +40,13 @@ enum KindStep {
 const FORECAST_LIMIT: usize = 2048;
 
 // The answer of an operator that takes `count` operands, on the top of a stack of n.
-fn answer(op: u8, count: usize, table: &[u8; ANSWERS], stack: &[u8; 64], n: usize) -> KindAnswer
+fn answer(
+    op: u8,
+    count: usize,
+    table: &[[u8; PAIRS]; OPERATORS],
+    stack: &[u8; 64],
+    n: usize,
+) -> KindAnswer
     requires { ⌜ (op < 32) × (count ≡ operandCount op) × (1 ≤ count) × (count ≤ n) × (n ≤ 64) × Codes (now stack) × Table (now table) ⌝ }
     ensures { λ r. ⌜ (topped (kindsIn stack (n - count)) (kindAnswer r) ≡ stepOp kindApply op (kindsIn stack n)) × Coded r ⌝ }
 {
@@ -54,7 +61,7 @@ fn answer(op: u8, count: usize, table: &[u8; ANSWERS], stack: &[u8; 64], n: usiz
 }
 
 // An operator on a stack of n.
-fn vet_op(op: u8, table: &[u8; ANSWERS], stack: &[u8; 64], n: usize) -> KindStep
+fn vet_op(op: u8, table: &[[u8; PAIRS]; OPERATORS], stack: &[u8; 64], n: usize) -> KindStep
     requires { ⌜ (op < 32) × (n ≤ 64) × Codes (now stack) × Table (now table) ⌝ }
     ensures { λ r. ⌜ (steppedIn r stack ≡ stepOp kindApply op (kindsIn stack n)) × Within r n ⌝ }
 {
@@ -91,7 +98,7 @@ fn vet_push(kind: u8, n: usize) -> KindStep
 fn vet_step(
     i: Instruction,
     kinds: [u8; 16],
-    table: &[u8; ANSWERS],
+    table: &[[u8; PAIRS]; OPERATORS],
     stack: &[u8; 64],
     n: usize,
 ) -> KindStep
@@ -115,7 +122,7 @@ fn vet_into(
     pack: &[u8],
     sheet: usize,
     kinds: [u8; 16],
-    table: &[u8; ANSWERS],
+    table: &[[u8; PAIRS]; OPERATORS],
     out: &mut [u8; 2048],
 ) -> Vetted
     requires { ⌜ (Placed (now pack) × (question5 (now pack) ≡ true)) × (sheet < sheetCount (now pack)) ⌝ }

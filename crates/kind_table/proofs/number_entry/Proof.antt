@@ -1,33 +1,83 @@
--- `kind_table::number_entry` meets its contract: the answer that is read is the one of the two kinds. Assumes nothing.
-use mathlib.Core.Path.{ap, _∙_}
-use Prim.Native.Nat.{ℕ, _+_, _*_}
+-- `kind_table::number_entry` meets its contract: each range of operators passes the test. Assumes nothing.
+use mathlib.Core.Path.{refl, ap, _∙_}
+use Prim.Native.Nat.{max}
 use native.Mathlib.Omega.{arith}
-use Rattle.kind_table.specs.Kinds.{decoded}
-use Rattle.kind_table.proofs.KindTable.{entry-at}
+use Rattle.slices.specs.Every.{every, _and_}
+use Rattle.kind_table.specs.Kinds.{kindEntry, known, unary, arity, kindUnary, kindBinary, operandCount, decoded}
+use Rattle.kind_table.proofs.KindTable.{of-numbers}
 use borrow.Author.Needs.{needs}
 use Rattle.kind_table.proofs.number_entry.Statement.{statement}
 use Rattle.kind_table.proofs.number_entry.Tie as tie
 
-number-answers-requires : tie.Need-number-answers-requires
-number-answers-requires c κs = search needs
-
-mul-answer-in : tie.Need-mul-answer-in
-mul-answer-in c = search needs
-
-add-answer-in : tie.Need-add-answer-in
-add-answer-in c = search needs
-
-answer-in-requires : tie.Need-answer-in-requires
-answer-in-requires c κs = search needs
+common-requires : tie.Need-common-requires
+common-requires c κs = search needs
 
 returns : tie.Need-returns
+unfolding kindEntry known unary arity kindUnary kindBinary operandCount every _and_
 returns c =
-    let s = c .before .before in
-    let place : ℕ = s .args .left * 5 + s .args .right in
-    ap decoded (c .answer-in .ensures)
-    ∙ (c .before .number-answers .ensures place (omega arith) ∙ entry-at (s .args .op) (s .args .left) (s .args .right) (0 + place) (omega arith) (s .pre .2))
+    let s = c .before .before .before in
+    ap decoded (c .common .ensures) ∙ of-numbers (λ a b. max 1 (max a b)) 0 5 refl (s .args .op) (s .args .left) (s .args .right) (omega (arith, s .pre .0, c .before .if2 .taken, c .before .before .if1 .taken)) (omega (arith, s .pre .0, c .before .if2 .taken, c .before .before .if1 .taken)) (s .pre .1) (s .pre .2) (s .pre .3)
+
+common-requires-2 : tie.Need-common-requires-2
+common-requires-2 c κs = search needs
+
+returns-2 : tie.Need-returns-2
+unfolding kindEntry known unary arity kindUnary kindBinary operandCount every _and_
+returns-2 c =
+    let s = c .before .before .before .before in
+    ap decoded (c .common2 .ensures) ∙ of-numbers (λ a b. max 1 (max a a)) 5 1 refl (s .args .op) (s .args .left) (s .args .right) (omega (arith, s .pre .0, c .before .if3 .taken, c .before .before .if2 .left, c .before .before .before .if1 .taken)) (omega (arith, s .pre .0, c .before .if3 .taken, c .before .before .if2 .left, c .before .before .before .if1 .taken)) (s .pre .1) (s .pre .2) (s .pre .3)
+
+returns-3 : tie.Need-returns-3
+unfolding kindEntry known unary arity kindUnary kindBinary operandCount every _and_
+returns-3 c =
+    let s = c .before .before .before in
+    of-numbers (λ a b. 0) 6 9 refl (s .args .op) (s .args .left) (s .args .right) (omega (arith, s .pre .0, c .if3 .left, c .before .if2 .left, c .before .before .if1 .taken)) (omega (arith, s .pre .0, c .if3 .left, c .before .if2 .left, c .before .before .if1 .taken)) (s .pre .1) (s .pre .2) (s .pre .3)
+
+common-requires-3 : tie.Need-common-requires-3
+common-requires-3 c κs = search needs
+
+returns-4 : tie.Need-returns-4
+unfolding kindEntry known unary arity kindUnary kindBinary operandCount every _and_
+returns-4 c =
+    let s = c .before .before .before in
+    ap decoded (c .common3 .ensures) ∙ of-numbers (λ a b. max 1 (max a b)) 15 2 refl (s .args .op) (s .args .left) (s .args .right) (omega (arith, s .pre .0, c .before .if4 .taken, c .before .before .if1 .left)) (omega (arith, s .pre .0, c .before .if4 .taken, c .before .before .if1 .left)) (s .pre .1) (s .pre .2) (s .pre .3)
+
+returns-5 : tie.Need-returns-5
+unfolding kindEntry known unary arity kindUnary kindBinary operandCount every _and_
+returns-5 c =
+    let s = c .before .before .before in
+    of-numbers (λ a b. 13) 22 9 refl (s .args .op) (s .args .left) (s .args .right) (omega (arith, s .pre .0, c .if5 .taken, c .before .if4 .left, c .before .before .if1 .left)) (omega (arith, s .pre .0, c .if5 .taken, c .before .if4 .left, c .before .before .if1 .left)) (s .pre .1) (s .pre .2) (s .pre .3)
+
+returns-6 : tie.Need-returns-6
+unfolding kindEntry known unary arity kindUnary kindBinary operandCount every _and_
+returns-6 c =
+    let s = c .before .before .before .before in
+    of-numbers (λ a b. 8) 17 3 refl (s .args .op) (s .args .left) (s .args .right) (omega (arith, s .pre .0, c .if6 .taken, c .before .if5 .left, c .before .before .if4 .left, c .before .before .before .if1 .left)) (omega (arith, s .pre .0, c .if6 .taken, c .before .if5 .left, c .before .before .if4 .left, c .before .before .before .if1 .left)) (s .pre .1) (s .pre .2) (s .pre .3)
+
+returns-7 : tie.Need-returns-7
+unfolding kindEntry known unary arity kindUnary kindBinary operandCount every _and_
+returns-7 c =
+    let s = c .before .before .before .before .before in
+    of-numbers (λ a b. 1) 20 1 refl (s .args .op) (s .args .left) (s .args .right) (omega (arith, s .pre .0, c .if7 .taken, c .before .if6 .left, c .before .before .if5 .left, c .before .before .before .if4 .left, c .before .before .before .before .if1 .left)) (omega (arith, s .pre .0, c .if7 .taken, c .before .if6 .left, c .before .before .if5 .left, c .before .before .before .if4 .left, c .before .before .before .before .if1 .left)) (s .pre .1) (s .pre .2) (s .pre .3)
+
+returns-8 : tie.Need-returns-8
+unfolding kindEntry known unary arity kindUnary kindBinary operandCount every _and_
+returns-8 c =
+    let s = c .before .before .before .before .before in
+    of-numbers (λ a b. 2) 21 1 refl (s .args .op) (s .args .left) (s .args .right) (omega (arith, s .pre .0, c .if7 .left, c .before .if6 .left, c .before .before .if5 .left, c .before .before .before .if4 .left, c .before .before .before .before .if1 .left)) (omega (arith, s .pre .0, c .if7 .left, c .before .if6 .left, c .before .before .if5 .left, c .before .before .before .if4 .left, c .before .before .before .before .if1 .left)) (s .pre .1) (s .pre .2) (s .pre .3)
 
 pub number-entry-spec : {M : Type 1} → statement M
 number-entry-spec =
     tie.close
-    (tie.spec number-answers-requires mul-answer-in add-answer-in answer-in-requires returns)
+    (tie.spec
+    common-requires
+    returns
+    common-requires-2
+    returns-2
+    returns-3
+    common-requires-3
+    returns-4
+    returns-5
+    returns-6
+    returns-7
+    returns-8)

@@ -37,7 +37,7 @@ numbers-requires c κs = search needs
 number-entry-requires : tie.Need-number-entry-requires
 number-entry-requires c κs =
     let b = both-numbers (c .before .before .before .before .before .before .before .before .before .args .count) (c .before .before .before .before .before .before .before .code-in .result) (c .before .before .before .before .before .code-in2 .result) (sym (c .if3 .taken) ∙ c .before .numbers .ensures) in
-    (omega arith, b .0, c .before .before .before .before .before .code-in2 .ensures .1)
+    (omega arith, b .0, c .before .before .before .before .before .code-in2 .ensures .1, λ two. b .1 (sym (c .before .before .if2 .left) ∙ (c .before .before .before .operands .ensures ∙ two)))
 
 returns-3 : tie.Need-returns-3
 returns-3 c =
