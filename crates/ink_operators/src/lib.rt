@@ -3,6 +3,7 @@
 mod answers;
 mod ready;
 
+use ink_value::kind_code;
 use pack::Checked;
 use pack_check::format::DEFINITION_LIMIT;
 use pack_check::format::FORMAT1;
@@ -276,7 +277,7 @@ pub extern "C" fn ink_call_checked(
         return 7;
     }
     let kind = word_operators::number_kind(op, count, operands);
-    if kind < 3 {
+    if kind < kind_code::LIST {
         return word_operators::number(op, kind, count, operands, answer);
     }
     word_operators::apply(
@@ -313,7 +314,7 @@ pub extern "C" fn ink_apply(
     ensures { λ r. ⌜ CallSays (format1 .limit) ends defined op count operands items values r answer «result_items» «result_values» ⌝ }
 {
     let kind = word_operators::number_kind(op, count, operands);
-    if kind < 3 {
+    if kind < kind_code::LIST {
         return word_operators::number(op, kind, count, operands, answer);
     }
     word_operators::apply(

@@ -7,17 +7,13 @@ use lib.IntN.{ℤ, pos}
 use lib.Ieee.{Float}
 use lib.ListN.{length}
 use Rattle.ink_number.specs.Answer.{Answer, gives, refuses}
-use Rattle.ink_number.specs.Int.{eqZ, truthyZ}
+use Rattle.ink_number.specs.Int.{eqZ, truthyZ, bitOf}
 use Rattle.ink_float.specs.Real.{ofInt32, toInt32, truthyF}
 use Rattle.ink_list.specs.Entries.{Entry, values}
 use Rattle.ink_list.specs.Ops.{lowerBound, upperBound, valueOfList}
 use Rattle.ink_value.specs.Val.{Val, bool, int, float, list, void, boolK, intK, floatK, listK, voidK, kindOf, codeOf}
 
--- a Bool as a number, and as an Int
-abbrev pub bitOf : Bool → ℕ
-bitOf true = 1
-bitOf false = 0
-
+-- a Bool as an Int
 abbrev pub bitZ : Bool → ℤ
 bitZ b = pos (bitOf b)
 

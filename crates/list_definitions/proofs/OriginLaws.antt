@@ -13,7 +13,8 @@ use lib.Pow.{pow-mono, pow-lt}
 use lib.ListN.{length, getD, drop, length-drop, drop-of-length-le}
 use Rattle.ink_list.specs.Entries.{Ascends}
 use Rattle.ink_list.specs.Steps.{dropBelow}
-use Rattle.list_definitions.specs.Defs.{originOf, inSet, reached, bit, setOf, originsOf}
+use Rattle.ink_number.specs.Int.{bitOf}
+use Rattle.list_definitions.specs.Defs.{originOf, inSet, reached, setOf, originsOf}
 use Rattle.ink_list.proofs.Laws.{lt-or-le}
 use Rattle.slices.proofs.Lists.{drop-at}
 use Rattle.ink_list.proofs.SiftLaws.{ascends-drop}
@@ -59,10 +60,10 @@ later-def e low limit es (k ∷ ks) d r =
     later-all e k limit es (k ∷ ks) d (le-refl k, r .1, r .2) p ∙ ap (λ (l : List ℕ). reached es l d) (sym stop))
     (lt-or-le k e)
 
-pub origins-step : (e low limit : ℕ) (es is : List ℕ) → Ascends low limit is → originsOf (e ∷ es) is ≡ bit (firstBelow e is) + 2 * originsOf es (dropBelow e is)
+pub origins-step : (e low limit : ℕ) (es is : List ℕ) → Ascends low limit is → originsOf (e ∷ es) is ≡ bitOf (firstBelow e is) + 2 * originsOf es (dropBelow e is)
 origins-step e low limit es is r =
-    ap (λ (b : Bool). bit b + 2 * setOf (length es) (λ d. reached (e ∷ es) is (suc d))) (first-def e low limit es is r)
-    ∙ ap (λ (s : ℕ). bit (firstBelow e is) + 2 * s)
+    ap (λ (b : Bool). bitOf b + 2 * setOf (length es) (λ d. reached (e ∷ es) is (suc d))) (first-def e low limit es is r)
+    ∙ ap (λ (s : ℕ). bitOf (firstBelow e is) + 2 * s)
     (setOf-ext (length es) (λ d. reached (e ∷ es) is (suc d)) (reached es (dropBelow e is)) (λ d. later-def e low limit es is d r))
 
 -- a cursor that moved passed an item
@@ -88,16 +89,16 @@ moved j j′ n h h′ =
 
 module _ (limit : ℕ) (ai ends : List ℕ) (ra : Ascends 0 limit ai) (d j j′ : ℕ) (hd : d < length ends) (hj : j ≤ length ai) (hj′ : j′ ≤ length ai)
     (skip : drop j′ ai ≡ dropBelow (getD ends d 0) (drop j ai)) where
-  turn : originsOf (drop d ends) (drop j ai) ≡ bit (ltb j j′) + 2 * originsOf (drop (d + 1) ends) (drop j′ ai)
+  turn : originsOf (drop d ends) (drop j ai) ≡ bitOf (ltb j j′) + 2 * originsOf (drop (d + 1) ends) (drop j′ ai)
   turn =
       ap (λ (l : List ℕ). originsOf l (drop j ai)) (drop-at ends d 0 hd)
       ∙ origins-step (getD ends d 0) 0 limit (drop (d + 1) ends) (drop j ai) (ascends-drop j limit ai ra)
-      ∙ ap (λ (b : Bool). bit b + 2 * originsOf (drop (d + 1) ends) (dropBelow (getD ends d 0) (drop j ai)))
+      ∙ ap (λ (b : Bool). bitOf b + 2 * originsOf (drop (d + 1) ends) (dropBelow (getD ends d 0) (drop j ai)))
       (moved-head (getD ends d 0) (drop j ai)
       ∙ ap (λ (l : List ℕ). ltb (length l) (length (drop j ai))) (sym skip)
       ∙ ap (λ (n : ℕ). ltb n (length (drop j ai))) (length-drop j′ ai) ∙ ap (λ (n : ℕ). ltb (length ai - j′) n) (length-drop j ai)
       ∙ moved j j′ (length ai) hj hj′)
-      ∙ ap (λ (l : List ℕ). bit (ltb j j′) + 2 * originsOf (drop (d + 1) ends) l) (sym skip)
+      ∙ ap (λ (l : List ℕ). bitOf (ltb j j′) + 2 * originsOf (drop (d + 1) ends) l) (sym skip)
 
   weigh : (set b r : ℕ) → set + 2 ^ d * (b + 2 * r) ≡ (set + 2 ^ d * b) + 2 ^ (d + 1) * r
   weigh set b r =
@@ -106,13 +107,13 @@ module _ (limit : ℕ) (ai ends : List ℕ) (ra : Ascends 0 limit ai) (d j j′ 
 
   pub origin-yes : (set : ℕ) → j < j′ → set + 2 ^ d * originsOf (drop d ends) (drop j ai) ≡ (set + 2 ^ d) + 2 ^ (d + 1) * originsOf (drop (d + 1) ends) (drop j′ ai)
   origin-yes set h =
-      ap (λ (n : ℕ). set + 2 ^ d * n) (turn ∙ ap (λ (b : Bool). bit b + 2 * originsOf (drop (d + 1) ends) (drop j′ ai)) (lt-ltb j j′ h))
+      ap (λ (n : ℕ). set + 2 ^ d * n) (turn ∙ ap (λ (b : Bool). bitOf b + 2 * originsOf (drop (d + 1) ends) (drop j′ ai)) (lt-ltb j j′ h))
       ∙ weigh set 1 (originsOf (drop (d + 1) ends) (drop j′ ai))
       ∙ ap (λ (n : ℕ). (set + n) + 2 ^ (d + 1) * originsOf (drop (d + 1) ends) (drop j′ ai)) (mul-one (2 ^ d))
 
   pub origin-no : (set : ℕ) → j′ ≤ j → set + 2 ^ d * originsOf (drop d ends) (drop j ai) ≡ set + 2 ^ (d + 1) * originsOf (drop (d + 1) ends) (drop j′ ai)
   origin-no set h =
-      ap (λ (n : ℕ). set + 2 ^ d * n) (turn ∙ ap (λ (b : Bool). bit b + 2 * originsOf (drop (d + 1) ends) (drop j′ ai)) (le-ltb j j′ h))
+      ap (λ (n : ℕ). set + 2 ^ d * n) (turn ∙ ap (λ (b : Bool). bitOf b + 2 * originsOf (drop (d + 1) ends) (drop j′ ai)) (le-ltb j j′ h))
       ∙ weigh set 0 (originsOf (drop (d + 1) ends) (drop j′ ai))
       ∙ ap (λ (n : ℕ). (set + n) + 2 ^ (d + 1) * originsOf (drop (d + 1) ends) (drop j′ ai)) (mul-zero (2 ^ d))
       ∙ omega arith
@@ -138,7 +139,7 @@ bits-fit set d h k = lt-of-lt-of-le (bits-grow set d h .1) (pow-mono (let q : d 
 
 -- ---- what the set means: definition d is in it where f holds of d
 
-bit-of : (b : Bool) (r : ℕ) → (eqb ((bit b + 2 * r) % 2) 1 ≡ b) × ((bit b + 2 * r) / 2 ≡ r)
+bit-of : (b : Bool) (r : ℕ) → (eqb ((bitOf b + 2 * r) % 2) 1 ≡ b) × ((bitOf b + 2 * r) / 2 ≡ r)
 bit-of true r =
     let m : (1 + 2 * r) % 2 ≡ 1 = omega arith in
     (eq-eqb ((1 + 2 * r) % 2) 1 m, omega arith)

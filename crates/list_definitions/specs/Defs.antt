@@ -8,7 +8,7 @@ use Prim.Native.Nat.{ℕ, zero, suc, _+_, _*_, _/_, _%_, _<_}
 use lib.Dec.{eqb, ltb}
 use lib.IntN.{ℤ, pos, _+ℤ_, _-ℤ_}
 use lib.ListN.{length, getD}
-use Rattle.ink_number.specs.Int.{eqZ, wrap}
+use Rattle.ink_number.specs.Int.{eqZ, wrap, bitOf}
 use Rattle.ink_list.specs.Entries.{itemNumbers, Entry, member, gather}
 
 -- the pack's definitions by item number, and the most items that a pack may have
@@ -58,14 +58,10 @@ abbrev pub reached : List ℕ → List ℕ → ℕ → Bool
 reached ends [] d = false
 reached ends (k ∷ ks) d = cond (eqb (originOf ends k) d) true (reached ends ks d)
 
-abbrev pub bit : Bool → ℕ
-bit true = 1
-bit false = 0
-
 -- the set of the n lowest definitions for which f holds
 abbrev pub setOf : ℕ → (ℕ → Bool) → ℕ
 setOf zero f = 0
-setOf (suc n) f = bit (f 0) + 2 * setOf n (λ d. f (suc d))
+setOf (suc n) f = bitOf (f 0) + 2 * setOf n (λ d. f (suc d))
 
 -- the set of the origins of some items
 abbrev pub originsOf : List ℕ → List ℕ → ℕ

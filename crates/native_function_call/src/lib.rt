@@ -26,7 +26,7 @@ fn whole_outcome(d: Divided) -> Outcome
 {
     match d {
         Divided::Value(z) => Outcome::Value(Value::Int(z)),
-        Divided::Refused => Outcome::Refused(15),
+        Divided::Refused => Outcome::Refused(int::DIVISOR_QUESTION),
     }
 }
 
@@ -37,8 +37,8 @@ fn common(left: u8, right: u8) -> u8
     if right < left {
         return left;
     }
-    if right == 0 {
-        return 1;
+    if right == kind_code::BOOL {
+        return kind_code::INT;
     }
     right
 }

@@ -1,6 +1,7 @@
 // An operator of a run: its operands are values of the stack, and its result is put at a place of the stack. The entries of the list at
 // place p stand in the work slices, from p times the format's item limit on.
 
+use ink_number::int::DIVISOR_QUESTION;
 use ink_number::int::Divided;
 use ink_value::Outcome;
 use ink_value::Value;
@@ -74,7 +75,7 @@ fn whole_result(d: Divided, place: usize) -> Step
             place,
             value: Value::Int(z),
         },
-        Divided::Refused => Step::No(15),
+        Divided::Refused => Step::No(DIVISOR_QUESTION),
     }
 }
 

@@ -4,10 +4,9 @@ use mathlib.Core.List.{List, [], _∷_}
 use Prim.Native.Nat.{ℕ, _+_, _*_, _-_, _/_, _%_, _^_, _<_}
 use lib.Dec.{eqb, ltb}
 use lib.ListN.{getD}
-use Rattle.ink_number.specs.Int.{signed, residue}
+use Rattle.ink_number.specs.Int.{signed, residue, bitOf}
 use Rattle.ink_float.specs.Real.{ofBits32, toBits32}
 use Rattle.slices.specs.Every.{table}
-use Rattle.ink_value.specs.Convert.{bitOf}
 use Rattle.ink_value.specs.Val.{boolK, intK, floatK, listK, voidK, codeOf}
 use Rattle.ink_value.specs.declared.Value.{Value}
 use Rattle.ink_value.specs.declared.Value.the-variants as Is

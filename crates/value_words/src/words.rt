@@ -1,11 +1,23 @@
 // Values as words: three for each, the code of its kind, what it holds, and where a List's entries stand.
 use ink_value::Value;
+use ink_value::kind_code;
 use pack_sheets::SLOT_LIMIT;
 ghost use mathlib.Core.Path.{_≡_};
 ghost use mathlib.Core.List.{[], _∷_};
 ghost use Prim.Native.Nat.{_<_, _+_, _*_, _/_, _%_, _^_};
 ghost use Rattle.value_words.specs.Words.{unheld, boolAt, intAt, floatAt, voidAt, plainAt, valueOf, valueAt, slotsIn, wordsOf, Small};
-ghost use Rattle.ink_value.specs.Convert.{bitOf};
+ghost use Rattle.ink_number.specs.Int.{bitOf};
+
+// The codes of the kinds, as words.
+const BOOL: u64 = kind_code::BOOL as u64;
+
+const INT: u64 = kind_code::INT as u64;
+
+const FLOAT: u64 = kind_code::FLOAT as u64;
+
+const LIST: u64 = kind_code::LIST as u64;
+
+const VOID: u64 = kind_code::VOID as u64;
 
 // A start and a length stand in one word, the start in the lower half.
 const HALF: u64 = 0x1_0000_0000;
@@ -58,10 +70,10 @@ fn plain_at(kind: u64, w: u64) -> Value
     ensures { λ r. ⌜ r ≡ plainAt kind w ⌝ }
 {
     match kind {
-        0 => bool_at(w),
-        1 => int_at(w),
-        2 => float_at(w),
-        4 => void_at(w),
+        BOOL => bool_at(w),
+        INT => int_at(w),
+        FLOAT => float_at(w),
+        VOID => void_at(w),
         _ => unheld(),
     }
 }
@@ -90,7 +102,7 @@ pub fn low(w: u64) -> u32
 fn value_of(kind: u64, w: u64, place: u64) -> Value
     ensures { λ r. ⌜ r ≡ valueOf kind w place ⌝ }
 {
-    if kind == 3 {
+    if kind == LIST {
         return Value::List {
             origins: w,
             start: start_in(place),

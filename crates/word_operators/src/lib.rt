@@ -1,5 +1,6 @@
 // An operator from words to words. Where its result is no List the operands go to it in parts, as they stand in the words, and numbers
 // without a slice.
+use ink_number::int::DIVISOR_QUESTION;
 use ink_number::int::Divided;
 use ink_value::Value;
 use ink_value::kind_code;
@@ -22,6 +23,9 @@ ghost use Rattle.word_operators.specs.Operands.{Held, OfNumbers, NumberK
 ghost use Rattle.word_operators.specs.Slices.{NumberSays, ScalarSays, ListSays, CallSays};
 ghost use Rattle.pack.specs.Read.{PackLists};
 ghost use Rattle.list_operators.specs.Lists.{Room, definitions};
+
+// The number that a divisor without a result is refused with.
+const REFUSED_DIVISOR: u32 = DIVISOR_QUESTION as u32;
 
 // The kind code in a value's first word; 4 where it has none.
 fn code_in(w: u64) -> u8
@@ -86,7 +90,7 @@ fn put_whole(d: Divided, answer: &mut [u64; 3]) -> u32
         }
         Divided::Refused => {
             words::put_index(answer, 0);
-            15
+            REFUSED_DIVISOR
         }
     }
 }
