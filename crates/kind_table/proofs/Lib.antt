@@ -1,2 +1,1 @@
-pub mod KindTable
-pub mod Counting
+mod Whole

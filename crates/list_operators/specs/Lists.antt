@@ -7,8 +7,8 @@ use denote.Ref.{now}
 use lib.Dec.{eqb, leb}
 use lib.IntN.{ℤ}
 use lib.ListN.{length}
-use Rattle.kind_table.specs.Op.{opAdd, opSubtract, opGreater, opLess, opGreaterThanOrEquals, opLessThanOrEquals, opHas, opHasnt, opIntersect, opListMin, opListMax, opAll, opInvert}
-use Rattle.kind_table.specs.Kinds.{isList}
+use Rattle.operator_kinds.specs.Op.{opAdd, opSubtract, opGreater, opLess, opGreaterThanOrEquals, opLessThanOrEquals, opHas, opHasnt, opIntersect, opListMin, opListMax, opAll, opInvert}
+use Rattle.operator_kinds.specs.Kinds.{isList}
 use Rattle.ink_number.specs.Answer.{Answer, gives, refuses}
 use Rattle.slices.specs.Slices.{Slice}
 use Rattle.ink_list.specs.Entries.{Entry, items, values, itemNumbers}

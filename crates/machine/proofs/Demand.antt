@@ -11,7 +11,7 @@ use lib.Dec.{ltb}
 use lib.ListN.{length, getD, length-map, List·getD-map}
 use Rattle.ink_number.specs.Answer.{Answer, gives, refuses, ask}
 use Rattle.ink_value.specs.Val.{Val, void, Kind, kindOf, codeOf}
-use Rattle.kind_table.specs.Kinds.{known, arity, kindApply}
+use Rattle.operator_kinds.specs.Kinds.{known, arity, kindApply}
 use Rattle.native_function_call.specs.Apply.{applyOp, Agree}
 use Rattle.list_definitions.specs.Defs.{ListDefinitions}
 use Rattle.native_function_call.proofs.Agree.{agree}

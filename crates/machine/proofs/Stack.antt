@@ -12,8 +12,8 @@ use native.Mathlib.Nat.{le-of-suc-le-suc}
 use lib.Dec.{ltb, eqb}
 use borrow.Author.Tests.{lt-ltb, le-ltb}
 use Rattle.ink_number.specs.Answer.{Answer, gives, refuses, ask}
-use Rattle.kind_table.specs.Kinds.{known, unary, arity, operandCount}
-use Rattle.kind_table.proofs.Counting.{takes}
+use Rattle.operator_kinds.specs.Kinds.{known, unary, arity, operandCount}
+use Rattle.operator_kinds.proofs.Counting.{takes}
 use Rattle.pack.specs.Instruction.{Push, pushVoid, Instr, push}
 use Rattle.machine.specs.Stack.{stackOf}
 use Rattle.machine.specs.Machine.{stackLimit, topped, worked, popped, step, stepOp, stepPush, stopped, finish, onward, runFrom}

@@ -12,7 +12,7 @@ use Rattle.ink_number.specs.Answer.{Answer, gives, refuses, ask}
 use Rattle.ink_list.specs.Entries.{Rising}
 use Rattle.ink_value.specs.Val.{Val, bool, int, float, list, void}
 use Rattle.ink_value.specs.Value.{written, Wf, AllWf}
-use Rattle.kind_table.specs.Kinds.{known, arity}
+use Rattle.operator_kinds.specs.Kinds.{known, arity}
 use Rattle.list_definitions.specs.Defs.{ListDefinitions}
 use Rattle.native_function_call.specs.Apply.{applyOp}
 use Rattle.list_operators.proofs.Listing.{Fine}

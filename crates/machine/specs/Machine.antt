@@ -7,7 +7,7 @@ use lib.ListN.{length, getD}
 use Rattle.ink_number.specs.Answer.{Answer, gives, refuses, ask}
 use Rattle.ink_float.specs.Real.{ofBits32}
 use Rattle.ink_value.specs.Val.{Val, bool, int, float, list, void, Kind, boolK, intK, floatK, listK, voidK}
-use Rattle.kind_table.specs.Kinds.{known, arity, kindApply}
+use Rattle.operator_kinds.specs.Kinds.{known, arity, kindApply}
 use Rattle.list_definitions.specs.Defs.{ListDefinitions}
 use Rattle.native_function_call.specs.Apply.{applyOp}
 use Rattle.pack.specs.Bodies.{Literal}

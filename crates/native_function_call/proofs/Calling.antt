@@ -17,8 +17,8 @@ use Rattle.slices.proofs.Lists.{ap3}
 use Rattle.ink_value.proofs.Reading.{code-in}
 use Rattle.ink_value.proofs.Given.{gave-plain}
 use Rattle.number_operators.specs.Numbers.{arithZ}
-use Rattle.kind_table.specs.Kinds.{isList, known, arity, kindApply, kindCall}
-use Rattle.kind_table.proofs.Counting.{other-kind}
+use Rattle.operator_kinds.specs.Kinds.{isList, known, arity, kindApply, kindCall}
+use Rattle.operator_kinds.proofs.Counting.{other-kind}
 use Rattle.list_definitions.specs.Defs.{ListDefinitions}
 use Rattle.native_function_call.specs.Apply.{ofInt, whole, applyOp, compute, call}
 

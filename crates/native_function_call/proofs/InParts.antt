@@ -18,8 +18,8 @@ use Rattle.ink_value.specs.declared.Value.{Value}
 use Rattle.slices.proofs.Lists.{ap2}
 use Rattle.ink_value.proofs.Reading.{length-at}
 use Rattle.ink_value.proofs.Parts.{Number, Operand, bit-truth, of-parts, of-number, int-parts, float-parts, truth-parts, operand-spans}
-use Rattle.kind_table.specs.Kinds.{common}
-use Rattle.kind_table.proofs.Counting.{kind-other}
+use Rattle.operator_kinds.specs.Kinds.{common}
+use Rattle.operator_kinds.proofs.Counting.{kind-other}
 use Rattle.number_operators.specs.Numbers.{arithZ, arithF, testNumbers, wholeUnary, realUnary}
 use Rattle.native_function_call.specs.Apply.{testLists, testAs, test, ofInt, whole, real}
 

@@ -7,8 +7,8 @@ use Prim.Native.Nat.{ℕ}
 use lib.IntN.{ℤ, pos}
 use lib.Ieee.{Float}
 use lib.Dec.{eqb}
-use Rattle.kind_table.specs.Op.{opAnd, opOr}
-use Rattle.kind_table.specs.Kinds.{known, arity, kindApply, common, isList}
+use Rattle.operator_kinds.specs.Op.{opAnd, opOr}
+use Rattle.operator_kinds.specs.Kinds.{known, arity, kindApply, common, isList}
 use Rattle.ink_number.specs.Answer.{Answer, gives, refuses, ask}
 use Rattle.ink_float.specs.Real.{ofInt32}
 use Rattle.ink_value.specs.Val.{Val, bool, int, float, void, Kind, boolK, intK, floatK, listK, voidK, kindOf}

@@ -4,7 +4,7 @@ use ink_number::int::Divided;
 use ink_value::Outcome;
 use ink_value::Value;
 use ink_value::kind_code;
-use kind_table::op;
+use operator_kinds::op;
 use number_operators::both;
 use number_operators::either;
 ghost use mathlib.Core.Path.{_≡_};
@@ -339,7 +339,7 @@ pub fn apply(
     requires { ⌜ FirstFormed limit (now items) (now values) count a b c ⌝ }
     ensures { λ r. ⌜ Gives (call (definitionsIn ends defined limit) op count (firstIn items values count a b c)) r oi ov ⌝ }
 {
-    let kind = kind_table::kinds(
+    let kind = operator_kinds::kinds(
         op,
         count,
         ink_value::kind(a),

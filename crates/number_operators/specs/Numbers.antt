@@ -7,8 +7,8 @@ use lib.IntN.{ℤ, pos, negℤ, _+ℤ_, _-ℤ_, _*ℤ_}
 use lib.ListN.{length}
 use lib.Signed.{ltZ, leZ}
 use lib.Ieee.{Float}
-use Rattle.kind_table.specs.Op.{opAdd, opSubtract, opDivide, opMultiply, opMod, opNegate, opEqual, opGreater, opLess, opGreaterThanOrEquals, opLessThanOrEquals, opNotEquals, opNot, opAnd, opOr, opMin, opMax, opInt, opFloat, opCount, opValueOfList}
-use Rattle.kind_table.specs.Kinds.{common}
+use Rattle.operator_kinds.specs.Op.{opAdd, opSubtract, opDivide, opMultiply, opMod, opNegate, opEqual, opGreater, opLess, opGreaterThanOrEquals, opLessThanOrEquals, opNotEquals, opNot, opAnd, opOr, opMin, opMax, opInt, opFloat, opCount, opValueOfList}
+use Rattle.operator_kinds.specs.Kinds.{common}
 use Rattle.ink_number.specs.Answer.{Answer, gives}
 use Rattle.ink_number.specs.Int.{wrap, quotient, remainder, minZ, maxZ, eqZ, truthyZ}
 use Rattle.ink_float.specs.Real.{addF, subF, mulF, divF, remF, negF, minF, maxF, eqF, neF, ltF, leF, truthyF, ofInt32}

@@ -17,10 +17,10 @@ use Rattle.ink_value.specs.declared.Value.{Value}
 use Rattle.ink_value.specs.declared.Value.the-variants as Is
 use Rattle.ink_value.proofs.Reading.{rising-in}
 use Rattle.ink_value.proofs.Parts.{parts-of, spans-of, Operand}
-use Rattle.kind_table.specs.Kinds.{known, arity, operandCount, kindCall, decoded, KindsGiven}
+use Rattle.operator_kinds.specs.Kinds.{known, arity, operandCount, kindCall, decoded, KindsGiven}
 use Rattle.list_definitions.specs.Defs.{ListDefinitions}
 use Rattle.native_function_call.specs.Apply.{compute, applyOp, call}
-use Rattle.kind_table.proofs.Counting.{takes, decoded-kind, decoded-no}
+use Rattle.operator_kinds.proofs.Counting.{takes, decoded-kind, decoded-no}
 use Rattle.native_function_call.proofs.Calling.{codes-are, call-gives, call-refuses, two-of}
 use Rattle.native_function_call.proofs.Results.{apply-fine}
 use Rattle.pack.specs.declared.format.Format.{Format}

@@ -17,7 +17,7 @@ ghost use Rattle.ink_number.specs.Int.{divided};
 ghost use Rattle.ink_list.specs.Entries.{Rising, itemNumbers};
 ghost use Rattle.ink_value.specs.Val.{kindAt};
 ghost use Rattle.ink_value.specs.Value.{lenOf, written, Formed, FirstFormed};
-ghost use Rattle.kind_table.specs.Kinds.{operandCount};
+ghost use Rattle.operator_kinds.specs.Kinds.{operandCount};
 ghost use Rattle.native_function_call.specs.Apply.{ofInt, call, compute};
 ghost use Rattle.list_definitions.specs.Defs.{ListDefinitions};
 ghost use Rattle.list_operators.specs.Lists.{definitions, definitionsIn};
@@ -259,7 +259,7 @@ pub fn operate(
     ensures { λ r. ⌜ AnsweredIn format (call (definitionsIn ends defined (format .limit)) op count
         (takenIn «work_items» «work_values» a b c count)) place r «work_items» «work_values» ⌝ }
 {
-    let kind = kind_table::answer(
+    let kind = operator_kinds::answer(
         op,
         count,
         ink_value::kind(a),

@@ -24,7 +24,7 @@ use Rattle.ink_value.specs.Value.{valOf, startOf, lenOf, Formed}
 use Rattle.ink_value.specs.declared.Value.{Value}
 use Rattle.ink_value.specs.declared.Value.the-variants as Is
 use Rattle.list_definitions.specs.Defs.{ListDefinitions}
-use Rattle.kind_table.specs.Kinds.{operandCount}
+use Rattle.operator_kinds.specs.Kinds.{operandCount}
 use Rattle.native_function_call.specs.Apply.{applyOp}
 use Rattle.pack.specs.Bodies.{decoded}
 use Rattle.pack.specs.Format.{slotLimit}

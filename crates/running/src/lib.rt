@@ -11,7 +11,7 @@ ghost use mathlib.Core.List.{map};
 ghost use Prim.Native.Nat.{_<_, _≤_, _+_, _-_};
 ghost use lib.ListN.{length, replicate};
 ghost use Rattle.ink_value.specs.Slices.{valIn};
-ghost use Rattle.kind_table.specs.Kinds.{operandCount};
+ghost use Rattle.operator_kinds.specs.Kinds.{operandCount};
 ghost use Rattle.pack.specs.Contents.{sheetCount};
 ghost use Rattle.pack.specs.Format.{slotLimit};
 ghost use Rattle.pack.specs.Instruction.{instrOf};
@@ -33,7 +33,7 @@ fn operand_count(i: Instruction) -> usize
     ensures { λ r. ⌜ IfOp (instrOf i) (λ o. r ≡ operandCount o) ⌝ }
 {
     match i {
-        Instruction::Op(op) => kind_table::operands(op),
+        Instruction::Op(op) => operator_kinds::operands(op),
         Instruction::Bool(_) => 0,
         Instruction::Int(_) => 0,
         Instruction::Float(_) => 0,

@@ -13,10 +13,10 @@ use Rattle.ink_value.specs.Value.{valOf}
 use Rattle.ink_value.specs.declared.Value.{Value}
 use Rattle.ink_value.specs.declared.Value.the-variants as Is
 use Rattle.slices.proofs.Lists.{ap3}
-use Rattle.kind_table.specs.Kinds.{operandCount}
+use Rattle.operator_kinds.specs.Kinds.{operandCount}
 use Rattle.list_definitions.specs.Defs.{ListDefinitions}
 use Rattle.native_function_call.specs.Apply.{applyOp, call}
-use Rattle.kind_table.proofs.Counting.{count-three}
+use Rattle.operator_kinds.proofs.Counting.{count-three}
 use Rattle.pack.specs.Format.{Narrow}
 use Rattle.pack.specs.declared.format.Format.{Format}
 use Rattle.pack.specs.Instruction.{Push, Instr, op, push}

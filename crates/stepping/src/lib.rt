@@ -14,7 +14,7 @@ ghost use lib.IntN.{ℤ};
 ghost use Rattle.ink_value.specs.Val.{Val};
 ghost use Rattle.ink_value.specs.Slices.{valIn};
 ghost use Rattle.ink_value.specs.Value.{valOf, codeOfValue, Formed};
-ghost use Rattle.kind_table.specs.Kinds.{operandCount};
+ghost use Rattle.operator_kinds.specs.Kinds.{operandCount};
 ghost use Rattle.native_function_call.specs.Apply.{applyOp};
 ghost use Rattle.list_operators.specs.Lists.{definitionsIn};
 ghost use Rattle.pack.specs.Contents.{literalCount};
@@ -110,7 +110,7 @@ fn run_op(
         → StepsIn format n (stepOp (applyOp (definitionsIn ends defined (format .limit))) op (stackOf f n)) f r
         «work_items» «work_values») ⌝ }
 {
-    let count = kind_table::operands(op);
+    let count = operator_kinds::operands(op);
     if count == 0 {
         return Step::No(8);
     }

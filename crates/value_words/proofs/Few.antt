@@ -23,7 +23,7 @@ use Rattle.ink_value.specs.declared.Outcome.{Outcome}
 use Rattle.ink_value.proofs.Forming.{formed-yes}
 use Rattle.ink_value.proofs.ReadBack.{entries-wf, wf-of}
 use Rattle.native_function_call.specs.Apply.{call, applyOp}
-use Rattle.kind_table.specs.Kinds.{known, arity}
+use Rattle.operator_kinds.specs.Kinds.{known, arity}
 use Rattle.list_operators.specs.Lists.{definitions}
 use Rattle.native_function_call.proofs.Results.{apply-fine}
 use Rattle.pack.specs.Bodies.{Pack, decoded}

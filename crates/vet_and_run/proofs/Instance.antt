@@ -16,7 +16,7 @@ use Rattle.list_definitions.specs.Defs.{ListDefinitions}
 use Rattle.ink_value.specs.Val.{void, intK, voidK, kindOf, kindAt}
 use Rattle.ink_value.specs.Value.{valOf}
 use Rattle.ink_value.specs.declared.Value.the-variants as Is
-use Rattle.kind_table.specs.Kinds.{known, unary, arity, kindUnary, kindBinary, kindApply}
+use Rattle.operator_kinds.specs.Kinds.{known, unary, arity, kindUnary, kindBinary, kindApply}
 use Rattle.native_function_call.specs.Apply.{applyOp, compute}
 use Rattle.number_operators.specs.Numbers.{arithZ}
 use Rattle.pack.specs.Bodies.{Literal, Pack, itemsBelow, definitionOk, literalOk}

@@ -8,13 +8,13 @@ use lib.ListN.{length, getD, drop, set, replicate, length-set, length-replicate}
 use lib.Seq.{getD-set-same, getD-set-other}
 use Rattle.ink_number.specs.Answer.{gives, refuses}
 use Rattle.ink_value.specs.Val.{Kind, kindAt}
-use Rattle.kind_table.specs.Kinds.{kindApply}
+use Rattle.operator_kinds.specs.Kinds.{kindApply}
 use Rattle.pack.specs.Instruction.{Instr, push, pushVoid}
 use Rattle.machine.specs.Machine.{Run, stopped, finish, onward, step, runFrom, kindPushed, vet}
 use Rattle.machine.specs.Stack.{stackOf}
 use Rattle.machine.specs.Foretold.{passed, turned, verdict, forecast, Begins}
 use Rattle.machine.proofs.Stack.{stack-length, stack-put, run-more, run-stop, run-done}
-use Rattle.kind_table.proofs.Counting.{code-at}
+use Rattle.operator_kinds.proofs.Counting.{code-at}
 use Rattle.pack.specs.Format.{instructionLimit}
 use Rattle.vetting.specs.Vet.{Codes, kindOn}
 

@@ -6,11 +6,11 @@ use Prim.Native.Nat.{ℕ, _+_, _-_, _≤_, _<_}
 use native.Mathlib.Omega.{arith}
 use lib.ListN.{length, getD, List·getD-map}
 use Rattle.ink_value.specs.Val.{Kind, kindAt, voidK}
-use Rattle.kind_table.specs.Kinds.{operandCount, kindApply, kindRange, kindEntry}
+use Rattle.operator_kinds.specs.Kinds.{operandCount, kindApply, kindRange, kindEntry}
 use Rattle.machine.specs.Machine.{topped, stepOp}
 use Rattle.machine.specs.Stack.{stackOf}
 use Rattle.machine.proofs.Stack.{getD-any, op-one, op-two, op-three}
-use Rattle.kind_table.proofs.Counting.{entry-one, entry-two, entry-range, is-range, below-three}
+use Rattle.operator_kinds.proofs.Counting.{entry-one, entry-two, entry-range, is-range, below-three}
 
 -- the two forms that the code has, over the count m
 pub step-entry : (f : ℕ → Kind) (o n m : ℕ) → 1 ≤ m → operandCount o ≡ m → m ≤ n → (m ≡ 3 → ⊥)

@@ -20,7 +20,7 @@ use Rattle.machine.specs.Machine.{Run, End, ended, stopped, kindPushed, vet}
 use Rattle.pack.specs.Read.{sheetOf}
 use Rattle.machine.specs.Whole.{opened, started, sheetVet, sheetRun, countOf}
 use Rattle.machine.specs.Foretold.{Verdict, passed, turned, verdict, forecast, Begins, Foretold}
-use Rattle.kind_table.specs.Kinds.{kindApply}
+use Rattle.operator_kinds.specs.Kinds.{kindApply}
 use Rattle.machine.proofs.Demand.{whole-length}
 use Rattle.machine.proofs.Whole.{demand3-whole}
 use Rattle.vetting.specs.Vet.{vetMemory, verdictOf, CountIs, forecastAfter, Vets, VetsProgram}

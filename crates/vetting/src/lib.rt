@@ -13,7 +13,8 @@ ghost use Prim.Native.Nat.{ℕ, _<_, _≤_, _-_, _*_};
 ghost use lib.ListN.{length, take};
 ghost use Rattle.slices.specs.Filled.{over};
 ghost use Rattle.ink_value.specs.Val.{Kind, kindAt};
-ghost use Rattle.kind_table.specs.Kinds.{kindAnswer, Coded, kindApply, operandCount, Table};
+ghost use Rattle.operator_kinds.specs.Kinds.{kindApply, operandCount};
+ghost use Rattle.kind_table.specs.Table.{kindAnswer, Coded, Table};
 ghost use Rattle.pack.specs.Contents.{sheetCount};
 ghost use Rattle.pack.specs.Format.{format1};
 ghost use Rattle.pack.specs.Instruction.{instrOf, Allowed};
@@ -65,7 +66,7 @@ fn vet_op(op: u8, table: &[[u8; PAIRS]; OPERATORS], stack: &[u8; 64], n: usize) 
     requires { ⌜ (op < 32) × (n ≤ 64) × Codes (now stack) × Table (now table) ⌝ }
     ensures { λ r. ⌜ (steppedIn r stack ≡ stepOp kindApply op (kindsIn stack n)) × Within r n ⌝ }
 {
-    let count = kind_table::operands(op);
+    let count = operator_kinds::operands(op);
     if count == 0 {
         return KindStep::No(8);
     }

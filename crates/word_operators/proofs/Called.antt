@@ -14,7 +14,7 @@ use Rattle.ink_value.specs.Val.{Val, kindOf, kindAt}
 use Rattle.ink_value.specs.Value.{valOf, Formed, FirstFormed}
 use Rattle.ink_value.specs.declared.Value.{Value}
 use Rattle.ink_value.proofs.Reading.{formed-limit}
-use Rattle.kind_table.specs.Kinds.{kindCall, decoded}
+use Rattle.operator_kinds.specs.Kinds.{kindCall, decoded}
 use Rattle.list_operators.specs.Lists.{definitions, Room}
 use Rattle.native_function_call.specs.Apply.{call, compute}
 use Rattle.native_function_call.proofs.Calling.{call-gives, call-refuses, two-of}
@@ -22,7 +22,7 @@ use Rattle.calls.specs.Call.{operandsOk, called}
 use Rattle.calls.proofs.Forms.{first-of, goes-on}
 use Rattle.slices.proofs.Lists.{map-take}
 use Rattle.pack.specs.Read.{PackLists}
-use Rattle.kind_table.proofs.Counting.{decoded-kind, decoded-no}
+use Rattle.operator_kinds.proofs.Counting.{decoded-kind, decoded-no}
 use Rattle.list_definitions.specs.Defs.{ListDefinitions}
 use Rattle.value_words.specs.Words.{unheld, valueAt}
 use Rattle.value_words.specs.Calls.{operandsIn, Says, Calls}

@@ -22,8 +22,8 @@ use Rattle.ink_list.specs.Entries.{itemNumbers}
 use Rattle.slices.proofs.Lists.{ap2, ap3, map-take}
 use Rattle.ink_value.proofs.Reading.{code-in}
 use Rattle.value_words.specs.Words.{unheld, boolAt, intAt, floatAt, voidAt, plainAt, valueOf, valueAt, codeAt}
-use Rattle.kind_table.specs.Kinds.{kindCall, kindEntry, operandCount, decoded, KindsGiven}
-use Rattle.kind_table.proofs.Counting.{decoded-kind, decoded-no, code-at, above-all, none-taken, miscounted, entry-count, entry-given, range-three}
+use Rattle.operator_kinds.specs.Kinds.{kindCall, kindEntry, operandCount, decoded, KindsGiven}
+use Rattle.operator_kinds.proofs.Counting.{decoded-kind, decoded-no, code-at, above-all, none-taken, miscounted, entry-count, entry-given, range-three}
 use Rattle.word_operators.specs.Operands.{codeOfAnswer, numberKind, Held, OfNumbers, FirstIn, valsAt}
 
 pub number-is : {v : Value} {k k′ : ℕ} {z z′ : ℤ} {x x′ : Float} → Number v k z x → k′ ≡ k → z′ ≡ z → x′ ≡ x → Number v k′ z′ x′

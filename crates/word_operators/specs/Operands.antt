@@ -10,11 +10,11 @@ use Rattle.ink_number.specs.Answer.{gives, Answer, refuses}
 use Rattle.ink_list.specs.Entries.{itemNumbers}
 use Rattle.ink_value.specs.Val.{Val, kindOf, kindAt, Kind, listK, codeOf}
 use Rattle.ink_value.specs.Value.{valOf, codeOfValue, FirstFormed}
-use Rattle.kind_table.specs.Kinds.{kindCall, operandCount, kindEntry}
+use Rattle.operator_kinds.specs.Kinds.{kindCall, operandCount, kindEntry}
 use Rattle.calls.specs.Call.{operandsOk}
 use Rattle.value_words.specs.Words.{unheld, valueAt, codeAt}
 use Rattle.value_words.specs.Calls.{operandsIn}
-use Rattle.kind_table.specs.Op.{opInvert}
+use Rattle.operator_kinds.specs.Op.{opInvert}
 use Rattle.list_operators.specs.Lists.{definitions}
 
 -- the words of the first n operands are a value's

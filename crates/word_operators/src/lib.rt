@@ -4,7 +4,7 @@ use ink_number::int::DIVISOR_QUESTION;
 use ink_number::int::Divided;
 use ink_value::Value;
 use ink_value::kind_code;
-use kind_table::op;
+use operator_kinds::op;
 use native_function_call::real;
 use native_function_call::test;
 use native_function_call::whole;
@@ -70,11 +70,11 @@ pub fn number_kind(op: u8, count: usize, operands: &[u64; 9]) -> u8
     if op::INVERT < op {
         return kind_code::LIST;
     }
-    if kind_table::operands(op) != count {
+    if operator_kinds::operands(op) != count {
         return kind_code::LIST;
     }
     if numbers(count, left, right) {
-        return kind_table::number_entry(op, left, right);
+        return operator_kinds::number_entry(op, left, right);
     }
     kind_code::LIST
 }
@@ -258,7 +258,7 @@ pub fn apply(
     requires { ⌜ ResultsFit limit (now «result_items») (now «result_values») ⌝ }
     ensures { λ r. ⌜ CallSays limit ends defined op count operands items values r answer «result_items» «result_values» ⌝ }
 {
-    let kind = kind_table::kinds(
+    let kind = operator_kinds::kinds(
         op,
         count,
         code_in(operands[0]),

@@ -7,10 +7,10 @@ use Rattle.ink_number.specs.Answer.{refuses}
 use Rattle.ink_value.specs.Val.{kindAt}
 use Rattle.ink_value.specs.Value.{valOf}
 use Rattle.ink_value.proofs.Given.{gave-is, gave-plain}
-use Rattle.kind_table.specs.Kinds.{kindCall}
+use Rattle.operator_kinds.specs.Kinds.{kindCall}
 use Rattle.list_operators.specs.Lists.{definitions}
 use Rattle.native_function_call.proofs.Calling.{codes-are, call-gives, call-refuses}
-use Rattle.kind_table.proofs.Counting.{decoded-kind, decoded-no}
+use Rattle.operator_kinds.proofs.Counting.{decoded-kind, decoded-no}
 use borrow.Author.Needs.{needs}
 use Rattle.native_function_call.proofs.apply.Statement.{statement}
 use Rattle.native_function_call.proofs.apply.Tie as tie

@@ -15,7 +15,7 @@ use Rattle.ink_value.specs.declared.Outcome.the-variants as Out
 use Rattle.ink_value.proofs.Reading.{few-in}
 use Rattle.ink_value.proofs.Parts.{parts-of, spans-of}
 use Rattle.native_function_call.specs.Apply.{compute}
-use Rattle.kind_table.proofs.Counting.{kind-other}
+use Rattle.operator_kinds.proofs.Counting.{kind-other}
 use Rattle.native_function_call.proofs.InParts.{test-read, whole-read, real-read}
 use borrow.Author.Needs.{needs}
 use Rattle.native_function_call.proofs.scalar.Statement.{statement}

@@ -10,7 +10,7 @@ use Rattle.ink_value.specs.Val.{int, float, kindOf}
 use Rattle.ink_value.specs.Convert.{asInt, asFloat}
 use Rattle.ink_value.specs.Value.{numberOf}
 use Rattle.slices.proofs.Lists.{ap2}
-use Rattle.kind_table.specs.Kinds.{common}
+use Rattle.operator_kinds.specs.Kinds.{common}
 use Rattle.number_operators.specs.Numbers.{testZ, testF, testNumbers}
 use borrow.Author.Needs.{needs}
 use Rattle.number_operators.proofs.number_test2.Statement.{statement}

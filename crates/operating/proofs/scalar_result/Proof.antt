@@ -9,7 +9,7 @@ use Rattle.ink_value.specs.Val.{bool, float, kindAt}
 use Rattle.ink_value.specs.Value.{valOf}
 use Rattle.ink_value.proofs.Reading.{few-in}
 use Rattle.native_function_call.specs.Apply.{compute}
-use Rattle.kind_table.proofs.Counting.{kind-other}
+use Rattle.operator_kinds.proofs.Counting.{kind-other}
 use Rattle.ink_list.specs.Entries.{itemNumbers}
 use Rattle.operating.proofs.Putting.{scalar-put}
 use Rattle.operating.proofs.Operating.{spans-in, operand-in, computes-two, answered-is}

@@ -1,7 +1,7 @@
 -- `running::operand_count` meets its contract: one case for each kind of instruction. Assumes nothing.
 use mathlib.Core.Path.{_≡_, subst}
 use Prim.Native.Nat.{ℕ, _<_}
-use Rattle.kind_table.specs.Kinds.{operandCount}
+use Rattle.operator_kinds.specs.Kinds.{operandCount}
 use Rattle.pack.specs.Instruction.{instrOf}
 use Rattle.pack.specs.declared.instruction.Instruction.{Instruction}
 use Rattle.stepping.specs.Steps.{IfOp}

@@ -5,7 +5,7 @@ use mir.ValLaws.{toZ-ofZ}
 use mir.Syntax.{w32}
 use Rattle.ink_value.specs.Val.{bool, int, float, void}
 use Rattle.ink_value.specs.Value.{valOf}
-use Rattle.kind_table.specs.Kinds.{operandCount}
+use Rattle.operator_kinds.specs.Kinds.{operandCount}
 use Rattle.list_operators.specs.Lists.{definitions}
 use Rattle.native_function_call.specs.Apply.{applyOp}
 use Rattle.pack.specs.Bodies.{decoded}

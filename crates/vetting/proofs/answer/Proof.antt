@@ -6,7 +6,7 @@ use Rattle.machine.specs.Machine.{topped}
 use Rattle.machine.specs.Stack.{stackOf}
 use Rattle.vetting.specs.Vet.{kindOn}
 use Rattle.vetting.proofs.KindSteps.{step-entry, step-range}
-use Rattle.kind_table.proofs.Counting.{below-range}
+use Rattle.operator_kinds.proofs.Counting.{below-range}
 use Rattle.vetting.proofs.answer.Statement.{statement}
 use Rattle.vetting.proofs.answer.Tie as tie
 

@@ -8,7 +8,7 @@ use native.Mathlib.Omega.{arith}
 use lib.ListN.{length, getD}
 use Rattle.ink_number.specs.Answer.{gives, refuses}
 use Rattle.ink_value.specs.Val.{kindAt}
-use Rattle.kind_table.specs.Kinds.{kindApply}
+use Rattle.operator_kinds.specs.Kinds.{kindApply}
 use Rattle.pack.specs.Contents.{literalCount}
 use Rattle.pack.specs.Instruction.{Instr, instrOf, push, pushVoid}
 use Rattle.pack.specs.Read.{program, sheetEnd, Standing}

@@ -3,7 +3,7 @@ use mathlib.Core.Path.{sym, _∙_}
 use borrow.Author.Needs.{needs}
 use native.Mathlib.Omega.{arith}
 use Rattle.vetting.specs.Vet.{kindOn}
-use Rattle.kind_table.specs.Kinds.{kindApply}
+use Rattle.operator_kinds.specs.Kinds.{kindApply}
 use Rattle.machine.proofs.Stack.{op-unknown, op-few}
 use Rattle.vetting.proofs.vet_op.Statement.{statement}
 use Rattle.vetting.proofs.vet_op.Tie as tie

@@ -3,7 +3,7 @@ use mathlib.Core.Path.{sym, ap, _∙_}
 use mathlib.Core.List.{map}
 use native.Mathlib.Omega.{arith}
 use Rattle.ink_value.specs.Val.{Kind, kindAt}
-use Rattle.kind_table.specs.Kinds.{kindApply}
+use Rattle.operator_kinds.specs.Kinds.{kindApply}
 use Rattle.pack.specs.Instruction.{instrOf}
 use Rattle.pack.specs.declared.instruction.Instruction.{Instruction}
 use Rattle.machine.specs.Machine.{step, stepPush, kindPushed}

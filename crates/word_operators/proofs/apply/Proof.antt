@@ -4,7 +4,7 @@ use Prim.Native.Nat.{ℕ}
 use native.Mathlib.Omega.{arith}
 use lib.ListN.{take}
 use Rattle.ink_value.specs.Val.{kindAt}
-use Rattle.kind_table.specs.Kinds.{kindCall}
+use Rattle.operator_kinds.specs.Kinds.{kindCall}
 use Rattle.list_operators.specs.Lists.{definitions}
 use Rattle.native_function_call.specs.Apply.{compute}
 use Rattle.value_words.specs.Words.{valueAt}

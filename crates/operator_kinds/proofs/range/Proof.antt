@@ -1,12 +1,12 @@
--- `kind_table::range` meets its contract. Assumes nothing.
+-- `operator_kinds::range` meets its contract. Assumes nothing.
 use mathlib.Core.Path.{_≡_, refl}
 use mathlib.Core.Bool.{false}
 use Prim.Native.Nat.{ℕ, zero, suc, _<_}
 use native.Mathlib.Omega.{arith}
 use Rattle.ink_value.specs.Val.{kindAt}
-use Rattle.kind_table.specs.Kinds.{isVoid, isList, kindRange}
-use Rattle.kind_table.proofs.range.Statement.{statement}
-use Rattle.kind_table.proofs.range.Tie as tie
+use Rattle.operator_kinds.specs.Kinds.{isVoid, isList, kindRange}
+use Rattle.operator_kinds.proofs.range.Statement.{statement}
+use Rattle.operator_kinds.proofs.range.Tie as tie
 
 no-void : (c : ℕ) → c < 5 → (c ≡ 4 → ⊥) → isVoid (kindAt c) ≡ false
 no-void zero l h = refl

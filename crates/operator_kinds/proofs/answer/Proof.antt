@@ -1,13 +1,13 @@
--- `kind_table::answer` meets its contract. Assumes nothing.
+-- `operator_kinds::answer` meets its contract. Assumes nothing.
 use mathlib.Core.Path.{sym, ap, _∙_}
 use Prim.Native.Nat.{ℕ}
 use native.Mathlib.Omega.{arith}
 use Rattle.ink_value.specs.Val.{kindAt}
-use Rattle.kind_table.specs.Kinds.{kindEntry}
-use Rattle.kind_table.proofs.Counting.{below-range, entry-given, range-given, second-below, second-alike, second-entry}
+use Rattle.operator_kinds.specs.Kinds.{kindEntry}
+use Rattle.operator_kinds.proofs.Counting.{below-range, entry-given, range-given, second-below, second-alike, second-entry}
 use borrow.Author.Needs.{needs}
-use Rattle.kind_table.proofs.answer.Statement.{statement}
-use Rattle.kind_table.proofs.answer.Tie as tie
+use Rattle.operator_kinds.proofs.answer.Statement.{statement}
+use Rattle.operator_kinds.proofs.answer.Tie as tie
 
 range-requires : tie.Need-range-requires
 range-requires c κs = search needs

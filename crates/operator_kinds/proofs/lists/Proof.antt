@@ -1,11 +1,11 @@
--- `kind_table::lists` meets its contract: one test, computed of the whole word. Assumes nothing.
+-- `operator_kinds::lists` meets its contract: one test, computed of the whole word. Assumes nothing.
 use mathlib.Core.Path.{refl}
 use Rattle.slices.specs.Every.{every, _and_}
-use Rattle.kind_table.specs.Kinds.{kindEntry, known, unary, arity, kindUnary, kindBinary, operandCount}
-use Rattle.kind_table.proofs.KindTable.{of-lists, list-kind, list-equal, list-not-equals, list-none}
+use Rattle.operator_kinds.specs.Kinds.{kindEntry, known, unary, arity, kindUnary, kindBinary, operandCount}
+use Rattle.operator_kinds.proofs.Agreed.{of-lists, list-kind, list-equal, list-not-equals, list-none}
 use borrow.Author.Needs.{needs}
-use Rattle.kind_table.proofs.lists.Statement.{statement}
-use Rattle.kind_table.proofs.lists.Tie as tie
+use Rattle.operator_kinds.proofs.lists.Statement.{statement}
+use Rattle.operator_kinds.proofs.lists.Tie as tie
 
 bits-of-requires : tie.Need-bits-of-requires
 bits-of-requires c κs = search needs

@@ -1,20 +1,18 @@
--- The table of 775 answers is the rule, by one test computed of it whole; so is what operators compute. Assumes nothing.
+-- What operators compute on kinds is the rule, by tests computed of all operators and kinds. Assumes nothing.
 use mathlib.Core.Path.{_≡_, refl, sym, _∙_, ap, subst}
 use mathlib.Core.Bool.{Bool, true, false, cond, not, _&&_}
-use mathlib.Core.List.{List, []}
-use Prim.Native.Nat.{ℕ, _+_, _*_, _-_, _<_, _≤_, max}
+use Prim.Native.Nat.{ℕ, _+_, _-_, _<_, _≤_, max}
 use native.Mathlib.Omega.{arith}
 use lib.Dec.{eqb, ltb}
-use lib.ListN.{getD}
 use borrow.Author.Tests.{eq-eqb, ne-eqb, eqb-true, lt-ltb}
 use Rattle.slices.specs.Every.{every}
 use Rattle.slices.proofs.Every.{every-at, not-both}
 use Rattle.ink_value.specs.Val.{Kind, boolK, intK, floatK, listK, voidK, kindAt, codeOf}
 use Rattle.ink_number.specs.Answer.{Answer, gives, refuses}
-use Rattle.kind_table.specs.Kinds.{kindEntry, operandCount, decoded, Table, bitsOf}
-use Rattle.kind_table.specs.Op.{opEqual, opNotEquals}
+use Rattle.operator_kinds.specs.Kinds.{kindEntry, operandCount, decoded, bitsOf}
+use Rattle.operator_kinds.specs.Op.{opEqual, opNotEquals}
 
-abbrev same : Answer Kind → Answer Kind → Bool
+abbrev pub same : Answer Kind → Answer Kind → Bool
 same (gives k) (gives j) = eqb (codeOf k) (codeOf j)
 same (gives k) (refuses r) = false
 same (refuses q) (gives j) = false
@@ -27,7 +25,7 @@ code-kind floatK = refl
 code-kind listK = refl
 code-kind voidK = refl
 
-same-eq : (a b : Answer Kind) → same a b ≡ true → a ≡ b
+pub same-eq : (a b : Answer Kind) → same a b ≡ true → a ≡ b
 same-eq (gives k) (gives j) t = ap gives (sym (code-kind k) ∙ (ap kindAt (eqb-true (codeOf k) (codeOf j) t) ∙ code-kind j))
 same-eq (gives k) (refuses r) t = absurd (not-both t)
 same-eq (refuses q) (gives j) t = absurd (not-both t)
@@ -53,11 +51,6 @@ agreed asked code lo n t o a b h l ha hb u =
   where
     pick : agrees asked code o a b ≡ true → same (decoded (code o a b)) (kindEntry o (kindAt a) (kindAt b)) ≡ true
     pick q = rw u at q
-
--- a table that passes whole has the answers
-pub is-table : (table : List (List ℕ)) → Agree (λ o a b. true) (λ o a b. getD (getD table o []) (a * 5 + b) 0) 0 31 → Table table
-is-table table t =
-    record { answers = λ o a b ho ha hb. agreed (λ o a b. true) (λ o a b. getD (getD table o []) (a * 5 + b) 0) 0 31 t o a b (omega arith) ho ha hb refl }
 
 -- ---- numbers: the left one, and the right one where two are taken
 

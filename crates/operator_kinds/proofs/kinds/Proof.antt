@@ -1,10 +1,10 @@
--- `kind_table::kinds` meets its contract: questions 8 and 10, and then the answer. Assumes nothing.
+-- `operator_kinds::kinds` meets its contract: questions 8 and 10, and then the answer. Assumes nothing.
 use mathlib.Core.Path.{sym, _∙_}
 use native.Mathlib.Omega.{arith}
-use Rattle.kind_table.proofs.Counting.{above-all, none-taken, miscounted}
+use Rattle.operator_kinds.proofs.Counting.{above-all, none-taken, miscounted}
 use borrow.Author.Needs.{needs}
-use Rattle.kind_table.proofs.kinds.Statement.{statement}
-use Rattle.kind_table.proofs.kinds.Tie as tie
+use Rattle.operator_kinds.proofs.kinds.Statement.{statement}
+use Rattle.operator_kinds.proofs.kinds.Tie as tie
 
 returns : tie.Need-returns
 returns c =

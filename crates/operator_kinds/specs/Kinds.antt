@@ -2,12 +2,9 @@
 use mathlib.Core.Bool.{Bool, true, false, cond, not, _&&_, _||_}
 use mathlib.Core.List.{List, [], _∷_}
 use mathlib.Core.Path.{_≡_}
-use Prim.Native.Nat.{ℕ, max, _<_, _≤_, _+_, _*_, _/_, _%_, _^_}
+use Prim.Native.Nat.{ℕ, max, _<_, _≤_, _*_, _/_, _%_, _^_}
 use lib.Dec.{eqb, leb, ltb}
-use lib.ListN.{getD}
-use Rattle.kind_table.specs.Op.{opSubtract, opNegate, opEqual, opNotEquals, opNot, opAnd, opOr, opMin, opMax, opInt, opFloat, opHas, opHasnt, opListMin, opCount, opValueOfList, opInvert, opRange}
-use Rattle.kind_table.specs.declared.KindAnswer.{KindAnswer}
-use Rattle.kind_table.specs.declared.KindAnswer.the-variants as Ans
+use Rattle.operator_kinds.specs.Op.{opSubtract, opNegate, opEqual, opNotEquals, opNot, opAnd, opOr, opMin, opMax, opInt, opFloat, opHas, opHasnt, opListMin, opCount, opValueOfList, opInvert, opRange}
 use Rattle.ink_value.specs.Val.{Kind, boolK, intK, floatK, listK, voidK, codeOf, kindAt}
 use Rattle.ink_number.specs.Answer.{Answer, gives, refuses, ask}
 
@@ -115,10 +112,6 @@ kindEntry o a b = cond (known o) (cond (unary o) (kindUnary o a) (kindBinary o a
 abbrev pub decoded : ℕ → Answer Kind
 decoded e = cond (ltb e 5) (gives (kindAt e)) (refuses e)
 
--- the table has for each operator its 25 answers, by the left kind and then by the right
-pub record Table (table : List (List ℕ)) : Type 0 where
-  pub answers : (o a b : ℕ) → o < opRange → a < 5 → b < 5 → decoded (getD (getD table o []) (a * 5 + b) 0) ≡ kindEntry o (kindAt a) (kindAt b)
-
 -- a word has two bits for each operator, from Add's in the lowest on
 abbrev pub bitsOf : ℕ → ℕ → ℕ
 bitsOf w o = w / 2 ^ (2 * o) % 4
@@ -126,16 +119,6 @@ bitsOf w o = w / 2 ^ (2 * o) % 4
 -- how many operands an operator takes, 0 where question 8 says no
 unfoldable pub operandCount : ℕ → ℕ
 operandCount o = cond (known o) (arity o) 0
-
--- what each case of the enum says
-abbrev pub kindAnswer : KindAnswer → Answer Kind
-kindAnswer (Ans.Kind k) = gives (kindAt k)
-kindAnswer (Ans.Refused r) = refuses r
-
--- a kind that is answered is one of the codes
-abbrev pub Coded : KindAnswer → Type 0
-Coded (Ans.Kind k) = k < 5
-Coded (Ans.Refused r) = Unit {0}
 
 -- the code of an operator's answer on the kinds of n operands. Where it is a kind, the operator takes n operands, one to three, and of three
 -- it gives a List

@@ -1,13 +1,13 @@
--- `kind_table::number_entry` meets its contract: each range of operators passes the test. Assumes nothing.
+-- `operator_kinds::number_entry` meets its contract: each range of operators passes the test. Assumes nothing.
 use mathlib.Core.Path.{refl, ap, _∙_}
 use Prim.Native.Nat.{max}
 use native.Mathlib.Omega.{arith}
 use Rattle.slices.specs.Every.{every, _and_}
-use Rattle.kind_table.specs.Kinds.{kindEntry, known, unary, arity, kindUnary, kindBinary, operandCount, decoded}
-use Rattle.kind_table.proofs.KindTable.{of-numbers}
+use Rattle.operator_kinds.specs.Kinds.{kindEntry, known, unary, arity, kindUnary, kindBinary, operandCount, decoded}
+use Rattle.operator_kinds.proofs.Agreed.{of-numbers}
 use borrow.Author.Needs.{needs}
-use Rattle.kind_table.proofs.number_entry.Statement.{statement}
-use Rattle.kind_table.proofs.number_entry.Tie as tie
+use Rattle.operator_kinds.proofs.number_entry.Statement.{statement}
+use Rattle.operator_kinds.proofs.number_entry.Tie as tie
 
 common-requires : tie.Need-common-requires
 common-requires c κs = search needs

@@ -1,14 +1,14 @@
--- `kind_table::mixed` meets its contract: each range of operators passes the test. Assumes nothing.
+-- `operator_kinds::mixed` meets its contract: each range of operators passes the test. Assumes nothing.
 use mathlib.Core.Path.{refl, sym, ap, _∙_}
 use mathlib.Core.Bool.{Bool, cond}
 use lib.Dec.{eqb}
 use native.Mathlib.Omega.{arith}
 use borrow.Author.Tests.{eq-eqb, ne-eqb}
-use Rattle.kind_table.specs.Kinds.{kindEntry, known, unary, arity, kindUnary, kindBinary, operandCount, decoded}
+use Rattle.operator_kinds.specs.Kinds.{kindEntry, known, unary, arity, kindUnary, kindBinary, operandCount, decoded}
 use Rattle.slices.specs.Every.{every, _and_}
-use Rattle.kind_table.proofs.KindTable.{of-mixed}
-use Rattle.kind_table.proofs.mixed.Statement.{statement}
-use Rattle.kind_table.proofs.mixed.Tie as tie
+use Rattle.operator_kinds.proofs.Agreed.{of-mixed}
+use Rattle.operator_kinds.proofs.mixed.Statement.{statement}
+use Rattle.operator_kinds.proofs.mixed.Tie as tie
 
 returns : tie.Need-returns
 unfolding kindEntry known unary arity kindUnary kindBinary operandCount every _and_

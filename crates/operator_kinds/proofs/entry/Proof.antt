@@ -1,15 +1,15 @@
--- `kind_table::entry` meets its contract: what each case of the highest kind answers. Assumes nothing.
+-- `operator_kinds::entry` meets its contract: what each case of the highest kind answers. Assumes nothing.
 use mathlib.Core.Path.{_≡_, refl, sym, ap, _∙_}
 use Prim.Native.Nat.{ℕ, max}
 use native.Mathlib.Omega.{arith}
 use Rattle.slices.specs.Every.{every, _and_}
 use Rattle.ink_value.specs.Val.{kindAt, listK}
-use Rattle.kind_table.specs.Kinds.{kindEntry, known, unary, arity, kindUnary, kindBinary, operandCount}
-use Rattle.kind_table.proofs.KindTable.{of-void}
-use Rattle.kind_table.proofs.Counting.{two-taken}
+use Rattle.operator_kinds.specs.Kinds.{kindEntry, known, unary, arity, kindUnary, kindBinary, operandCount}
+use Rattle.operator_kinds.proofs.Agreed.{of-void}
+use Rattle.operator_kinds.proofs.Counting.{two-taken}
 use borrow.Author.Needs.{needs}
-use Rattle.kind_table.proofs.entry.Statement.{statement}
-use Rattle.kind_table.proofs.entry.Tie as tie
+use Rattle.operator_kinds.proofs.entry.Statement.{statement}
+use Rattle.operator_kinds.proofs.entry.Tie as tie
 
 higher-requires : tie.Need-higher-requires
 higher-requires c κs = search needs

@@ -1,7 +1,7 @@
--- `kind_table::second` meets its contract. Assumes nothing.
+-- `operator_kinds::second` meets its contract. Assumes nothing.
 use borrow.Author.Tests.{eq-eqb, ne-eqb}
-use Rattle.kind_table.proofs.second.Statement.{statement}
-use Rattle.kind_table.proofs.second.Tie as tie
+use Rattle.operator_kinds.proofs.second.Statement.{statement}
+use Rattle.operator_kinds.proofs.second.Tie as tie
 
 returns : tie.Need-returns
 returns c = rw (eq-eqb _ _ (c .if1 .taken))

@@ -1,0 +1,3 @@
+-- What the operators answer on kinds.
+pub mod Op
+pub mod Kinds
