@@ -260,7 +260,7 @@ pub extern "C" fn ink_call_checked(
     let a = words::operand_at(operands, 0);
     let b = words::operand_at(operands, 1);
     let c = words::operand_at(operands, 2);
-    if !calls::lent_well(
+    if !call_memory::lent_well(
         count,
         a,
         b,

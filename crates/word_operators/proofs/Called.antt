@@ -18,8 +18,10 @@ use Rattle.kind_table.specs.Kinds.{kindCall, decoded}
 use Rattle.list_operators.specs.Lists.{definitions, Room}
 use Rattle.native_function_call.specs.Apply.{call, compute}
 use Rattle.native_function_call.proofs.Calling.{call-gives, call-refuses, two-of}
-use Rattle.calls.specs.Call.{operandsOk, called}
-use Rattle.calls.proofs.Forms.{first-of, goes-on}
+use Rattle.call_memory.specs.Lent.{operandsOk}
+use Rattle.calls.specs.Call.{called}
+use Rattle.call_memory.proofs.Forms.{first-of}
+use Rattle.calls.proofs.Forms.{goes-on}
 use Rattle.slices.proofs.Lists.{map-take}
 use Rattle.pack.specs.Read.{PackLists}
 use Rattle.kind_table.proofs.Counting.{decoded-kind, decoded-no}

@@ -11,7 +11,7 @@ use Rattle.ink_list.specs.Entries.{itemNumbers}
 use Rattle.ink_value.specs.Val.{Val, kindOf, kindAt, Kind, listK, codeOf}
 use Rattle.ink_value.specs.Value.{valOf, codeOfValue, FirstFormed}
 use Rattle.kind_table.specs.Kinds.{kindCall, operandCount, kindEntry}
-use Rattle.calls.specs.Call.{operandsOk}
+use Rattle.call_memory.specs.Lent.{operandsOk}
 use Rattle.value_words.specs.Words.{unheld, valueAt, codeAt}
 use Rattle.value_words.specs.Calls.{operandsIn}
 use Rattle.kind_table.specs.Op.{opInvert}

@@ -1,11 +1,10 @@
--- `calls::one_formed` meets its contract. Assumes nothing.
+-- `call_memory::one_formed` meets its contract. Assumes nothing.
 use mathlib.Core.Path.{sym, _∙_}
 use mathlib.Core.List.{[], _∷_}
-use Rattle.list_operators.specs.Lists.{definitions}
-use Rattle.calls.proofs.Forms.{unlike-long, all-one}
+use Rattle.call_memory.proofs.Forms.{unlike-long, all-one}
 use borrow.Author.Needs.{needs}
-use Rattle.calls.proofs.one_formed.Statement.{statement}
-use Rattle.calls.proofs.one_formed.Tie as tie
+use Rattle.call_memory.proofs.one_formed.Statement.{statement}
+use Rattle.call_memory.proofs.one_formed.Tie as tie
 
 returns : tie.Need-returns
 returns c =

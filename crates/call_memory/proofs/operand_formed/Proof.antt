@@ -1,4 +1,4 @@
--- `calls::operand_formed` meets its contract. Assumes nothing.
+-- `call_memory::operand_formed` meets its contract. Assumes nothing.
 use mathlib.Core.Path.{sym, _∙_}
 use mathlib.Core.List.{[], _∷_}
 use Prim.Native.Nat.{ℕ}
@@ -6,8 +6,8 @@ use Rattle.ink_value.specs.Value.{allFormed}
 use Rattle.slices.proofs.Lists.{ap2}
 use Rattle.pack.proofs.Values.{pack-tables}
 use borrow.Author.Needs.{needs}
-use Rattle.calls.proofs.operand_formed.Statement.{statement}
-use Rattle.calls.proofs.operand_formed.Tie as tie
+use Rattle.call_memory.proofs.operand_formed.Statement.{statement}
+use Rattle.call_memory.proofs.operand_formed.Tie as tie
 
 byte-at-requires : tie.Need-byte-at-requires
 byte-at-requires c κs = search needs

@@ -1,13 +1,12 @@
--- `calls::three_formed` meets its contract: question 7 of three operands, one after another. Assumes nothing.
+-- `call_memory::three_formed` meets its contract: question 7 of three operands, one after another. Assumes nothing.
 use mathlib.Core.Path.{sym, _∙_}
 use mathlib.Core.List.{[], _∷_}
 use borrow.Author.Tests.{not-true, not-false}
 use Rattle.slices.proofs.Every.{and-no-left, and-no-right}
-use Rattle.list_operators.specs.Lists.{definitions}
-use Rattle.calls.proofs.Forms.{unlike-long, all-three, third}
+use Rattle.call_memory.proofs.Forms.{unlike-long, all-three, third}
 use borrow.Author.Needs.{needs}
-use Rattle.calls.proofs.three_formed.Statement.{statement}
-use Rattle.calls.proofs.three_formed.Tie as tie
+use Rattle.call_memory.proofs.three_formed.Statement.{statement}
+use Rattle.call_memory.proofs.three_formed.Tie as tie
 
 returns : tie.Need-returns
 returns c =

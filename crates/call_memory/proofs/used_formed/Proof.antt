@@ -1,13 +1,13 @@
--- `calls::used_formed` meets its contract: Void in the place of an operand that is not used changes nothing. Assumes nothing.
+-- `call_memory::used_formed` meets its contract: Void in the place of an operand that is not used changes nothing. Assumes nothing.
 use mathlib.Core.Path.{_≡_, sym, ap, _∙_}
 use mathlib.Core.List.{[], _∷_}
 use Rattle.ink_value.specs.Value.{allFormed}
 use Rattle.ink_value.specs.declared.Value.{Value}
 use Rattle.slices.proofs.Lists.{ap3}
-use Rattle.calls.proofs.Forms.{kept, kept-all}
+use Rattle.call_memory.proofs.Forms.{kept, kept-all}
 use borrow.Author.Needs.{needs}
-use Rattle.calls.proofs.used_formed.Statement.{statement}
-use Rattle.calls.proofs.used_formed.Tie as tie
+use Rattle.call_memory.proofs.used_formed.Statement.{statement}
+use Rattle.call_memory.proofs.used_formed.Tie as tie
 
 used-requires : tie.Need-used-requires
 used-requires c κs = search needs

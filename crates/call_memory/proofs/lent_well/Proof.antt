@@ -1,11 +1,11 @@
--- `calls::lent_well` meets its contract. Assumes nothing.
+-- `call_memory::lent_well` meets its contract. Assumes nothing.
 use mathlib.Core.Path.{sym, _∙_}
 use borrow.Author.Tests.{lt-leb}
 use Rattle.slices.proofs.Every.{and-no-left, and-no-right}
-use Rattle.calls.proofs.Forms.{rooms}
+use Rattle.call_memory.proofs.Forms.{rooms}
 use borrow.Author.Needs.{needs}
-use Rattle.calls.proofs.lent_well.Statement.{statement}
-use Rattle.calls.proofs.lent_well.Tie as tie
+use Rattle.call_memory.proofs.lent_well.Statement.{statement}
+use Rattle.call_memory.proofs.lent_well.Tie as tie
 
 returns : tie.Need-returns
 returns c =
