@@ -22,12 +22,12 @@ use Rattle.vetting.specs.declared.Vetted.{Vetted}
 use Rattle.vetting.specs.declared.Vetted.the-variants as Vet
 use Rattle.running.specs.Run.{runMemory, ranTo, endAfter}
 use Rattle.running.specs.declared.Ran.{Ran}
-use Rattle.run_bytes.proofs.Opening.{Long}
+use Rattle.run_memory.proofs.Opening.{Long}
 use Rattle.vet_and_run.specs.Both.{StoppedByValue, ForetoldAnswer}
 use Rattle.vet_and_run.proofs.Answered.{both}
 use Rattle.vet_and_run.proofs.Instance.{vetting-suffices, run-suffices, kinds-agree}
 use Rattle.value_words.specs.Words.{valueOf, plainAt, voidAt, slotsIn, wordsOf}
-use Rattle.ink_operators.specs.Answers.{ranNumber, ranWords, vettedNumber, vettedIndex, RunSays, VetSays}
+use Rattle.answer_words.specs.Answers.{ranNumber, ranWords, vettedNumber, vettedIndex, VetSays, RunSays}
 use Rattle.ink_operators.specs.Foretold.{Said, refusal, ForetoldWords}
 
 -- what a run's answer is at the boundary

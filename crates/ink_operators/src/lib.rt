@@ -1,25 +1,24 @@
 // The library as C sees it: numbers, slices and words. A slice is passed as a pointer and a length, an array or a number that is written as
 // a pointer. The header hosts/include/ink_operators.h says how values stand in words.
-mod answers;
-mod ready;
-
 use ink_value::kind_code;
 use pack::Checked;
-use pack_check::format::DEFINITION_LIMIT;
 use pack_check::format::FORMAT1;
 use value_words::words;
 ghost use mathlib.Core.Path.{_≡_};
 ghost use denote.Ref.{now};
 ghost use Rattle.ink_value.specs.Convert.{coerceBool, coerceInt, coerceFloat};
-ghost use Rattle.list_operators.specs.Lists.{definitions};
 ghost use Rattle.pack.specs.Format.{format1};
 ghost use Rattle.pack.specs.Judge.{judge};
 ghost use Rattle.pack.specs.Read.{PackLists};
 ghost use Rattle.running.specs.Slices.{Kept};
 ghost use Rattle.value_words.specs.Calls.{numberOf};
 ghost use Rattle.word_operators.specs.Slices.{CallSays};
-ghost use Rattle.ink_operators.specs.Answers.{Passed, Ready, Clear, Applies};
-ghost use Rattle.ink_operators.specs.Slices.{VetSaysAny, RunSaysAny, ReadsAny, CallSaysAny, CastSaysAny, CoerceSaysAny};
+ghost use Rattle.answer_words.specs.Slices.{VetSaysAny};
+ghost use Rattle.definition_tables.specs.Tables.{Passed, Ready};
+ghost use Rattle.definition_tables.specs.Slices.{ReadsAny};
+ghost use Rattle.run_ready.specs.Work.{Clear};
+ghost use Rattle.ink_operators.specs.Apply.{Applies};
+ghost use Rattle.ink_operators.specs.Slices.{RunSaysAny, CallSaysAny, CastSaysAny, CoerceSaysAny};
 
 // Questions 1 to 5 of a pack: 0, or the number of the first no.
 #[no_mangle]
@@ -43,9 +42,7 @@ pub extern "C" fn ink_vet(
 ) -> u32
     ensures { λ r. ⌜ VetSaysAny format1 pack sheet kinds r index forecast ⌝ }
 {
-    let codes = *kinds;
-    let vetted = vetting::vet(pack, sheet, codes, forecast);
-    answers::vetted(vetted, index)
+    answer_words::vet(pack, sheet, kinds, forecast, index)
 }
 
 // Runs a sheet of any bytes.
@@ -77,7 +74,7 @@ pub extern "C" fn ink_run(
         result_items,
         result_values,
     );
-    answers::ran(ran, answer)
+    answer_words::ran(ran, answer)
 }
 
 // An operator on the first `count` of three operands, with a pack of any bytes.
@@ -190,15 +187,7 @@ pub extern "C" fn ink_definitions(
     requires { ⌜ Passed format1 (now pack) ⌝ }
     ensures { λ r. ⌜ ReadsAny format1 pack r ends defined counts ⌝ }
 {
-    if ends.len() < DEFINITION_LIMIT {
-        return 7;
-    }
-    if defined.len() < FORMAT1.limit {
-        return 7;
-    }
-    let read = pack_read::read_definitions(pack, ends, defined, FORMAT1);
-    *counts = [read.definitions as u64, read.items as u64];
-    0
+    definition_tables::read_tables(pack, FORMAT1, ends, defined, counts)
 }
 
 // Runs a sheet of a pack that has passed, its definitions read, in work slices that are clear. It answers and leaves what `ink_run` does.
@@ -223,7 +212,7 @@ pub extern "C" fn ink_run_checked(
     ensures { λ _. ⌜ Kept «work_items» «work_values» ⌝ }
 {
     let values = words::slots_in(slots);
-    let ran = ready::run_ready(
+    let ran = run_ready::run_ready(
         pack,
         ends,
         defined,
@@ -237,7 +226,7 @@ pub extern "C" fn ink_run_checked(
         result_items,
         result_values,
     );
-    answers::ran(ran, answer)
+    answer_words::ran(ran, answer)
 }
 
 // An operator with the definitions of a pack that has passed.
@@ -276,9 +265,9 @@ pub extern "C" fn ink_call_checked(
         words::put_index(answer, 0);
         return 7;
     }
-    let kind = word_operators::number_kind(op, count, operands);
+    let kind = word_kinds::number_kind(op, count, operands);
     if kind < kind_code::LIST {
-        return word_operators::number(op, kind, count, operands, answer);
+        return word_numbers::number(op, kind, count, operands, answer);
     }
     word_operators::apply(
         op,
@@ -313,9 +302,9 @@ pub extern "C" fn ink_apply(
         (now «result_items») (now «result_values») ⌝ }
     ensures { λ r. ⌜ CallSays (format1 .limit) ends defined op count operands items values r answer «result_items» «result_values» ⌝ }
 {
-    let kind = word_operators::number_kind(op, count, operands);
+    let kind = word_kinds::number_kind(op, count, operands);
     if kind < kind_code::LIST {
-        return word_operators::number(op, kind, count, operands, answer);
+        return word_numbers::number(op, kind, count, operands, answer);
     }
     word_operators::apply(
         op,

@@ -29,8 +29,9 @@ use Rattle.list_definitions.specs.Defs.{ListDefinitions}
 use Rattle.value_words.specs.Words.{unheld, valueAt}
 use Rattle.value_words.specs.Calls.{operandsIn, Says, Calls}
 use Rattle.value_words.proofs.Saying.{calls-is}
-use Rattle.word_operators.specs.Operands.{Held, FirstIn, OfNumbers}
-use Rattle.word_operators.proofs.Said.{said-calls}
+use Rattle.word_kinds.specs.Operands.{Held, OfNumbers}
+use Rattle.word_lists.specs.Operands.{FirstIn}
+use Rattle.word_numbers.proofs.Said.{said-calls}
 
 -- no slices that a program can lend hold what words of none read as
 not-spanned : {limit : ℕ} {is : List ℕ} {vs : List ℤ} {v : Value} → length is < 2 ^ 64 → Formed limit is vs v → v ≡ unheld → ⊥
