@@ -13,7 +13,7 @@ use Rattle.running.specs.declared.Ran.the-variants as Rn
 use Rattle.vetting.specs.Vet.{Vets}
 use Rattle.vetting.specs.declared.Vetted.{Vetted}
 use Rattle.vetting.specs.declared.Vetted.the-variants as Vet
-use Rattle.value_words.specs.Words.{wordsOf, Small}
+use Rattle.words_out.specs.Words.{wordsOf, Small}
 use Rattle.value_words.specs.Calls.{indexWords}
 
 -- ---- a run

@@ -1,7 +1,6 @@
 // The answers of a run and of vetting as a number that is returned and words that are written.
 use running::Ran;
-use value_words::answers::number;
-use value_words::words;
+use value_words::number;
 use vetting::Vetted;
 ghost use mathlib.Core.Path.{_≡_};
 ghost use Rattle.pack.specs.Format.{format1};
@@ -15,11 +14,11 @@ pub fn ran(r: Ran, answer: &mut [u64; 3]) -> u32
 {
     match r {
         Ran::Ended(v) => {
-            words::put_value(answer, v);
+            words_out::put_value(answer, v);
             0
         }
         Ran::Stopped { number: n, index } => {
-            words::put_index(answer, index);
+            words_out::put_index(answer, index);
             number(n)
         }
     }

@@ -26,7 +26,8 @@ use Rattle.run_memory.proofs.Opening.{Long}
 use Rattle.vet_and_run.specs.Both.{StoppedByValue, ForetoldAnswer}
 use Rattle.vet_and_run.proofs.Answered.{both}
 use Rattle.vet_and_run.proofs.Instance.{vetting-suffices, run-suffices, kinds-agree}
-use Rattle.value_words.specs.Words.{valueOf, plainAt, voidAt, slotsIn, wordsOf}
+use Rattle.words_in.specs.Words.{valueOf, plainAt, voidAt, slotsIn}
+use Rattle.words_out.specs.Words.{wordsOf}
 use Rattle.answer_words.specs.Answers.{ranNumber, ranWords, vettedNumber, vettedIndex, VetSays, RunSays}
 use Rattle.ink_operators.specs.Foretold.{Said, refusal, ForetoldWords}
 

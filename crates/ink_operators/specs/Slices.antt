@@ -10,7 +10,7 @@ use Rattle.ink_value.specs.Val.{Val}
 use Rattle.pack.specs.declared.format.Format.{Format}
 use Rattle.calls.specs.Slices.{calledIn, castIn, coercedIn, onPackIn}
 use Rattle.running.specs.Slices.{runMemoryIn}
-use Rattle.value_words.specs.Words.{slotsIn, valueAt}
+use Rattle.words_in.specs.Words.{slotsIn, valueAt}
 use Rattle.value_words.specs.Calls.{operandsIn}
 use Rattle.value_words.specs.Slices.{SaysIn, CallsIn}
 use Rattle.answer_words.specs.Answers.{RunSays}

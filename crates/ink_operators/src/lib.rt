@@ -3,7 +3,6 @@
 use ink_value::kind_code;
 use pack::Checked;
 use pack_check::format::FORMAT1;
-use value_words::words;
 ghost use mathlib.Core.Path.{_≡_};
 ghost use denote.Ref.{now};
 ghost use Rattle.ink_value.specs.Convert.{coerceBool, coerceInt, coerceFloat};
@@ -27,7 +26,7 @@ pub extern "C" fn ink_check(pack: &[u8]) -> u32
 {
     match pack_check::check(pack) {
         Checked::Passed => 0,
-        Checked::Refused(n) => value_words::answers::number(n),
+        Checked::Refused(n) => value_words::number(n),
     }
 }
 
@@ -62,7 +61,7 @@ pub extern "C" fn ink_run(
     ensures { λ r. ⌜ RunSaysAny format1 pack sheet slots «slot_items» «slot_values»
         r answer «work_items» «work_values» «result_items» «result_values» ⌝ }
 {
-    let values = words::slots_in(slots);
+    let values = words_in::slots_in(slots);
     let ran = run_bytes::run(
         pack,
         sheet,
@@ -92,9 +91,9 @@ pub extern "C" fn ink_call(
 ) -> u32
     ensures { λ r. ⌜ CallSaysAny format1 pack op count operands items values r answer «result_items» «result_values» ⌝ }
 {
-    let a = words::operand_at(operands, 0);
-    let b = words::operand_at(operands, 1);
-    let c = words::operand_at(operands, 2);
+    let a = words_in::operand_at(operands, 0);
+    let b = words_in::operand_at(operands, 1);
+    let c = words_in::operand_at(operands, 2);
     let outcome = calls::call(
         pack,
         op,
@@ -107,7 +106,7 @@ pub extern "C" fn ink_call(
         result_items,
         result_values,
     );
-    value_words::answers::outcome(outcome, answer)
+    value_words::outcome(outcome, answer)
 }
 
 // `cast` to a kind code, with a pack of any bytes.
@@ -124,9 +123,9 @@ pub extern "C" fn ink_cast(
 ) -> u32
     ensures { λ r. ⌜ CastSaysAny format1 pack code operand items values r answer «result_items» «result_values» ⌝ }
 {
-    let v = words::value_in(operand);
+    let v = words_in::value_in(operand);
     let outcome = calls::cast(pack, code, v, items, values, result_items, result_values);
-    value_words::answers::outcome(outcome, answer)
+    value_words::outcome(outcome, answer)
 }
 
 // The three `coerce_to_`, with a pack of any bytes.
@@ -140,9 +139,9 @@ pub extern "C" fn ink_coerce_to_bool(
 ) -> u32
     ensures { λ r. ⌜ CoerceSaysAny format1 pack coerceBool operand items values r answer ⌝ }
 {
-    let v = words::value_in(operand);
+    let v = words_in::value_in(operand);
     let outcome = calls::coerce_to_bool(pack, v, items, values);
-    value_words::answers::outcome(outcome, answer)
+    value_words::outcome(outcome, answer)
 }
 
 #[no_mangle]
@@ -155,9 +154,9 @@ pub extern "C" fn ink_coerce_to_int(
 ) -> u32
     ensures { λ r. ⌜ CoerceSaysAny format1 pack coerceInt operand items values r answer ⌝ }
 {
-    let v = words::value_in(operand);
+    let v = words_in::value_in(operand);
     let outcome = calls::coerce_to_int(pack, v, items, values);
-    value_words::answers::outcome(outcome, answer)
+    value_words::outcome(outcome, answer)
 }
 
 #[no_mangle]
@@ -170,9 +169,9 @@ pub extern "C" fn ink_coerce_to_float(
 ) -> u32
     ensures { λ r. ⌜ CoerceSaysAny format1 pack coerceFloat operand items values r answer ⌝ }
 {
-    let v = words::value_in(operand);
+    let v = words_in::value_in(operand);
     let outcome = calls::coerce_to_float(pack, v, items, values);
-    value_words::answers::outcome(outcome, answer)
+    value_words::outcome(outcome, answer)
 }
 
 // The definitions of a pack that has passed: how many, how many items, and the two tables from the start of their slices. The slices have
@@ -211,7 +210,7 @@ pub extern "C" fn ink_run_checked(
         r answer «work_items» «work_values» «result_items» «result_values» ⌝ }
     ensures { λ _. ⌜ Kept «work_items» «work_values» ⌝ }
 {
-    let values = words::slots_in(slots);
+    let values = words_in::slots_in(slots);
     let ran = run_ready::run_ready(
         pack,
         ends,
@@ -246,9 +245,9 @@ pub extern "C" fn ink_call_checked(
     requires { ⌜ PackLists (format1 .limit) (now ends) (now defined) ⌝ }
     ensures { λ r. ⌜ CallSays (format1 .limit) ends defined op count operands items values r answer «result_items» «result_values» ⌝ }
 {
-    let a = words::operand_at(operands, 0);
-    let b = words::operand_at(operands, 1);
-    let c = words::operand_at(operands, 2);
+    let a = words_in::operand_at(operands, 0);
+    let b = words_in::operand_at(operands, 1);
+    let c = words_in::operand_at(operands, 2);
     if !call_memory::lent_well(
         count,
         a,
@@ -262,7 +261,7 @@ pub extern "C" fn ink_call_checked(
         result_items.len(),
         result_values.len(),
     ) {
-        words::put_index(answer, 0);
+        words_out::put_index(answer, 0);
         return 7;
     }
     let kind = word_kinds::number_kind(op, count, operands);

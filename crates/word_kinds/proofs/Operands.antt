@@ -20,7 +20,7 @@ use Rattle.ink_value.specs.declared.Value.{Value}
 use Rattle.ink_value.specs.declared.Value.the-variants as Is
 use Rattle.slices.proofs.Lists.{ap2, ap3, map-take}
 use Rattle.ink_value.proofs.Reading.{code-in}
-use Rattle.value_words.specs.Words.{unheld, boolAt, intAt, floatAt, voidAt, plainAt, valueOf, valueAt, codeAt}
+use Rattle.words_in.specs.Words.{unheld, boolAt, intAt, floatAt, voidAt, plainAt, valueOf, valueAt, codeAt}
 use Rattle.kind_table.specs.Kinds.{kindCall, kindEntry, operandCount, decoded, KindsGiven}
 use Rattle.kind_table.proofs.Counting.{decoded-kind, decoded-no, code-at, above-all, none-taken, miscounted, entry-count, entry-given, range-three}
 use Rattle.word_kinds.specs.Operands.{codeOfAnswer, numberKind, Held, OfNumbers, valsAt}

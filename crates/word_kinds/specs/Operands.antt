@@ -10,7 +10,7 @@ use Rattle.ink_number.specs.Answer.{gives, Answer, refuses}
 use Rattle.ink_value.specs.Val.{Val, kindOf, kindAt, Kind, listK, codeOf}
 use Rattle.ink_value.specs.Value.{valOf, codeOfValue}
 use Rattle.kind_table.specs.Kinds.{kindCall, operandCount, kindEntry}
-use Rattle.value_words.specs.Words.{unheld, valueAt, codeAt}
+use Rattle.words_in.specs.Words.{unheld, valueAt, codeAt}
 use Rattle.kind_table.specs.Op.{opInvert}
 
 -- the words of the first n operands are a value's

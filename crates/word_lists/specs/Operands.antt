@@ -3,7 +3,7 @@ use mathlib.Core.List.{List}
 use Prim.Native.Nat.{ℕ}
 use lib.IntN.{ℤ}
 use Rattle.ink_value.specs.Value.{FirstFormed}
-use Rattle.value_words.specs.Words.{valueAt}
+use Rattle.words_in.specs.Words.{valueAt}
 
 -- the first n operands stand in the slices
 abbrev pub FirstIn : ℕ → List ℕ → List ℤ → ℕ → List ℕ → Type 0

@@ -1,6 +1,4 @@
 // An operator from words to words where its result is a List.
-use value_words::answers;
-use value_words::words;
 ghost use Prim.Native.Nat.{_≤_};
 ghost use Rattle.list_operators.specs.Lists.{Room, definitions};
 ghost use Rattle.word_lists.specs.Operands.{FirstIn};
@@ -25,9 +23,9 @@ pub fn list(
     requires { ⌜ FirstIn limit (now items) (now values) count (now operands) ⌝ }
     ensures { λ r. ⌜ ListSays limit ends defined op count operands items values r answer «result_items» «result_values» ⌝ }
 {
-    let a = words::operand_at(operands, 0);
-    let b = words::operand_at(operands, 1);
-    let c = words::operand_at(operands, 2);
+    let a = words_in::operand_at(operands, 0);
+    let b = words_in::operand_at(operands, 1);
+    let c = words_in::operand_at(operands, 2);
     let outcome = list_operators::list(
         op,
         count,
@@ -42,5 +40,5 @@ pub fn list(
         result_items,
         result_values,
     );
-    answers::outcome(outcome, answer)
+    value_words::outcome(outcome, answer)
 }

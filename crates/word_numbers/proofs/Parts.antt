@@ -13,7 +13,7 @@ use Rattle.ink_value.specs.Value.{codeOfValue}
 use Rattle.ink_value.proofs.Parts.{Parts, Number}
 use Rattle.ink_value.specs.declared.Value.{Value}
 use Rattle.ink_value.specs.declared.Value.the-variants as Is
-use Rattle.value_words.specs.Words.{unheld, valueAt, codeAt}
+use Rattle.words_in.specs.Words.{unheld, valueAt, codeAt}
 use Rattle.word_kinds.proofs.Operands.{word-parts}
 
 pub number-is : {v : Value} {k k′ : ℕ} {z z′ : ℤ} {x x′ : Float} → Number v k z x → k′ ≡ k → z′ ≡ z → x′ ≡ x → Number v k′ z′ x′

@@ -13,7 +13,7 @@ use Rattle.ink_value.specs.Val.{Val, kindAt}
 use Rattle.ink_value.specs.declared.Value.the-variants as Is
 use Rattle.native_function_call.specs.Apply.{test, whole, real, compute}
 use Rattle.native_function_call.proofs.Calling.{scalar-none}
-use Rattle.value_words.specs.Words.{wordsOf}
+use Rattle.words_out.specs.Words.{wordsOf}
 use Rattle.value_words.specs.Calls.{Says, Calls}
 
 -- a result that is no List, by its kind

@@ -10,7 +10,7 @@ use Rattle.list_definitions.specs.Defs.{ListDefinitions}
 use Rattle.native_function_call.specs.Apply.{compute}
 use Rattle.value_words.specs.Slices.{SaysIn}
 use Rattle.ink_value.specs.Value.{valOf}
-use Rattle.value_words.specs.Words.{valueAt}
+use Rattle.words_in.specs.Words.{valueAt}
 
 -- the values of the first two operands
 abbrev pub twoAt : List ℕ → List ℤ → List ℕ → List Val

@@ -3,7 +3,6 @@ use ink_number::int::DIVISOR_QUESTION;
 use ink_number::int::Divided;
 use ink_value::Value;
 use ink_value::kind_code;
-use value_words::words;
 use word_kinds::code_in;
 ghost use mathlib.Core.Path.{_≡_};
 ghost use Prim.Native.Nat.{_%_, _^_};
@@ -21,13 +20,13 @@ const REFUSED_DIVISOR: u32 = DIVISOR_QUESTION as u32;
 pub fn whole_in(w: u64) -> i32
     ensures { λ r. ⌜ r ≡ signed (w % 2 ^ 32) ⌝ }
 {
-    ink_number::int::signed_of(words::low(w))
+    ink_number::int::signed_of(words_in::low(w))
 }
 
 pub fn real_in(w: u64) -> f32
     ensures { λ r. ⌜ r ≡ ofBits32 (w % 2 ^ 32) ⌝ }
 {
-    ink_float::convert::float_from_bits(words::low(w))
+    ink_float::convert::float_from_bits(words_in::low(w))
 }
 
 // A result that is an Int.
@@ -36,11 +35,11 @@ pub fn put_whole(d: Divided, answer: &mut [u64; 3]) -> u32
 {
     match d {
         Divided::Value(z) => {
-            words::put_value(answer, Value::Int(z));
+            words_out::put_value(answer, Value::Int(z));
             0
         }
         Divided::Refused => {
-            words::put_index(answer, 0);
+            words_out::put_index(answer, 0);
             REFUSED_DIVISOR
         }
     }
@@ -56,16 +55,16 @@ fn number1(op: u8, kind: u8, operands: &[u64; 9], answer: &mut [u64; 3]) -> u32
     let xa = real_in(operands[1]);
     if kind == kind_code::BOOL {
         let t = number_operators::number_test1(ka, za, xa);
-        words::put_value(answer, Value::Bool(t));
+        words_out::put_value(answer, Value::Bool(t));
         return 0;
     }
     if kind == kind_code::INT {
         let z = number_operators::number_whole1(op, ka, za, xa);
-        words::put_value(answer, Value::Int(z));
+        words_out::put_value(answer, Value::Int(z));
         return 0;
     }
     let x = number_operators::number_real1(op, ka, za, xa);
-    words::put_value(answer, Value::Float(x));
+    words_out::put_value(answer, Value::Float(x));
     0
 }
 
@@ -82,7 +81,7 @@ fn number2(op: u8, kind: u8, operands: &[u64; 9], answer: &mut [u64; 3]) -> u32
     let xb = real_in(operands[4]);
     if kind == kind_code::BOOL {
         let t = number_operators::number_test2(op, ka, za, xa, kb, zb, xb);
-        words::put_value(answer, Value::Bool(t));
+        words_out::put_value(answer, Value::Bool(t));
         return 0;
     }
     if kind == kind_code::INT {
@@ -90,7 +89,7 @@ fn number2(op: u8, kind: u8, operands: &[u64; 9], answer: &mut [u64; 3]) -> u32
         return put_whole(d, answer);
     }
     let x = number_operators::number_real2(op, ka, za, xa, kb, zb, xb);
-    words::put_value(answer, Value::Float(x));
+    words_out::put_value(answer, Value::Float(x));
     0
 }
 

@@ -26,7 +26,7 @@ use Rattle.slices.proofs.Lists.{map-take}
 use Rattle.pack.specs.Read.{PackLists}
 use Rattle.kind_table.proofs.Counting.{decoded-kind, decoded-no}
 use Rattle.list_definitions.specs.Defs.{ListDefinitions}
-use Rattle.value_words.specs.Words.{unheld, valueAt}
+use Rattle.words_in.specs.Words.{unheld, valueAt}
 use Rattle.value_words.specs.Calls.{operandsIn, Says, Calls}
 use Rattle.value_words.proofs.Saying.{calls-is}
 use Rattle.word_kinds.specs.Operands.{Held, OfNumbers}

@@ -11,7 +11,7 @@ use Rattle.ink_float.specs.Real.{ofBits32}
 use Rattle.ink_value.specs.Value.{Formed}
 use Rattle.ink_value.proofs.Parts.{Operand}
 use Rattle.ink_list.specs.Entries.{itemNumbers}
-use Rattle.value_words.specs.Words.{unheld, valueAt, codeAt}
+use Rattle.words_in.specs.Words.{unheld, valueAt, codeAt}
 use Rattle.word_kinds.proofs.Operands.{word-parts}
 use Rattle.word_kinds.specs.Operands.{Held}
 use Rattle.word_lists.specs.Operands.{FirstIn}

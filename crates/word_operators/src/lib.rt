@@ -4,8 +4,6 @@ use ink_value::kind_code;
 use native_function_call::real;
 use native_function_call::test;
 use native_function_call::whole;
-use value_words::answers;
-use value_words::words;
 use word_kinds::code_in;
 use word_lists::list;
 use word_numbers::put_whole;
@@ -37,17 +35,17 @@ fn scalar(
     let ka = code_in(operands[0]);
     let za = whole_in(operands[1]);
     let xa = real_in(operands[1]);
-    let sa = words::start_in(operands[2]);
-    let na = words::len_in(operands[2]);
+    let sa = words_in::start_in(operands[2]);
+    let na = words_in::len_in(operands[2]);
     let kb = code_in(operands[3]);
     let zb = whole_in(operands[4]);
     let xb = real_in(operands[4]);
-    let sb = words::start_in(operands[5]);
-    let nb = words::len_in(operands[5]);
+    let sb = words_in::start_in(operands[5]);
+    let nb = words_in::len_in(operands[5]);
     match kind {
         kind_code::BOOL => {
             let t = test(op, n, ka, za, xa, sa, na, kb, zb, xb, sb, nb, items, values);
-            words::put_value(answer, Value::Bool(t));
+            words_out::put_value(answer, Value::Bool(t));
             0
         }
         kind_code::INT => {
@@ -56,11 +54,11 @@ fn scalar(
         }
         kind_code::FLOAT => {
             let x = real(op, n, ka, za, xa, sa, na, kb, zb, xb, sb, nb, values);
-            words::put_value(answer, Value::Float(x));
+            words_out::put_value(answer, Value::Float(x));
             0
         }
         _ => {
-            words::put_value(answer, Value::Void);
+            words_out::put_value(answer, Value::Void);
             0
         }
     }
@@ -93,8 +91,8 @@ pub fn apply(
         code_in(operands[6]),
     );
     if kind_code::VOID < kind {
-        words::put_index(answer, 0);
-        return answers::number(kind);
+        words_out::put_index(answer, 0);
+        return value_words::number(kind);
     }
     if kind == kind_code::LIST {
         return list(

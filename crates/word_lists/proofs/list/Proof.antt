@@ -6,7 +6,7 @@ use Rattle.ink_value.proofs.ReadBack.{first-wf}
 use Rattle.list_operators.specs.Lists.{definitions}
 use Rattle.native_function_call.specs.Apply.{compute}
 use Rattle.native_function_call.proofs.Results.{compute-fine}
-use Rattle.value_words.specs.Words.{valueAt}
+use Rattle.words_in.specs.Words.{valueAt}
 use Rattle.value_words.proofs.Saying.{calls}
 use Rattle.value_words.proofs.Few.{small-outcome}
 use Rattle.word_kinds.specs.Operands.{valsAt}

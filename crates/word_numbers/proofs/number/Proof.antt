@@ -7,7 +7,7 @@ use lib.ListN.{take}
 use Rattle.ink_value.specs.Val.{kindAt}
 use Rattle.ink_value.specs.Value.{valOf}
 use Rattle.native_function_call.specs.Apply.{compute}
-use Rattle.value_words.specs.Words.{valueAt}
+use Rattle.words_in.specs.Words.{valueAt}
 use Rattle.value_words.specs.Calls.{Says}
 use Rattle.word_kinds.specs.Operands.{OfNumbers}
 use Rattle.word_numbers.proofs.number.Statement.{statement}

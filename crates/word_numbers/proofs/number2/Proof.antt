@@ -3,7 +3,7 @@ use mathlib.Core.Path.{_≡_, refl, ap, _∙_}
 use native.Mathlib.Omega.{arith}
 use Rattle.ink_number.proofs.Signed.{returned}
 use Rattle.native_function_call.specs.Apply.{ofInt}
-use Rattle.value_words.specs.Words.{valueAt}
+use Rattle.words_in.specs.Words.{valueAt}
 use Rattle.word_numbers.proofs.Parts.{number-is, number-at}
 use Rattle.word_numbers.proofs.Said.{said-bool, said-int, said-float}
 use Rattle.slices.proofs.Lists.{ap2}

@@ -7,7 +7,7 @@ use Rattle.ink_number.proofs.Signed.{returned}
 use Rattle.ink_value.specs.Value.{placed}
 use Rattle.ink_value.specs.declared.Value.the-variants as Is
 use Rattle.native_function_call.specs.Apply.{ofInt}
-use Rattle.value_words.specs.Words.{wordsOf}
+use Rattle.words_out.specs.Words.{wordsOf}
 use Rattle.value_words.specs.Calls.{outcomeNumber, outcomeWords}
 use borrow.Author.Needs.{needs}
 use Rattle.word_numbers.proofs.put_whole.Statement.{statement}

@@ -7,7 +7,7 @@ use Rattle.ink_value.specs.Val.{kindAt}
 use Rattle.kind_table.specs.Kinds.{kindCall}
 use Rattle.list_operators.specs.Lists.{definitions}
 use Rattle.native_function_call.specs.Apply.{compute}
-use Rattle.value_words.specs.Words.{valueAt}
+use Rattle.words_in.specs.Words.{valueAt}
 use Rattle.value_words.proofs.Saying.{refused-calls, calls-is}
 use Rattle.word_kinds.specs.Operands.{valsAt}
 use Rattle.word_operators.proofs.Called.{room, first, held, first-in, called-no, called-yes, called-two}
