@@ -19,7 +19,8 @@ use Rattle.pack.specs.Bodies.{Pack}
 use Rattle.pack.specs.Judge.{judge}
 use Rattle.pack.specs.Read.{definitionsOf}
 use Rattle.pack.specs.declared.format.Format.{Format}
-use Rattle.calls.specs.Call.{operandsOk, coerced, onPack, Returned, ReturnedPlain}
+use Rattle.call_memory.specs.Lent.{operandsOk}
+use Rattle.calls.specs.Call.{coerced, onPack, Returned, ReturnedPlain}
 
 pub returned : {a : Answer Val} {r : Outcome} {oi oi′ : List ℕ} {ov ov′ : List ℤ} → Gave a r oi oi′ ov ov′ → Returned a r oi oi′ ov ov′
 returned g = record { gave = g; stands = read-back _ _ _ _ _ _ g }

@@ -1,17 +1,15 @@
 -- A direct call and the conversions on the bytes of a pack: questions 1 to 5 and 7 come before those of the operator. Assumes nothing.
 use mathlib.Core.Path.{_≡_}
-use mathlib.Core.Bool.{Bool}
 use mathlib.Core.List.{List, [], _∷_, map}
 use Prim.Native.Nat.{ℕ}
-use lib.Dec.{leb}
 use lib.IntN.{ℤ}
-use lib.ListN.{length, take}
+use lib.ListN.{take}
 use Rattle.ink_number.specs.Answer.{Answer, refuses, ask, andThen}
 use Rattle.slices.specs.Every.{_and_}
 use Rattle.list_definitions.specs.Defs.{ListDefinitions}
 use Rattle.ink_value.specs.Val.{Val}
 use Rattle.ink_value.specs.Convert.{cast}
-use Rattle.ink_value.specs.Value.{valOf, allFormed, placed, outcomeOf, Gave}
+use Rattle.ink_value.specs.Value.{valOf, placed, outcomeOf, Gave}
 use Rattle.ink_value.specs.declared.Outcome.{Outcome}
 use Rattle.ink_value.specs.declared.Value.{Value}
 use Rattle.native_function_call.specs.Apply.{call}
@@ -20,14 +18,7 @@ use Rattle.pack.specs.Read.{definitionsOf}
 use Rattle.pack.specs.declared.Checked.{Checked}
 use Rattle.pack.specs.declared.Checked.the-variants.{Passed, Refused}
 use Rattle.pack.specs.declared.format.Format.{Format}
-
--- 7, of operands: their lists are formed as literals of a pack with these definitions
-abbrev pub operandsOk : ListDefinitions → List ℕ → List ℤ → List Value → Bool
-operandsOk u is vs l = allFormed (length (u .defined)) (length (u .ends)) is vs l
-
--- 7, of result slices: "result slices at least 256 entries"
-abbrev pub resultsOk : ListDefinitions → List ℕ → List ℤ → Bool
-resultsOk u oi ov = leb (u .limit) (length oi) and leb (u .limit) (length ov)
+use Rattle.call_memory.specs.Lent.{operandsOk, resultsOk}
 
 module _ (is : List ℕ) (vs : List ℤ) where
   -- operator o on the first n of three operands: 7, then 8 and 10 to 16

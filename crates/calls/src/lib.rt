@@ -2,13 +2,11 @@
 use ink_value::Outcome;
 use ink_value::Value;
 use pack::Checked;
-use pack::bytes::byte_at;
 use pack::format::Format;
 use pack_check::format::DEFINITION_LIMIT;
 use pack_check::format::FORMAT1;
-use pack_lists::definitions::total_items;
 ghost use mathlib.Core.Path.{_≡_};
-ghost use mathlib.Core.Bool.{true, cond};
+ghost use mathlib.Core.Bool.{true};
 ghost use mathlib.Core.List.{[], _∷_};
 ghost use Prim.Native.Nat.{_≤_, _<_};
 ghost use lib.ListN.{length, take};
@@ -18,102 +16,11 @@ ghost use Rattle.list_operators.specs.Lists.{definitions, definitionsIn};
 ghost use Rattle.pack.specs.Read.{PackLists};
 ghost use Rattle.ink_value.specs.Convert.{cast, coerceBool, coerceInt, coerceFloat};
 ghost use Rattle.ink_value.specs.Slices.{Gives};
-ghost use Rattle.ink_value.specs.declared.Value.the-variants as Is;
 ghost use Rattle.pack.specs.Format.{format1, Runnable};
 ghost use Rattle.pack.specs.Judge.{Sound};
-ghost use Rattle.calls.specs.Call.{operandsOk, ReturnedPlain};
-ghost use Rattle.calls.specs.Slices.{formedIn, lentWell, calledIn, castIn, coercedIn, onPackIn, packDefinitions, operandOk, Asked, ReturnedIn};
-
-// Question 7 of a value, with its two slices equally long.
-fn one_formed(v: Value, items: &[u16], values: &[i32], total: usize, definitions: usize) -> bool
-    ensures { λ r. ⌜ r ≡ formedIn total definitions items values (v ∷ []) ⌝ }
-{
-    if items.len() != values.len() {
-        return false;
-    }
-    ink_value::is_formed(v, items, values, total, definitions)
-}
-
-// The same of three.
-fn three_formed(
-    a: Value,
-    b: Value,
-    c: Value,
-    items: &[u16],
-    values: &[i32],
-    total: usize,
-    definitions: usize,
-) -> bool
-    ensures { λ r. ⌜ r ≡ formedIn total definitions items values (a ∷ b ∷ c ∷ []) ⌝ }
-{
-    if items.len() != values.len() {
-        return false;
-    }
-    if !ink_value::is_formed(a, items, values, total, definitions) {
-        return false;
-    }
-    if !ink_value::is_formed(b, items, values, total, definitions) {
-        return false;
-    }
-    ink_value::is_formed(c, items, values, total, definitions)
-}
-
-// An operand that is used, or Void in its place.
-fn used(yes: bool, v: Value) -> Value
-    ensures { λ r. ⌜ r ≡ cond yes v Is.Void ⌝ }
-{
-    if yes { v } else { Value::Void }
-}
-
-// Question 7 of the first `count` of three.
-fn used_formed(
-    count: usize,
-    a: Value,
-    b: Value,
-    c: Value,
-    items: &[u16],
-    values: &[i32],
-    total: usize,
-    definitions: usize,
-) -> bool
-    ensures { λ r. ⌜ r ≡ formedIn total definitions items values (take count (a ∷ b ∷ c ∷ [])) ⌝ }
-{
-    three_formed(
-        used(0 < count, a),
-        used(1 < count, b),
-        used(2 < count, c),
-        items,
-        values,
-        total,
-        definitions,
-    )
-}
-
-// Question 7 of the first `count` of three operands and of result slices of these lengths, which `limit` entries must fit.
-pub fn lent_well(
-    count: usize,
-    a: Value,
-    b: Value,
-    c: Value,
-    items: &[u16],
-    values: &[i32],
-    total: usize,
-    definitions: usize,
-    limit: usize,
-    result_items: usize,
-    result_values: usize,
-) -> bool
-    ensures { λ r. ⌜ r ≡ lentWell total definitions items values (take count (a ∷ b ∷ c ∷ []))
-        limit «result_items» «result_values» ⌝ }
-{
-    if result_items < limit {
-        return false;
-    }
-    if result_values < limit {
-        return false;
-    }
-    used_formed(count, a, b, c, items, values, total, definitions)
-}
+ghost use Rattle.call_memory.specs.Lent.{operandsOk, packDefinitions};
+ghost use Rattle.calls.specs.Call.{ReturnedPlain};
+ghost use Rattle.calls.specs.Slices.{calledIn, castIn, coercedIn, onPackIn, Asked, ReturnedIn};
 
 // An operator on operands of which question 7 says yes, with the definitions at hand: questions 8 and 10 to 16.
 pub fn call_formed(
@@ -170,7 +77,7 @@ pub fn call_with(
     requires { ⌜ PackLists limit (now ends) (now defined) × (1 ≤ limit) × (limit < itemNumbers) ⌝ }
     ensures { λ r. ⌜ Gives (calledIn items values oi ov op count (a ∷ b ∷ c ∷ []) (definitionsIn ends defined limit)) r oi ov ⌝ }
 {
-    if !lent_well(
+    if !call_memory::lent_well(
         count,
         a,
         b,
@@ -277,16 +184,6 @@ pub fn call(
     }
 }
 
-// Question 7 of the operand of a conversion, with a pack that has passed.
-fn operand_formed(pack: &[u8], v: Value, items: &[u16], values: &[i32], format: Format) -> bool
-    requires { ⌜ Sound format (now pack) × Runnable format ⌝ }
-    ensures { λ r. ⌜ r ≡ operandOk format pack items values v ⌝ }
-{
-    let n = byte_at(pack, 1);
-    let total = total_items(pack, format);
-    one_formed(v, items, values, total, n)
-}
-
 // `cast` on a pack that has passed.
 fn cast_checked(
     pack: &[u8],
@@ -301,7 +198,7 @@ fn cast_checked(
     requires { ⌜ Sound format (now pack) × Runnable format ⌝ }
     ensures { λ r. ⌜ Gives (castIn items values oi ov to v (packDefinitions format pack)) r oi ov ⌝ }
 {
-    if !operand_formed(pack, v, items, values, format) {
+    if !call_memory::operand_formed(pack, v, items, values, format) {
         return Outcome::Refused(7);
     }
     if oi.len() < format.limit {
@@ -348,7 +245,7 @@ fn operand_asked(pack: &[u8], v: Value, items: &[u16], values: &[i32]) -> Checke
     match pack_check::check(pack) {
         Checked::Refused(number) => Checked::Refused(number),
         Checked::Passed => {
-            if operand_formed(pack, v, items, values, FORMAT1) {
+            if call_memory::operand_formed(pack, v, items, values, FORMAT1) {
                 return Checked::Passed;
             }
             Checked::Refused(7)

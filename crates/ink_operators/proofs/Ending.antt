@@ -32,7 +32,7 @@ use Rattle.machine.proofs.Wellformed.{WfStep, step-wf}
 use Rattle.running.specs.Run.{runMemory, endAfter, ranTo, Runs}
 use Rattle.running.specs.declared.Ran.{Ran}
 use Rattle.value_words.proofs.Few.{all-wf, few-items}
-use Rattle.ink_operators.specs.Answers.{SmallRan, ranNumber, ranWords, RunSays}
+use Rattle.answer_words.specs.Answers.{SmallRan, ranNumber, ranWords, RunSays}
 
 abbrev pub WfEnd : Format → End Val → Type 0
 WfEnd F (ended v) = Wf (F .limit) v

@@ -1,9 +1,9 @@
 -- Demand 3 of the words: what `ink_vet` says holds of what `ink_run` says, by their contracts alone; and its conditions can be met, by slots
 -- that are all Void and slices that are long enough, for every pack of every format. Assumes nothing.
 use mathlib.Core.Path.{_≡_, refl, sym, ap, _∙_, subst}
-use mathlib.Core.Logic.{_⊎_, inl, inr}
+use mathlib.Core.Logic.{inl, inr}
 use mathlib.Core.List.{List, [], _∷_, map}
-use Prim.Native.Nat.{ℕ, zero, suc, _*_, _-_, _≤_, _<_}
+use Prim.Native.Nat.{ℕ, zero, suc, _≤_, _<_}
 use native.Mathlib.Omega.{arith}
 use lib.IntN.{ℤ}
 use lib.ListN.{length, getD}
@@ -13,22 +13,22 @@ use Rattle.ink_value.specs.declared.Value.{Value}
 use Rattle.ink_value.specs.declared.Value.the-variants as Is
 use Rattle.slices.specs.Every.{table}
 use Rattle.pack.specs.declared.format.Format.{Format}
-use Rattle.machine.specs.Foretold.{ByValue, Verdict, turned, verdict}
+use Rattle.machine.specs.Foretold.{ByValue, turned, verdict}
 use Rattle.machine.specs.Machine.{End, ended, stopped}
 use Rattle.machine.specs.Whole.{opened, Suffices, sheetVet}
 use Rattle.machine.proofs.Numbers.{NumberedEnd, vet-numbered}
-use Rattle.vetting.specs.Vet.{Vets, verdictOf, forecastLimit, vetMemory}
+use Rattle.vetting.specs.Vet.{Vets, forecastLimit, vetMemory}
 use Rattle.vetting.specs.declared.Vetted.{Vetted}
 use Rattle.vetting.specs.declared.Vetted.the-variants as Vet
 use Rattle.running.specs.Run.{runMemory, ranTo, endAfter}
 use Rattle.running.specs.declared.Ran.{Ran}
-use Rattle.running.specs.declared.Ran.the-variants as Rn
-use Rattle.run_bytes.proofs.Opening.{Long}
+use Rattle.run_memory.proofs.Opening.{Long}
 use Rattle.vet_and_run.specs.Both.{StoppedByValue, ForetoldAnswer}
 use Rattle.vet_and_run.proofs.Answered.{both}
 use Rattle.vet_and_run.proofs.Instance.{vetting-suffices, run-suffices, kinds-agree}
-use Rattle.value_words.specs.Words.{valueOf, plainAt, voidAt, slotsIn, wordsOf}
-use Rattle.ink_operators.specs.Answers.{ranNumber, ranWords, vettedNumber, vettedIndex, RunSays, VetSays}
+use Rattle.words_in.specs.Words.{valueOf, plainAt, voidAt, slotsIn}
+use Rattle.words_out.specs.Words.{wordsOf}
+use Rattle.answer_words.specs.Answers.{ranNumber, ranWords, vettedNumber, vettedIndex, VetSays, RunSays}
 use Rattle.ink_operators.specs.Foretold.{Said, refusal, ForetoldWords}
 
 -- what a run's answer is at the boundary

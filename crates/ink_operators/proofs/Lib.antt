@@ -1,5 +1,4 @@
 -- The laws of the boundary; Foretold has demand 3 in its words.
-mod Clearing
 mod Ending
 mod Duties
 pub mod Foretold

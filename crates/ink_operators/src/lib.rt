@@ -1,25 +1,23 @@
 // The library as C sees it: numbers, slices and words. A slice is passed as a pointer and a length, an array or a number that is written as
 // a pointer. The header hosts/include/ink_operators.h says how values stand in words.
-mod answers;
-mod ready;
-
 use ink_value::kind_code;
 use pack::Checked;
-use pack_check::format::DEFINITION_LIMIT;
 use pack_check::format::FORMAT1;
-use value_words::words;
 ghost use mathlib.Core.Path.{_≡_};
 ghost use denote.Ref.{now};
 ghost use Rattle.ink_value.specs.Convert.{coerceBool, coerceInt, coerceFloat};
-ghost use Rattle.list_operators.specs.Lists.{definitions};
 ghost use Rattle.pack.specs.Format.{format1};
 ghost use Rattle.pack.specs.Judge.{judge};
 ghost use Rattle.pack.specs.Read.{PackLists};
 ghost use Rattle.running.specs.Slices.{Kept};
 ghost use Rattle.value_words.specs.Calls.{numberOf};
 ghost use Rattle.word_operators.specs.Slices.{CallSays};
-ghost use Rattle.ink_operators.specs.Answers.{Passed, Ready, Clear, Applies};
-ghost use Rattle.ink_operators.specs.Slices.{VetSaysAny, RunSaysAny, ReadsAny, CallSaysAny, CastSaysAny, CoerceSaysAny};
+ghost use Rattle.answer_words.specs.Slices.{VetSaysAny};
+ghost use Rattle.definition_tables.specs.Tables.{Passed, Ready};
+ghost use Rattle.definition_tables.specs.Slices.{ReadsAny};
+ghost use Rattle.run_ready.specs.Work.{Clear};
+ghost use Rattle.ink_operators.specs.Apply.{Applies};
+ghost use Rattle.ink_operators.specs.Slices.{RunSaysAny, CallSaysAny, CastSaysAny, CoerceSaysAny};
 
 // Questions 1 to 5 of a pack: 0, or the number of the first no.
 #[no_mangle]
@@ -28,7 +26,7 @@ pub extern "C" fn ink_check(pack: &[u8]) -> u32
 {
     match pack_check::check(pack) {
         Checked::Passed => 0,
-        Checked::Refused(n) => value_words::answers::number(n),
+        Checked::Refused(n) => value_words::number(n),
     }
 }
 
@@ -43,9 +41,7 @@ pub extern "C" fn ink_vet(
 ) -> u32
     ensures { λ r. ⌜ VetSaysAny format1 pack sheet kinds r index forecast ⌝ }
 {
-    let codes = *kinds;
-    let vetted = vetting::vet(pack, sheet, codes, forecast);
-    answers::vetted(vetted, index)
+    answer_words::vet(pack, sheet, kinds, forecast, index)
 }
 
 // Runs a sheet of any bytes.
@@ -65,7 +61,7 @@ pub extern "C" fn ink_run(
     ensures { λ r. ⌜ RunSaysAny format1 pack sheet slots «slot_items» «slot_values»
         r answer «work_items» «work_values» «result_items» «result_values» ⌝ }
 {
-    let values = words::slots_in(slots);
+    let values = words_in::slots_in(slots);
     let ran = run_bytes::run(
         pack,
         sheet,
@@ -77,7 +73,7 @@ pub extern "C" fn ink_run(
         result_items,
         result_values,
     );
-    answers::ran(ran, answer)
+    answer_words::ran(ran, answer)
 }
 
 // An operator on the first `count` of three operands, with a pack of any bytes.
@@ -95,9 +91,9 @@ pub extern "C" fn ink_call(
 ) -> u32
     ensures { λ r. ⌜ CallSaysAny format1 pack op count operands items values r answer «result_items» «result_values» ⌝ }
 {
-    let a = words::operand_at(operands, 0);
-    let b = words::operand_at(operands, 1);
-    let c = words::operand_at(operands, 2);
+    let a = words_in::operand_at(operands, 0);
+    let b = words_in::operand_at(operands, 1);
+    let c = words_in::operand_at(operands, 2);
     let outcome = calls::call(
         pack,
         op,
@@ -110,7 +106,7 @@ pub extern "C" fn ink_call(
         result_items,
         result_values,
     );
-    value_words::answers::outcome(outcome, answer)
+    value_words::outcome(outcome, answer)
 }
 
 // `cast` to a kind code, with a pack of any bytes.
@@ -127,9 +123,9 @@ pub extern "C" fn ink_cast(
 ) -> u32
     ensures { λ r. ⌜ CastSaysAny format1 pack code operand items values r answer «result_items» «result_values» ⌝ }
 {
-    let v = words::value_in(operand);
+    let v = words_in::value_in(operand);
     let outcome = calls::cast(pack, code, v, items, values, result_items, result_values);
-    value_words::answers::outcome(outcome, answer)
+    value_words::outcome(outcome, answer)
 }
 
 // The three `coerce_to_`, with a pack of any bytes.
@@ -143,9 +139,9 @@ pub extern "C" fn ink_coerce_to_bool(
 ) -> u32
     ensures { λ r. ⌜ CoerceSaysAny format1 pack coerceBool operand items values r answer ⌝ }
 {
-    let v = words::value_in(operand);
+    let v = words_in::value_in(operand);
     let outcome = calls::coerce_to_bool(pack, v, items, values);
-    value_words::answers::outcome(outcome, answer)
+    value_words::outcome(outcome, answer)
 }
 
 #[no_mangle]
@@ -158,9 +154,9 @@ pub extern "C" fn ink_coerce_to_int(
 ) -> u32
     ensures { λ r. ⌜ CoerceSaysAny format1 pack coerceInt operand items values r answer ⌝ }
 {
-    let v = words::value_in(operand);
+    let v = words_in::value_in(operand);
     let outcome = calls::coerce_to_int(pack, v, items, values);
-    value_words::answers::outcome(outcome, answer)
+    value_words::outcome(outcome, answer)
 }
 
 #[no_mangle]
@@ -173,9 +169,9 @@ pub extern "C" fn ink_coerce_to_float(
 ) -> u32
     ensures { λ r. ⌜ CoerceSaysAny format1 pack coerceFloat operand items values r answer ⌝ }
 {
-    let v = words::value_in(operand);
+    let v = words_in::value_in(operand);
     let outcome = calls::coerce_to_float(pack, v, items, values);
-    value_words::answers::outcome(outcome, answer)
+    value_words::outcome(outcome, answer)
 }
 
 // The definitions of a pack that has passed: how many, how many items, and the two tables from the start of their slices. The slices have
@@ -190,15 +186,7 @@ pub extern "C" fn ink_definitions(
     requires { ⌜ Passed format1 (now pack) ⌝ }
     ensures { λ r. ⌜ ReadsAny format1 pack r ends defined counts ⌝ }
 {
-    if ends.len() < DEFINITION_LIMIT {
-        return 7;
-    }
-    if defined.len() < FORMAT1.limit {
-        return 7;
-    }
-    let read = pack_read::read_definitions(pack, ends, defined, FORMAT1);
-    *counts = [read.definitions as u64, read.items as u64];
-    0
+    definition_tables::read_tables(pack, FORMAT1, ends, defined, counts)
 }
 
 // Runs a sheet of a pack that has passed, its definitions read, in work slices that are clear. It answers and leaves what `ink_run` does.
@@ -222,8 +210,8 @@ pub extern "C" fn ink_run_checked(
         r answer «work_items» «work_values» «result_items» «result_values» ⌝ }
     ensures { λ _. ⌜ Kept «work_items» «work_values» ⌝ }
 {
-    let values = words::slots_in(slots);
-    let ran = ready::run_ready(
+    let values = words_in::slots_in(slots);
+    let ran = run_ready::run_ready(
         pack,
         ends,
         defined,
@@ -237,7 +225,7 @@ pub extern "C" fn ink_run_checked(
         result_items,
         result_values,
     );
-    answers::ran(ran, answer)
+    answer_words::ran(ran, answer)
 }
 
 // An operator with the definitions of a pack that has passed.
@@ -257,10 +245,10 @@ pub extern "C" fn ink_call_checked(
     requires { ⌜ PackLists (format1 .limit) (now ends) (now defined) ⌝ }
     ensures { λ r. ⌜ CallSays (format1 .limit) ends defined op count operands items values r answer «result_items» «result_values» ⌝ }
 {
-    let a = words::operand_at(operands, 0);
-    let b = words::operand_at(operands, 1);
-    let c = words::operand_at(operands, 2);
-    if !calls::lent_well(
+    let a = words_in::operand_at(operands, 0);
+    let b = words_in::operand_at(operands, 1);
+    let c = words_in::operand_at(operands, 2);
+    if !call_memory::lent_well(
         count,
         a,
         b,
@@ -273,12 +261,12 @@ pub extern "C" fn ink_call_checked(
         result_items.len(),
         result_values.len(),
     ) {
-        words::put_index(answer, 0);
+        words_out::put_index(answer, 0);
         return 7;
     }
-    let kind = word_operators::number_kind(op, count, operands);
+    let kind = word_kinds::number_kind(op, count, operands);
     if kind < kind_code::LIST {
-        return word_operators::number(op, kind, count, operands, answer);
+        return word_numbers::number(op, kind, count, operands, answer);
     }
     word_operators::apply(
         op,
@@ -313,9 +301,9 @@ pub extern "C" fn ink_apply(
         (now «result_items») (now «result_values») ⌝ }
     ensures { λ r. ⌜ CallSays (format1 .limit) ends defined op count operands items values r answer «result_items» «result_values» ⌝ }
 {
-    let kind = word_operators::number_kind(op, count, operands);
+    let kind = word_kinds::number_kind(op, count, operands);
     if kind < kind_code::LIST {
-        return word_operators::number(op, kind, count, operands, answer);
+        return word_numbers::number(op, kind, count, operands, answer);
     }
     word_operators::apply(
         op,

@@ -33,7 +33,8 @@ use Rattle.pack.specs.Judge.{judge, Sound}
 use Rattle.pack.specs.Read.{definedOf, endsOf, definitionsOf}
 use Rattle.pack.proofs.Judged.{judged}
 use Rattle.pack.proofs.Values.{pack-tables}
-use Rattle.calls.specs.Call.{operandsOk, resultsOk, called, castTo, coerced, onPack}
+use Rattle.call_memory.specs.Lent.{operandsOk, resultsOk}
+use Rattle.calls.specs.Call.{called, castTo, coerced, onPack}
 use Rattle.value_words.specs.Calls.{SmallOutcome}
 
 -- ---- operands and slots

@@ -1,5 +1,4 @@
 -- The laws of values as words, and of calls on them.
-pub mod Unheld
 pub mod Round
 pub mod Saying
 pub mod Few

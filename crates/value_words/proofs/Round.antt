@@ -16,7 +16,8 @@ use Rattle.ink_number.proofs.Residue.{residue-lt}
 use Rattle.ink_number.proofs.Wrap.{wrap-in}
 use Rattle.ink_value.specs.declared.Value.{Value}
 use Rattle.ink_value.specs.declared.Value.the-variants as Is
-use Rattle.value_words.specs.Words.{boolAt, intAt, floatAt, voidAt, plainAt, valueOf, valueAt, wordsOf}
+use Rattle.words_in.specs.Words.{boolAt, intAt, floatAt, voidAt, plainAt, valueOf, valueAt}
+use Rattle.words_out.specs.Words.{wordsOf}
 
 -- an Int is an i32, a Float a binary32, and a List's start and length have room in one word
 abbrev pub Held : Value → Type 0

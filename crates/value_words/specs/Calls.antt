@@ -12,7 +12,8 @@ use Rattle.ink_value.specs.Value.{placed, written}
 use Rattle.ink_value.specs.declared.Outcome.{Outcome}
 use Rattle.ink_value.specs.declared.Outcome.the-variants as Out
 use Rattle.ink_value.specs.declared.Value.{Value}
-use Rattle.value_words.specs.Words.{valueAt, wordsOf, Small}
+use Rattle.words_in.specs.Words.{valueAt}
+use Rattle.words_out.specs.Words.{wordsOf, Small}
 
 -- 0, or the number of the question that said no
 abbrev pub numberOf {ℓ} : {X : Type ℓ} → Answer X → ℕ

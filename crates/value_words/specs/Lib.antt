@@ -1,4 +1,3 @@
--- How values stand in words at the boundary, and what a call on them leaves there.
-pub mod Words
+-- What a call on values in words leaves at the boundary.
 pub mod Calls
 pub mod Slices

@@ -36,7 +36,7 @@ use Rattle.vetting.specs.declared.Vetted.the-variants as Vet
 use Rattle.operating.specs.Stacked.{workLimit}
 use Rattle.running.specs.Run.{runMemory, ranTo, endAfter}
 use Rattle.running.specs.declared.Ran.the-variants as Rn
-use Rattle.run_bytes.proofs.Opening.{Long}
+use Rattle.run_memory.proofs.Opening.{Long}
 use Rattle.vet_and_run.specs.Both.{ForetoldAnswer, Both}
 use Rattle.vet_and_run.specs.declared.VettedRun.{VettedRun}
 

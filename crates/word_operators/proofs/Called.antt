@@ -18,17 +18,20 @@ use Rattle.operator_kinds.specs.Kinds.{kindCall, decoded}
 use Rattle.list_operators.specs.Lists.{definitions, Room}
 use Rattle.native_function_call.specs.Apply.{call, compute}
 use Rattle.native_function_call.proofs.Calling.{call-gives, call-refuses, two-of}
-use Rattle.calls.specs.Call.{operandsOk, called}
-use Rattle.calls.proofs.Forms.{first-of, goes-on}
+use Rattle.call_memory.specs.Lent.{operandsOk}
+use Rattle.calls.specs.Call.{called}
+use Rattle.call_memory.proofs.Forms.{first-of}
+use Rattle.calls.proofs.Forms.{goes-on}
 use Rattle.slices.proofs.Lists.{map-take}
 use Rattle.pack.specs.Read.{PackLists}
 use Rattle.operator_kinds.proofs.Counting.{decoded-kind, decoded-no}
 use Rattle.list_definitions.specs.Defs.{ListDefinitions}
-use Rattle.value_words.specs.Words.{unheld, valueAt}
+use Rattle.words_in.specs.Words.{unheld, valueAt}
 use Rattle.value_words.specs.Calls.{operandsIn, Says, Calls}
 use Rattle.value_words.proofs.Saying.{calls-is}
-use Rattle.word_operators.specs.Operands.{Held, FirstIn, OfNumbers}
-use Rattle.word_operators.proofs.Said.{said-calls}
+use Rattle.word_kinds.specs.Operands.{Held, OfNumbers}
+use Rattle.word_lists.specs.Operands.{FirstIn}
+use Rattle.word_numbers.proofs.Said.{said-calls}
 
 -- no slices that a program can lend hold what words of none read as
 not-spanned : {limit : ℕ} {is : List ℕ} {vs : List ℤ} {v : Value} → length is < 2 ^ 64 → Formed limit is vs v → v ≡ unheld → ⊥

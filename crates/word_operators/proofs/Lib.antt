@@ -1,4 +1,3 @@
 -- The laws of operators on words.
 pub mod Operands
 pub mod Called
-pub mod Said

@@ -9,7 +9,7 @@ use Rattle.slices.specs.Every.{_and_}
 use Rattle.slices.proofs.Every.{and-left, and-right}
 use Rattle.ink_value.proofs.Given.{gave-is, gave-plain}
 use Rattle.list_operators.specs.Lists.{definitions}
-use Rattle.calls.specs.Call.{operandsOk, resultsOk}
+use Rattle.call_memory.specs.Lent.{operandsOk, resultsOk}
 use Rattle.calls.proofs.Forms.{ill-lent}
 use borrow.Author.Needs.{needs}
 use Rattle.calls.proofs.call_with.Statement.{statement}

@@ -14,7 +14,7 @@ use Rattle.ink_value.proofs.Given.{gave-is, gave-plain}
 use Rattle.pack.specs.Bodies.{decoded}
 use Rattle.pack.specs.Read.{definitionsOf}
 use Rattle.pack.proofs.Values.{pack-tables}
-use Rattle.calls.specs.Call.{operandsOk}
+use Rattle.call_memory.specs.Lent.{operandsOk}
 use Rattle.calls.proofs.Forms.{cast-ill, cast-short, cast-goes}
 use borrow.Author.Needs.{needs}
 use Rattle.calls.proofs.cast_checked.Statement.{statement}

@@ -13,9 +13,10 @@ use Rattle.ink_value.specs.declared.Value.{Value}
 use Rattle.slices.proofs.Lists.{ap3}
 use Rattle.list_definitions.specs.Defs.{ListDefinitions}
 use Rattle.list_operators.specs.Lists.{definitions}
-use Rattle.calls.specs.Call.{operandsOk, resultsOk, called}
+use Rattle.call_memory.specs.Lent.{operandsOk, resultsOk}
+use Rattle.calls.specs.Call.{called}
 use Rattle.calls.proofs.Forms.{ill-lent}
-use Rattle.value_words.specs.Words.{valueAt}
+use Rattle.words_in.specs.Words.{valueAt}
 use Rattle.value_words.specs.Calls.{operandsIn}
 use Rattle.value_words.proofs.Saying.{refused-calls, calls-is}
 use Rattle.word_operators.proofs.Called.{held, called-numbers}

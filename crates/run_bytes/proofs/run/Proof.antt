@@ -4,7 +4,7 @@ use Rattle.pack.specs.Judge.{checked}
 use Rattle.pack.proofs.Formats.{runnable1}
 use Rattle.pack.proofs.Judged.{accepted, passed, turned}
 use Rattle.machine.proofs.Whole.{opened-refused, opened-passed}
-use Rattle.run_bytes.proofs.Opening.{runs-stopped, runs-is}
+use Rattle.run_memory.proofs.Opening.{runs-stopped, runs-is}
 use borrow.Author.Needs.{needs}
 use Rattle.run_bytes.proofs.run.Statement.{statement}
 use Rattle.run_bytes.proofs.run.Tie as tie

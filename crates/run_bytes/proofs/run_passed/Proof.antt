@@ -2,7 +2,7 @@
 use native.Mathlib.Omega.{arith}
 use Rattle.pack.proofs.Tabled.{ends-front, ends-fit, ends-count, defined-front, defined-fit, defined-count}
 use Rattle.pack.proofs.Values.{pack-tables}
-use Rattle.run_bytes.proofs.Opening.{runs-stopped, runs-is, sheet-no, sheet-yes}
+use Rattle.run_memory.proofs.Opening.{runs-stopped, runs-is, sheet-no, sheet-yes}
 use Rattle.pack.proofs.Programs.{sheets-long}
 use borrow.Author.Needs.{needs}
 use Rattle.run_bytes.proofs.run_passed.Statement.{statement}

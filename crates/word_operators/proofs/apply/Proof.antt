@@ -7,12 +7,12 @@ use Rattle.ink_value.specs.Val.{kindAt}
 use Rattle.operator_kinds.specs.Kinds.{kindCall}
 use Rattle.list_operators.specs.Lists.{definitions}
 use Rattle.native_function_call.specs.Apply.{compute}
-use Rattle.value_words.specs.Words.{valueAt}
+use Rattle.words_in.specs.Words.{valueAt}
 use Rattle.value_words.proofs.Saying.{refused-calls, calls-is}
-use Rattle.word_operators.specs.Operands.{valsAt}
+use Rattle.word_kinds.specs.Operands.{valsAt}
 use Rattle.word_operators.proofs.Called.{room, first, held, first-in, called-no, called-yes, called-two}
-use Rattle.word_operators.proofs.Operands.{kinds-at}
-use Rattle.word_operators.proofs.Said.{said-calls}
+use Rattle.word_kinds.proofs.Operands.{kinds-at}
+use Rattle.word_numbers.proofs.Said.{said-calls}
 use borrow.Author.Needs.{needs}
 use Rattle.word_operators.proofs.apply.Statement.{statement}
 use Rattle.word_operators.proofs.apply.Tie as tie

@@ -4,10 +4,10 @@ use native.Mathlib.Omega.{arith}
 use Rattle.ink_number.proofs.Signed.{returned}
 use Rattle.ink_value.proofs.Reading.{few-in}
 use Rattle.ink_list.specs.Entries.{itemNumbers}
-use Rattle.value_words.specs.Words.{valueAt}
+use Rattle.words_in.specs.Words.{valueAt}
 use Rattle.word_operators.proofs.Operands.{first-at, second-at}
 use Rattle.ink_value.proofs.Parts.{operand-spans}
-use Rattle.word_operators.proofs.Said.{said-bool, said-int, said-float, said-void}
+use Rattle.word_numbers.proofs.Said.{said-bool, said-int, said-float, said-void}
 use Rattle.native_function_call.proofs.InParts.{test-read, whole-read, real-read}
 use borrow.Author.Needs.{needs}
 use Rattle.word_operators.proofs.scalar.Statement.{statement}

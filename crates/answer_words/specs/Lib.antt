@@ -1,0 +1,3 @@
+-- The answers of a run and of vetting in words.
+pub mod Answers
+pub mod Slices

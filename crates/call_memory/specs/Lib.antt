@@ -1,0 +1,2 @@
+-- Question 7 of a direct call.
+pub mod Lent

@@ -1,0 +1,2 @@
+-- The laws of the tables of definitions.
+pub mod Reading

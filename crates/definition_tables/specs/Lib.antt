@@ -1,0 +1,3 @@
+-- The definitions of a pack that has passed, as two tables.
+pub mod Tables
+pub mod Slices

@@ -1,0 +1,2 @@
+-- The laws of clear work slices.
+mod Clearing

@@ -1,0 +1,2 @@
+-- What a run of a pack that has passed asks of its work slices.
+pub mod Work

@@ -1,0 +1,2 @@
+-- The laws of operands in words.
+pub mod Operands

@@ -1,0 +1,2 @@
+-- The kinds of operands in words.
+pub mod Operands

@@ -1,0 +1,3 @@
+-- An operator on words whose result is a List.
+pub mod Operands
+pub mod Slices

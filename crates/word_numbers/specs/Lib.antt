@@ -1,0 +1,2 @@
+-- Operators on numbers that stand in words.
+pub mod Slices

@@ -1,0 +1,2 @@
+-- The law of words that are no value's.
+pub mod Refused

@@ -1,0 +1,2 @@
+-- How words are read as values at the boundary.
+pub mod Words

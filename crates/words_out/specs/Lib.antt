@@ -1,0 +1,2 @@
+-- How values are written as words at the boundary.
+pub mod Words
