@@ -22,10 +22,10 @@ fn test_entries(op: u8, ai: &[u16], av: &[i32], bi: &[u16], bv: &[i32]) -> bool
     ensures { λ r. ⌜ r ≡ testL op (list ai av) (list bi bv) ⌝ }
 {
     match op {
-        op::GREATER => list_extremes::greater(av, bv),
-        op::LESS => list_extremes::less(av, bv),
-        op::GREATER_THAN_OR_EQUALS => list_extremes::greater_or_equals(av, bv),
-        op::LESS_THAN_OR_EQUALS => list_extremes::less_or_equals(av, bv),
+        op::GREATER => list_comparisons::greater(av, bv),
+        op::LESS => list_comparisons::less(av, bv),
+        op::GREATER_THAN_OR_EQUALS => list_comparisons::greater_or_equals(av, bv),
+        op::LESS_THAN_OR_EQUALS => list_comparisons::less_or_equals(av, bv),
         op::HAS => list_merge::has(ai, bi),
         op::HASNT => list_merge::hasnt(ai, bi),
         _ => false,
@@ -273,7 +273,7 @@ fn list3(
     let lower = ink_value::lower_bound(b, values);
     let upper = ink_value::upper_bound(c, values);
     let e = i + m;
-    let n = list_extremes::range(&items[i..e], &values[i..e], lower, upper, oi, ov);
+    let n = list_range::range(&items[i..e], &values[i..e], lower, upper, oi, ov);
     located(n, oi, ends)
 }
 

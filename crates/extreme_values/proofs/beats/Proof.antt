@@ -1,11 +1,11 @@
--- `list_extremes::beats` meets its contract. Assumes nothing.
+-- `extreme_values::beats` meets its contract. Assumes nothing.
 use mathlib.Core.Path.{sym, ap, _∙_}
 use mathlib.Core.Bool.{Bool}
 use Rattle.ink_list.specs.Ops.{beats}
 use lib.Signed.{ltZ}
 use Rattle.ink_number.proofs.Signed.{read2}
-use Rattle.list_extremes.proofs.beats.Statement.{statement}
-use Rattle.list_extremes.proofs.beats.Tie as tie
+use Rattle.extreme_values.proofs.beats.Statement.{statement}
+use Rattle.extreme_values.proofs.beats.Tie as tie
 
 returns : tie.Need-returns
 returns c =

@@ -1,4 +1,4 @@
--- `list_extremes::extreme_value` meets its contract: the extreme of all values is that of the best so far and those from the cursor on.
+-- `extreme_values::extreme_value` meets its contract: the extreme of all values is that of the best so far and those from the cursor on.
 -- Assumes nothing.
 use borrow.Author.Needs.{needs}
 use mathlib.Core.Path.{_≡_, sym, ap, _∙_}
@@ -11,8 +11,8 @@ use mir.Syntax.{w32}
 use Rattle.ink_number.proofs.Signed.{returned}
 use Rattle.ink_list.specs.Ops.{extremeValue, top, beats}
 use Rattle.ink_list.proofs.TestLaws.{top-none, top-some, top-step, top-end}
-use Rattle.list_extremes.proofs.extreme_value.Statement.{statement}
-use Rattle.list_extremes.proofs.extreme_value.Tie as tie
+use Rattle.extreme_values.proofs.extreme_value.Statement.{statement}
+use Rattle.extreme_values.proofs.extreme_value.Tie as tie
 
 abbrev Inv-loop : tie.InvT-loop
 Inv-loop least vs best₀ i₀ best i = (i ≤ length vs) × (extremeValue least vs ≡ top least (toZ w32 best) (drop i vs))

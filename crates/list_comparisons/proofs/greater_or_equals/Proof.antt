@@ -1,4 +1,4 @@
--- `list_extremes::greater_or_equals` meets its contract: least and greatest as `extreme_value` gives them. Assumes nothing.
+-- `list_comparisons::greater_or_equals` meets its contract: least and greatest as `extreme_value` gives them. Assumes nothing.
 use mathlib.Core.Path.{_≡_, sym, ap, _∙_, ap₂}
 use mathlib.Core.Bool.{Bool, true, false, cond}
 use borrow.Author.Needs.{needs}
@@ -8,8 +8,8 @@ use lib.Signed.{leZ}
 use Rattle.ink_list.specs.Ops.{extremeValue}
 use Rattle.ink_number.proofs.Signed.{read2}
 use Rattle.ink_list.proofs.TestLaws.{greater-left-empty, greater-right-empty, greaterOrEquals-some}
-use Rattle.list_extremes.proofs.greater_or_equals.Statement.{statement}
-use Rattle.list_extremes.proofs.greater_or_equals.Tie as tie
+use Rattle.list_comparisons.proofs.greater_or_equals.Statement.{statement}
+use Rattle.list_comparisons.proofs.greater_or_equals.Tie as tie
 
 returns : tie.Need-returns
 returns c =

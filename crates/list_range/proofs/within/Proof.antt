@@ -1,10 +1,10 @@
--- `list_extremes::within` meets its contract. Assumes nothing.
+-- `list_range::within` meets its contract. Assumes nothing.
 use mathlib.Core.Path.{sym, ap, _∙_}
 use mathlib.Core.Bool.{Bool, false, cond}
 use lib.Signed.{leZ}
 use Rattle.ink_number.proofs.Signed.{read2}
-use Rattle.list_extremes.proofs.within.Statement.{statement}
-use Rattle.list_extremes.proofs.within.Tie as tie
+use Rattle.list_range.proofs.within.Statement.{statement}
+use Rattle.list_range.proofs.within.Tie as tie
 
 returns : tie.Need-returns
 returns c =

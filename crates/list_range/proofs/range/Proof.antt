@@ -1,4 +1,4 @@
--- `list_extremes::range` meets its contract: what is left of the answer is the range of the entries from cursor i on. Assumes nothing.
+-- `list_range::range` meets its contract: what is left of the answer is the range of the entries from cursor i on. Assumes nothing.
 use mathlib.Core.Path.{_≡_, refl, ap, _∙_, subst}
 use Prim.Native.Nat.{_-_, _≤_}
 use native.Mathlib.Omega.{arith}
@@ -14,8 +14,8 @@ use Rattle.ink_list.proofs.Rests.{rest, rest-done, of-lent}
 use Rattle.ink_list.proofs.Output.{Writing, begin, has-room, pushed, kept, turn, done}
 use Rattle.ink_list.proofs.SiftLaws.{sift-length, sift-limit, sift-nil, keep-yes, keep-no}
 use Rattle.ink_list.proofs.TestLaws.{within-back}
-use Rattle.list_extremes.proofs.range.Statement.{statement}
-use Rattle.list_extremes.proofs.range.Tie as tie
+use Rattle.list_range.proofs.range.Statement.{statement}
+use Rattle.list_range.proofs.range.Tie as tie
 
 abbrev Inv-loop : tie.InvT-loop
 Inv-loop ai av lower upper oi₀ ov₀ i₀ n₀ oi ov i n =

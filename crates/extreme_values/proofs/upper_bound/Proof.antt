@@ -1,10 +1,10 @@
--- `list_extremes::upper_bound` meets its contract. Assumes nothing.
+-- `extreme_values::upper_bound` meets its contract. Assumes nothing.
 use mathlib.Core.Path.{sym, _∙_}
 use borrow.Author.Needs.{needs}
 use Rattle.ink_number.proofs.Signed.{returned}
 use Rattle.ink_list.proofs.TestLaws.{upper-none, upper-some}
-use Rattle.list_extremes.proofs.upper_bound.Statement.{statement}
-use Rattle.list_extremes.proofs.upper_bound.Tie as tie
+use Rattle.extreme_values.proofs.upper_bound.Statement.{statement}
+use Rattle.extreme_values.proofs.upper_bound.Tie as tie
 
 returns : tie.Need-returns
 returns c = sym (upper-none (c .before .args .vs .now) (c .if1 .taken))

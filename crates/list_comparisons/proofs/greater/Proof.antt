@@ -1,4 +1,4 @@
--- `list_extremes::greater` meets its contract: least and greatest as `extreme_value` gives them. Assumes nothing.
+-- `list_comparisons::greater` meets its contract: least and greatest as `extreme_value` gives them. Assumes nothing.
 use mathlib.Core.Path.{sym, ap, _∙_}
 use mathlib.Core.Bool.{false}
 use lib.IntN.{ℤ}
@@ -7,8 +7,8 @@ use Rattle.ink_list.specs.Ops.{extremeValue}
 use lib.Signed.{ltZ}
 use Rattle.ink_number.proofs.Signed.{read2}
 use Rattle.ink_list.proofs.TestLaws.{greater-left-empty, greater-right-empty, greater-some}
-use Rattle.list_extremes.proofs.greater.Statement.{statement}
-use Rattle.list_extremes.proofs.greater.Tie as tie
+use Rattle.list_comparisons.proofs.greater.Statement.{statement}
+use Rattle.list_comparisons.proofs.greater.Tie as tie
 
 returns : tie.Need-returns
 returns c =
