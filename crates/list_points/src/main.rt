@@ -2,6 +2,9 @@
 // with its answer.
 
 ghost use Rattle.ink_list.specs.Entries.{Lent};
+use extreme_values::lower_bound;
+use extreme_values::upper_bound;
+use extreme_values::value_of_list;
 use ink_list::entries::copy;
 use ink_list::entries::is_formed;
 use list_cases::ITEM_LIMIT;
@@ -20,15 +23,12 @@ use list_comparisons::less;
 use list_comparisons::less_or_equals;
 use list_extremes::list_max;
 use list_extremes::list_min;
-use extreme_values::lower_bound;
-use list_range::range;
-use extreme_values::upper_bound;
-use extreme_values::value_of_list;
 use list_merge::has;
 use list_merge::hasnt;
 use list_merge::intersect;
 use list_merge::union;
 use list_merge::without;
+use list_range::range;
 
 fn show_union(ai: &[u16], av: &[i32], bi: &[u16], bv: &[i32])
     requires { ⌜ Lent 256 (now ai) (now av) ⌝ }

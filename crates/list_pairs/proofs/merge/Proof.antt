@@ -1,16 +1,16 @@
--- `list_operators::merge` meets its contract: each arm is its operator's case of the definition. Assumes nothing.
+-- `list_pairs::merge` meets its contract: each arm is its operator's case of the definition. Assumes nothing.
 use borrow.Author.Needs.{needs}
 use mathlib.Core.Path.{refl, ap, _∙_}
 use mathlib.Core.List.{List, []}
 use Prim.Native.Nat.{ℕ}
 use borrow.Author.Tests.{ne-eqb}
 use Rattle.ink_list.specs.Entries.{entries}
-use Rattle.list_operators.specs.Lists.{mergeL}
+use Rattle.list_pairs.specs.Pairs.{mergeL}
 use Rattle.ink_value.proofs.Reading.{wrote-is}
 use Rattle.ink_list.specs.Ops.{union, without, intersect}
 use Rattle.ink_list.proofs.Rests.{items-entries}
-use Rattle.list_operators.proofs.merge.Statement.{statement}
-use Rattle.list_operators.proofs.merge.Tie as tie
+use Rattle.list_pairs.proofs.merge.Statement.{statement}
+use Rattle.list_pairs.proofs.merge.Tie as tie
 
 union-requires : tie.Need-union-requires
 union-requires c κs = search needs

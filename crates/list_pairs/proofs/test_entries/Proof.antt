@@ -1,14 +1,14 @@
--- `list_operators::test_entries` meets its contract: each arm is its operator's case of the definition. Assumes nothing.
+-- `list_pairs::test_entries` meets its contract: each arm is its operator's case of the definition. Assumes nothing.
 use borrow.Author.Needs.{needs}
 use mathlib.Core.Path.{_∙_}
 use borrow.Author.Tests.{ne-eqb}
 use Rattle.ink_list.specs.Entries.{entries}
-use Rattle.list_operators.specs.Lists.{testL}
-use Rattle.list_operators.proofs.Listing.{by-values, by-items}
+use Rattle.list_pairs.specs.Pairs.{testL}
+use Rattle.list_pairs.proofs.Pairs.{by-values, by-items}
 use Rattle.ink_value.proofs.Arms.{at}
 use Rattle.ink_list.specs.Ops.{has, hasnt, greater, greaterOrEquals, less, lessOrEquals}
-use Rattle.list_operators.proofs.test_entries.Statement.{statement}
-use Rattle.list_operators.proofs.test_entries.Tie as tie
+use Rattle.list_pairs.proofs.test_entries.Statement.{statement}
+use Rattle.list_pairs.proofs.test_entries.Tie as tie
 
 greater-requires : tie.Need-greater-requires
 greater-requires c κs = search needs
