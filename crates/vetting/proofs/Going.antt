@@ -16,7 +16,7 @@ use Rattle.machine.specs.Foretold.{passed, turned, verdict, forecast, Begins}
 use Rattle.machine.proofs.Stack.{stack-length, stack-put, run-more, run-stop, run-done}
 use Rattle.kind_table.proofs.Counting.{code-at}
 use Rattle.pack.specs.Format.{instructionLimit}
-use Rattle.vetting.specs.Vet.{Codes, kindOn}
+use Rattle.vet_steps.specs.Step.{Codes, kindOn}
 
 -- the rest of vetting
 abbrev pub rest : List Instr → List Kind → List ℕ → ℕ → ℕ → Run Kind

@@ -17,7 +17,7 @@ use Rattle.pack.proofs.Programs.{whole, last-of}
 use Rattle.pack.proofs.Steps.{wide-some}
 use Rattle.machine.specs.Machine.{step, kindPushed}
 use Rattle.machine.specs.Stack.{stackOf}
-use Rattle.vetting.specs.Vet.{kindOn}
+use Rattle.vet_steps.specs.Step.{kindOn}
 use Rattle.vetting.proofs.Going.{Going, begin, advance, refused, not-one, one, count-is, begins}
 use borrow.Author.Needs.{needs}
 use Rattle.vetting.proofs.vet_into.Statement.{statement}

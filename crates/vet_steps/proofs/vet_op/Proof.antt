@@ -1,12 +1,12 @@
--- `vetting::vet_op` meets its contract: questions 8 and 10, and then the answer on kinds. Assumes nothing.
+-- `vet_steps::vet_op` meets its contract: questions 8 and 10, and then the answer on kinds. Assumes nothing.
 use mathlib.Core.Path.{sym, _∙_}
 use borrow.Author.Needs.{needs}
 use native.Mathlib.Omega.{arith}
-use Rattle.vetting.specs.Vet.{kindOn}
+use Rattle.vet_steps.specs.Step.{kindOn}
 use Rattle.kind_table.specs.Kinds.{kindApply}
 use Rattle.machine.proofs.Stack.{op-unknown, op-few}
-use Rattle.vetting.proofs.vet_op.Statement.{statement}
-use Rattle.vetting.proofs.vet_op.Tie as tie
+use Rattle.vet_steps.proofs.vet_op.Statement.{statement}
+use Rattle.vet_steps.proofs.vet_op.Tie as tie
 
 operands-requires : tie.Need-operands-requires
 operands-requires c κs = search needs

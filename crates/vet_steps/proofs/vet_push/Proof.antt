@@ -1,10 +1,10 @@
--- `vetting::vet_push` meets its contract: question 9. Assumes nothing.
+-- `vet_steps::vet_push` meets its contract: question 9. Assumes nothing.
 use mathlib.Core.Path.{sym}
 use native.Mathlib.Omega.{arith}
 use Rattle.ink_value.specs.Val.{kindAt}
 use Rattle.machine.proofs.Stack.{push-fits, push-full}
-use Rattle.vetting.proofs.vet_push.Statement.{statement}
-use Rattle.vetting.proofs.vet_push.Tie as tie
+use Rattle.vet_steps.proofs.vet_push.Statement.{statement}
+use Rattle.vet_steps.proofs.vet_push.Tie as tie
 
 returns : tie.Need-returns
 returns c =

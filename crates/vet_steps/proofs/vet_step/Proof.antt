@@ -1,4 +1,4 @@
--- `vetting::vet_step` meets its contract: each kind of instruction is its case of the definition. Assumes nothing.
+-- `vet_steps::vet_step` meets its contract: each kind of instruction is its case of the definition. Assumes nothing.
 use mathlib.Core.Path.{sym, ap, _∙_}
 use mathlib.Core.List.{map}
 use native.Mathlib.Omega.{arith}
@@ -8,11 +8,11 @@ use Rattle.pack.specs.Instruction.{instrOf}
 use Rattle.pack.specs.declared.instruction.Instruction.{Instruction}
 use Rattle.machine.specs.Machine.{step, stepPush, kindPushed}
 use Rattle.machine.specs.Stack.{stackOf}
-use Rattle.vetting.specs.Vet.{kindOn}
-use Rattle.vetting.proofs.KindSteps.{slot-kind}
+use Rattle.vet_steps.specs.Step.{kindOn}
+use Rattle.vet_steps.proofs.KindSteps.{slot-kind}
 use borrow.Author.Needs.{needs}
-use Rattle.vetting.proofs.vet_step.Statement.{statement}
-use Rattle.vetting.proofs.vet_step.Tie as tie
+use Rattle.vet_steps.proofs.vet_step.Statement.{statement}
+use Rattle.vet_steps.proofs.vet_step.Tie as tie
 
 enum-known-i : tie.Need-enum-known-i
 enum-known-i c = search needs

@@ -1,14 +1,14 @@
--- `vetting::answer` meets its contract: the operands on top of the stack, by the table, and of range by its rule. Assumes nothing.
+-- `vet_steps::answer` meets its contract: the operands on top of the stack, by the table, and of range by its rule. Assumes nothing.
 use mathlib.Core.Path.{sym, _∙_, ap}
 use Prim.Native.Nat.{_-_}
 use borrow.Author.Needs.{needs}
 use Rattle.machine.specs.Machine.{topped}
 use Rattle.machine.specs.Stack.{stackOf}
-use Rattle.vetting.specs.Vet.{kindOn}
-use Rattle.vetting.proofs.KindSteps.{step-entry, step-range}
+use Rattle.vet_steps.specs.Step.{kindOn}
+use Rattle.vet_steps.proofs.KindSteps.{step-entry, step-range}
 use Rattle.kind_table.proofs.Counting.{below-range}
-use Rattle.vetting.proofs.answer.Statement.{statement}
-use Rattle.vetting.proofs.answer.Tie as tie
+use Rattle.vet_steps.proofs.answer.Statement.{statement}
+use Rattle.vet_steps.proofs.answer.Tie as tie
 
 sub-place : tie.Need-sub-place
 sub-place c = search needs
