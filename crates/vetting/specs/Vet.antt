@@ -2,7 +2,7 @@
 use mathlib.Core.Path.{_≡_}
 use mathlib.Core.Bool.{Bool, true}
 use mathlib.Core.List.{List, [], _∷_, map}
-use Prim.Native.Nat.{ℕ, _≤_, _*_}
+use Prim.Native.Nat.{ℕ, _*_}
 use lib.Dec.{leb}
 use lib.ListN.{length}
 use Rattle.slices.specs.Every.{_and_}
@@ -14,7 +14,7 @@ use Rattle.pack.specs.Format.{instructionLimit}
 use Rattle.pack.specs.declared.format.Format.{Format}
 use Rattle.machine.specs.Machine.{vet}
 use Rattle.machine.specs.Whole.{opened, Suffices, countOf, sheetRun, sheetVet}
-use Rattle.machine.specs.Foretold.{Verdict, passed, turned, verdict, Begins, forecast, Foretold}
+use Rattle.machine.specs.Foretold.{Verdict, passed, turned, verdict, forecast, Foretold}
 use Rattle.vetting.specs.declared.Vetted.{Vetted}
 use Rattle.vetting.specs.declared.Vetted.the-variants as Vet
 
@@ -62,11 +62,6 @@ pub record Vets (F : Format) (p : List ℕ) (s : ℕ) (codes : List ℕ) (v : Ve
       → Foretold (countOf (opened F p s (vetMemory codes old)) s) (verdictOf v) new (sheetRun F p s runs slots)
 
 -- ---- the parts
-
--- where it passed, the array begins with the forecast of the stacks
-abbrev pub Forecasts : Vetted → List ℕ → List (List Kind) → Type 0
-Forecasts (Vet.Passed n) f sts = (length sts ≡ n) × (n ≤ instructionLimit) × Begins f sts
-Forecasts (Vet.Refused r k) f sts = Unit {0}
 
 -- the answer of a program that question 7 let through, and what it leaves in the forecast slice
 pub record VetsProgram (program : List Instr) (codes : List ℕ) (v : Vetted) (old new : List ℕ) : Type 0 where

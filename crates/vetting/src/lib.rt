@@ -1,25 +1,18 @@
-// Vetting: a sheet's instructions worked on kinds alone.
-use ink_value::kind_code;
-use kind_table::KindAnswer;
-use kind_table::OPERATORS;
-use kind_table::PAIRS;
-use machine::STACK_LIMIT;
+// Vetting: the questions of any bytes, and a sheet's answer and forecast.
 use pack::Checked;
-use vet_steps::KindStep;
+use vet_program::KindEnd;
 ghost use mathlib.Core.Path.{_≡_};
 ghost use mathlib.Core.Bool.{true};
-ghost use Prim.Native.Nat.{_<_, _≤_, _*_};
+ghost use Prim.Native.Nat.{_<_, _≤_};
 ghost use lib.ListN.{length, take};
 ghost use Rattle.slices.specs.Filled.{over};
-ghost use Rattle.kind_table.specs.Kinds.{Table};
 ghost use Rattle.pack.specs.Contents.{sheetCount};
 ghost use Rattle.pack.specs.Format.{format1};
 ghost use Rattle.pack.specs.Judge.{question5, Placed};
 ghost use Rattle.pack.specs.Read.{program};
-ghost use Rattle.machine.specs.Machine.{step, vet};
 ghost use Rattle.vet_steps.specs.Step.{Codes};
 ghost use Rattle.vetting.specs.Vet.{allCodes};
-ghost use Rattle.vetting.specs.Slices.{ForecastsIn, VetsProgramIn, VetsAny};
+ghost use Rattle.vetting.specs.Slices.{VetsProgramIn, VetsAny};
 
 // Vetting's answer: passed, with the count of instructions; or the number of the first no, and its instruction's index.
 pub enum Vetted {
@@ -29,52 +22,6 @@ pub enum Vetted {
 
 // The bytes that a forecast may take: two for each instruction.
 const FORECAST_LIMIT: usize = 2048;
-
-// A sheet of a pack that has passed, its forecast written to an array.
-fn vet_into(
-    pack: &[u8],
-    sheet: usize,
-    kinds: [u8; 16],
-    table: &[[u8; PAIRS]; OPERATORS],
-    out: &mut [u8; 2048],
-) -> Vetted
-    requires { ⌜ (Placed (now pack) × (question5 (now pack) ≡ true)) × (sheet < sheetCount (now pack)) ⌝ }
-    requires { ⌜ (length (now out) ≡ 2048) × Codes kinds × Table (now table) ⌝ }
-    ensures { λ r. ⌜ ForecastsIn (program (now (pack .entry)) sheet) kinds r out ⌝ }
-{
-    let span = pack_read::sheet_span(pack, sheet);
-    let end = span.end;
-    let mut at = span.start;
-    let mut stack = [0u8; 64];
-    let mut n: usize = 0;
-    let mut i: usize = 0;
-    while at < end {
-        let instruction = pack::instruction::read_instruction(pack, at);
-        let width = pack::instruction::instruction_width(instruction);
-        let step = vet_steps::vet_step(instruction, kinds, table, &stack, n);
-        match step {
-            KindStep::Put { place, kind } => {
-                stack[place] = kind;
-                n = place + 1;
-                out[2 * i] = n as u8;
-                out[2 * i + 1] = kind;
-                at += width;
-                i += 1;
-            }
-            KindStep::No(number) => {
-                return Vetted::Refused { number, index: i };
-            }
-        }
-    }
-    if n == 1 {
-        Vetted::Passed { count: i }
-    } else {
-        Vetted::Refused {
-            number: 17,
-            index: i,
-        }
-    }
-}
 
 // The first n bytes of an array, written to the start of a slice.
 fn write_first(from: &[u8; 2048], to: &mut [u8], n: usize)
@@ -110,13 +57,13 @@ fn vet_sheet(pack: &[u8], sheet: usize, kinds: [u8; 16], forecast: &mut [u8]) ->
 {
     let mut bytes = [0u8; 2048];
     let table = kind_table::table();
-    let answer = vet_into(pack, sheet, kinds, &table, &mut bytes);
+    let answer = vet_program::vet_into(pack, sheet, kinds, &table, &mut bytes);
     match answer {
-        Vetted::Passed { count } => {
+        KindEnd::Passed { count } => {
             write_first(&bytes, forecast, 2 * count);
             Vetted::Passed { count }
         }
-        Vetted::Refused { number, index } => Vetted::Refused { number, index },
+        KindEnd::Refused { number, index } => Vetted::Refused { number, index },
     }
 }
 

@@ -1,4 +1,4 @@
--- `vetting::vet_into` meets its contract. The invariant (proofs/Going.antt): what is left of vetting from the stack as it stands is the end of
+-- `vet_program::vet_into` meets its contract. The invariant (proofs/Going.antt): what is left of vetting from the stack as it stands is the end of
 -- vetting the sheet, and the bytes written are the forecast of the instructions passed. The measure is what is left of the sheet's bytes.
 -- Assumes nothing.
 use mathlib.Core.Path.{_≡_, sym, ap, _∙_}
@@ -18,10 +18,10 @@ use Rattle.pack.proofs.Steps.{wide-some}
 use Rattle.machine.specs.Machine.{step, kindPushed}
 use Rattle.machine.specs.Stack.{stackOf}
 use Rattle.vet_steps.specs.Step.{kindOn}
-use Rattle.vetting.proofs.Going.{Going, begin, advance, refused, not-one, one, count-is, begins}
+use Rattle.vet_program.proofs.Going.{Going, begin, advance, refused, not-one, one, count-is, begins}
 use borrow.Author.Needs.{needs}
-use Rattle.vetting.proofs.vet_into.Statement.{statement}
-use Rattle.vetting.proofs.vet_into.Tie as tie
+use Rattle.vet_program.proofs.vet_into.Statement.{statement}
+use Rattle.vet_program.proofs.vet_into.Tie as tie
 
 abbrev Inv-loop : tie.InvT-loop
 Inv-loop pack sheet kinds table out₀ end at₀ stack₀ n₀ i₀ out at stack n i =
