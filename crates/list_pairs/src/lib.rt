@@ -15,8 +15,8 @@ pub fn test_entries(op: u8, ai: &[u16], av: &[i32], bi: &[u16], bv: &[i32]) -> b
         op::LESS => list_comparisons::less(av, bv),
         op::GREATER_THAN_OR_EQUALS => list_comparisons::greater_or_equals(av, bv),
         op::LESS_THAN_OR_EQUALS => list_comparisons::less_or_equals(av, bv),
-        op::HAS => list_merge::has(ai, bi),
-        op::HASNT => list_merge::hasnt(ai, bi),
+        op::HAS => list_has::has(ai, bi),
+        op::HASNT => list_has::hasnt(ai, bi),
         _ => false,
     }
 }
@@ -37,8 +37,8 @@ pub fn merge(
 {
     match op {
         op::ADD => list_merge::union(ai, av, bi, bv, oi, ov),
-        op::SUBTRACT => list_merge::without(ai, av, bi, oi, ov),
-        op::INTERSECT => list_merge::intersect(ai, av, bi, oi, ov),
+        op::SUBTRACT => list_sift::without(ai, av, bi, oi, ov),
+        op::INTERSECT => list_sift::intersect(ai, av, bi, oi, ov),
         _ => 0,
     }
 }

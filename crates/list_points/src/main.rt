@@ -23,12 +23,12 @@ use list_comparisons::less;
 use list_comparisons::less_or_equals;
 use list_extremes::list_max;
 use list_extremes::list_min;
-use list_merge::has;
-use list_merge::hasnt;
-use list_merge::intersect;
+use list_has::has;
+use list_has::hasnt;
 use list_merge::union;
-use list_merge::without;
 use list_range::range;
+use list_sift::intersect;
+use list_sift::without;
 
 fn show_union(ai: &[u16], av: &[i32], bi: &[u16], bv: &[i32])
     requires { ⌜ Lent 256 (now ai) (now av) ⌝ }

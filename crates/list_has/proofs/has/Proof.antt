@@ -1,4 +1,4 @@
--- `list_merge::has` meets its contract: b's items from cursor j on are to lie among a's from cursor i on. Assumes nothing.
+-- `list_has::has` meets its contract: b's items from cursor j on are to lie among a's from cursor i on. Assumes nothing.
 use mathlib.Core.Path.{_≡_, sym, _∙_}
 use Prim.Native.Nat.{_-_, _≤_}
 use lib.ListN.{length, drop}
@@ -7,8 +7,8 @@ use Rattle.ink_list.specs.Entries.{itemNumbers}
 use Rattle.ink_list.specs.Ops.{has, subset}
 use Rattle.ink_list.proofs.TestLaws.{has-no, has-yes, has-some, has-left-empty, has-right-empty, subset-end}
 use borrow.Author.Tests.{not-true, not-false}
-use Rattle.list_merge.proofs.has.Statement.{statement}
-use Rattle.list_merge.proofs.has.Tie as tie
+use Rattle.list_has.proofs.has.Statement.{statement}
+use Rattle.list_has.proofs.has.Tie as tie
 
 abbrev Inv-loop : tie.InvT-loop
 Inv-loop ai bi i₀ j₀ i j =

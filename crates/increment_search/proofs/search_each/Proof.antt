@@ -1,4 +1,4 @@
--- `list_increment::retarget::search_each` meets its contract: what is left to be stored is what is chosen of the definition's values from cursor k
+-- `increment_search::search_each` meets its contract: what is left to be stored is what is chosen of the definition's values from cursor k
 -- on, those before it being the first k. Assumes nothing.
 use mathlib.Core.Path.{_≡_, refl, sym, ap, ap₂, _∙_}
 use mathlib.Core.List.{[]}
@@ -16,8 +16,8 @@ use Rattle.list_definitions.specs.Search.{among, raised, chosen}
 use Rattle.list_definitions.proofs.Raised.{ints-more}
 use Rattle.ink_list.proofs.Output.{Writing, begin, turn, has-room, pushed, kept, stored}
 use Rattle.list_definitions.proofs.IncrementSearch.{stored-read, chosen-start, chosen-end, chosen-length, each-yes, each-seen, each-no}
-use Rattle.list_increment.proofs.retarget.search_each.Statement.{statement}
-use Rattle.list_increment.proofs.retarget.search_each.Tie as tie
+use Rattle.increment_search.proofs.search_each.Statement.{statement}
+use Rattle.increment_search.proofs.search_each.Tie as tie
 
 abbrev Inv-loop : tie.InvT-loop
 Inv-loop vs by ds first oi₀ ov₀ at k₀ n₀ oi ov k n =

@@ -1,10 +1,10 @@
--- `list_merge::intersect` meets its contract: the items that match are b's. Assumes nothing.
+-- `list_sift::intersect` meets its contract: the items that match are b's. Assumes nothing.
 use mathlib.Core.Bool.{true, Bool·beq}
 use borrow.Author.Needs.{needs}
 use Rattle.ink_list.specs.Entries.{entries, member}
 use Rattle.ink_list.proofs.SiftLaws.{sift-ext, beq-true}
-use Rattle.list_merge.proofs.intersect.Statement.{statement}
-use Rattle.list_merge.proofs.intersect.Tie as tie
+use Rattle.list_sift.proofs.intersect.Statement.{statement}
+use Rattle.list_sift.proofs.intersect.Tie as tie
 
 matching-requires : tie.Need-matching-requires
 matching-requires c κs = search needs

@@ -1,4 +1,4 @@
--- `list_increment::retarget::rises` meets its contract: the values before cursor i rise, the last of them being `last`, and are Ints.
+-- `increment_search::rises` meets its contract: the values before cursor i rise, the last of them being `last`, and are Ints.
 -- Assumes nothing.
 use mathlib.Core.Path.{_≡_, refl, sym, ap, _∙_, subst}
 use mathlib.Core.List.{List}
@@ -15,8 +15,8 @@ use Rattle.slices.proofs.Every.{not-both}
 use Rattle.list_definitions.proofs.Raised.{sum-of, ints-more}
 use Rattle.list_definitions.proofs.Order.{le-not-lt, not-le-lt}
 use Rattle.list_definitions.proofs.IncrementSearch.{rises-none, rises-first, rise-yes, rise-no, rise-end}
-use Rattle.list_increment.proofs.retarget.rises.Statement.{statement}
-use Rattle.list_increment.proofs.retarget.rises.Tie as tie
+use Rattle.increment_search.proofs.rises.Statement.{statement}
+use Rattle.increment_search.proofs.rises.Tie as tie
 
 abbrev Inv-loop : tie.InvT-loop
 Inv-loop vs by last₀ i₀ last i =

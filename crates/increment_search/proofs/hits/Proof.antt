@@ -1,4 +1,4 @@
--- `list_increment::retarget::hits` meets its contract: the value is among those before cursor i no more. Assumes nothing.
+-- `increment_search::hits` meets its contract: the value is among those before cursor i no more. Assumes nothing.
 use mathlib.Core.Path.{_≡_, refl, sym, _∙_}
 use Prim.Native.Nat.{_-_}
 use borrow.Author.Needs.{needs}
@@ -11,8 +11,8 @@ use Rattle.list_definitions.specs.Search.{among, raised}
 use Rattle.list_definitions.proofs.Raised.{sum-of}
 use Rattle.list_definitions.proofs.IncrementSearch.{hit-yes, hit-no, hit-end}
 use Rattle.list_definitions.proofs.Order.{bits-same-back, bits-differ-back}
-use Rattle.list_increment.proofs.retarget.hits.Statement.{statement}
-use Rattle.list_increment.proofs.retarget.hits.Tie as tie
+use Rattle.increment_search.proofs.hits.Statement.{statement}
+use Rattle.increment_search.proofs.hits.Tie as tie
 
 abbrev Inv-loop : tie.InvT-loop
 Inv-loop vs by v i₀ i = among (raised (toZ w32 by) vs) (toZ w32 v) ≡ among (raised (toZ w32 by) (drop i vs)) (toZ w32 v)

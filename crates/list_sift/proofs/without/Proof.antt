@@ -1,10 +1,10 @@
--- `list_merge::without` meets its contract: the items that match are not b's. Assumes nothing.
+-- `list_sift::without` meets its contract: the items that match are not b's. Assumes nothing.
 use mathlib.Core.Bool.{false, Bool·beq}
 use borrow.Author.Needs.{needs}
 use Rattle.ink_list.specs.Entries.{entries, member}
 use Rattle.ink_list.proofs.SiftLaws.{sift-ext, beq-false}
-use Rattle.list_merge.proofs.without.Statement.{statement}
-use Rattle.list_merge.proofs.without.Tie as tie
+use Rattle.list_sift.proofs.without.Statement.{statement}
+use Rattle.list_sift.proofs.without.Tie as tie
 
 matching-requires : tie.Need-matching-requires
 matching-requires c κs = search needs

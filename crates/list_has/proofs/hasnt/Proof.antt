@@ -1,9 +1,9 @@
--- `list_merge::hasnt` meets its contract. Assumes nothing.
+-- `list_has::hasnt` meets its contract. Assumes nothing.
 use mathlib.Core.Path.{ap}
 use mathlib.Core.Bool.{not}
 use borrow.Author.Needs.{needs}
-use Rattle.list_merge.proofs.hasnt.Statement.{statement}
-use Rattle.list_merge.proofs.hasnt.Tie as tie
+use Rattle.list_has.proofs.hasnt.Statement.{statement}
+use Rattle.list_has.proofs.hasnt.Tie as tie
 
 has-requires : tie.Need-has-requires
 has-requires c κs = search needs

@@ -1,4 +1,4 @@
--- `list_merge::matching` meets its contract: what is left of the answer are the entries from cursor i on whose items are among b's from cursor j on, or are not.
+-- `list_sift::matching` meets its contract: what is left of the answer are the entries from cursor i on whose items are among b's from cursor j on, or are not.
 -- Assumes nothing.
 use mathlib.Core.Path.{_≡_, refl, sym, ap, _∙_}
 use mathlib.Core.Bool.{Bool, Bool·beq}
@@ -11,8 +11,8 @@ use Rattle.ink_list.specs.Ops.{sift}
 use Rattle.ink_list.proofs.Rests.{rest, rest-done, of-lent}
 use Rattle.ink_list.proofs.Output.{Writing, begin, has-room, pushed, kept, turn, done}
 use Rattle.ink_list.proofs.SiftLaws.{sift-length, sift-limit, sift-nil, match-yes, match-no}
-use Rattle.list_merge.proofs.matching.Statement.{statement}
-use Rattle.list_merge.proofs.matching.Tie as tie
+use Rattle.list_sift.proofs.matching.Statement.{statement}
+use Rattle.list_sift.proofs.matching.Tie as tie
 
 abbrev Inv-loop : tie.InvT-loop
 Inv-loop want ai av bi oi₀ ov₀ i₀ j₀ n₀ oi ov i j n =

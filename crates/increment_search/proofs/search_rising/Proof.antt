@@ -1,4 +1,4 @@
--- `list_increment::retarget::search_rising` meets its contract: what is left to be stored are the definition's values from cursor k on that are
+-- `increment_search::search_rising` meets its contract: what is left to be stored are the definition's values from cursor k on that are
 -- among the entries' from cursor i on. Assumes nothing.
 use mathlib.Core.Path.{_≡_, refl, sym, ap, _∙_}
 use mathlib.Core.Bool.{true}
@@ -18,8 +18,8 @@ use Rattle.list_definitions.proofs.Raised.{sum-of}
 use Rattle.list_definitions.proofs.Order.{neither-less}
 use Rattle.ink_list.proofs.Output.{Writing, begin, turn, has-room, pushed, kept, stored}
 use Rattle.list_definitions.proofs.IncrementSearch.{stored-read, matched, rising-matched, chosen-length, on-d, on-v, merge-less, merge-more, merge-same, matched-end, matched-none}
-use Rattle.list_increment.proofs.retarget.search_rising.Statement.{statement}
-use Rattle.list_increment.proofs.retarget.search_rising.Tie as tie
+use Rattle.increment_search.proofs.search_rising.Statement.{statement}
+use Rattle.increment_search.proofs.search_rising.Tie as tie
 
 abbrev Inv-loop : tie.InvT-loop
 Inv-loop vs by ds first oi₀ ov₀ at k₀ i₀ n₀ oi ov k i n =
