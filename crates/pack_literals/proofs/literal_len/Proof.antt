@@ -1,4 +1,4 @@
--- `pack_read::literal_len` meets its contract: what follows the origin set, in entries. Assumes nothing.
+-- `pack_literals::literal_len` meets its contract: what follows the origin set, in entries. Assumes nothing.
 use Prim.Native.Nat.{ℕ, _+_, _-_, _/_}
 use mathlib.Core.Path.{_≡_, sym, ap, _∙_}
 use native.Mathlib.Omega.{arith}
@@ -8,8 +8,8 @@ use Rattle.pack.specs.Bodies.{Literal}
 use Rattle.pack.specs.Contents.{literalBody, size}
 use Rattle.pack.proofs.Listed.{literal-listed, literal-is, entries-long}
 use borrow.Author.Needs.{needs}
-use Rattle.pack_read.proofs.literal_len.Statement.{statement}
-use Rattle.pack_read.proofs.literal_len.Tie as tie
+use Rattle.pack_literals.proofs.literal_len.Statement.{statement}
+use Rattle.pack_literals.proofs.literal_len.Tie as tie
 
 byte-at-requires : tie.Need-byte-at-requires
 byte-at-requires c κs = search needs

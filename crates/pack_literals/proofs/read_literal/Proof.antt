@@ -1,4 +1,4 @@
--- `pack_read::read_literal` meets its contract: the entries stand after the origin set. Assumes nothing.
+-- `pack_literals::read_literal` meets its contract: the entries stand after the origin set. Assumes nothing.
 use Prim.Native.Nat.{ℕ, _+_, _*_}
 use mathlib.Core.List.{List}
 use mathlib.Core.Path.{_≡_, sym, ap, _∙_}
@@ -16,8 +16,8 @@ use Rattle.pack.proofs.Listed.{literal-listed, literal-is, entries-long}
 use Rattle.pack.specs.Read.{itemFrom, valueFrom}
 use Rattle.ink_list.proofs.Output.{items-table, values-table}
 use borrow.Author.Needs.{needs}
-use Rattle.pack_read.proofs.read_literal.Statement.{statement}
-use Rattle.pack_read.proofs.read_literal.Tie as tie
+use Rattle.pack_literals.proofs.read_literal.Statement.{statement}
+use Rattle.pack_literals.proofs.read_literal.Tie as tie
 
 literal-len-requires : tie.Need-literal-len-requires
 literal-len-requires c κs = search needs

@@ -1,4 +1,4 @@
--- `pack_read::copy_each` meets its contract. The loop's invariant: k entries are written. The measure is how many are left. Assumes
+-- `pack_literals::copy_each` meets its contract. The loop's invariant: k entries are written. The measure is how many are left. Assumes
 -- nothing.
 use Prim.Native.Nat.{ℕ, _+_, _-_, _≤_}
 use mathlib.Core.Path.{_≡_, refl, ap, _∙_}
@@ -11,8 +11,8 @@ use Rattle.slices.proofs.Filled.{fill-none, fill-long, fill-more}
 use Rattle.pack.specs.Read.{itemFrom, valueFrom}
 use Rattle.slices.proofs.Strides.{stride-fits}
 use borrow.Author.Needs.{needs}
-use Rattle.pack_read.proofs.copy_each.Statement.{statement}
-use Rattle.pack_read.proofs.copy_each.Tie as tie
+use Rattle.pack_literals.proofs.copy_each.Statement.{statement}
+use Rattle.pack_literals.proofs.copy_each.Tie as tie
 
 abbrev Inv-loop : tie.InvT-loop
 Inv-loop p at n items₀ values₀ from wide k₀ items values k =

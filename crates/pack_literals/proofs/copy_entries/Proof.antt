@@ -1,9 +1,9 @@
--- `pack_read::copy_entries` meets its contract: of one or two bytes, by which it is. Assumes nothing.
+-- `pack_literals::copy_entries` meets its contract: of one or two bytes, by which it is. Assumes nothing.
 use mathlib.Core.Path.{_≡_}
 use native.Mathlib.Omega.{arith}
 use borrow.Author.Needs.{needs}
-use Rattle.pack_read.proofs.copy_entries.Statement.{statement}
-use Rattle.pack_read.proofs.copy_entries.Tie as tie
+use Rattle.pack_literals.proofs.copy_entries.Statement.{statement}
+use Rattle.pack_literals.proofs.copy_entries.Tie as tie
 
 copy-each-requires : tie.Need-copy-each-requires
 copy-each-requires c κs =

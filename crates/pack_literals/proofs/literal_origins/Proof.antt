@@ -1,4 +1,4 @@
--- `pack_read::literal_origins` meets its contract: the first eight bytes of the literal. Assumes nothing.
+-- `pack_literals::literal_origins` meets its contract: the first eight bytes of the literal. Assumes nothing.
 use Prim.Native.Nat.{_+_}
 use mathlib.Core.Path.{_≡_, sym, ap, _∙_}
 use native.Mathlib.Omega.{arith}
@@ -9,8 +9,8 @@ use Rattle.pack.specs.Contents.{literalBody, offset}
 use Rattle.pack.proofs.Laid.{body}
 use Rattle.pack.proofs.Listed.{literal-listed, literal-is}
 use borrow.Author.Needs.{needs}
-use Rattle.pack_read.proofs.literal_origins.Statement.{statement}
-use Rattle.pack_read.proofs.literal_origins.Tie as tie
+use Rattle.pack_literals.proofs.literal_origins.Statement.{statement}
+use Rattle.pack_literals.proofs.literal_origins.Tie as tie
 
 byte-at-requires : tie.Need-byte-at-requires
 byte-at-requires c κs = search needs
