@@ -71,7 +71,7 @@ fn greatest(values: &[i32], start: usize, len: usize) -> i32
     ensures { λ r. ⌜ r ≡ valueOfList (part start len (now (values .entry))) ⌝ }
 {
     let end = start + len;
-    list_extremes::value_of_list(&values[start..end])
+    extreme_values::value_of_list(&values[start..end])
 }
 
 // The least of the values that stand from `start` on, or 0.
@@ -80,7 +80,7 @@ fn least(values: &[i32], start: usize, len: usize) -> i32
     ensures { λ r. ⌜ r ≡ lowerBound (part start len (now (values .entry))) ⌝ }
 {
     let end = start + len;
-    list_extremes::lower_bound(&values[start..end])
+    extreme_values::lower_bound(&values[start..end])
 }
 
 // The greatest of the values that stand from `start` on, or 2147483647.
@@ -89,7 +89,7 @@ fn highest(values: &[i32], start: usize, len: usize) -> i32
     ensures { λ r. ⌜ r ≡ upperBound (part start len (now (values .entry))) ⌝ }
 {
     let end = start + len;
-    list_extremes::upper_bound(&values[start..end])
+    extreme_values::upper_bound(&values[start..end])
 }
 
 // Where a list's entries start, how many there are, and its origin set; 0 for other values.

@@ -1,12 +1,11 @@
 // Increment and decrement: each value moved, and the item taken that its definition has at the new one.
-mod retarget;
 
 ghost use Prim.Native.Nat.{_≤_};
 ghost use lib.ListN.{length};
 ghost use Rattle.ink_list.specs.Entries.{Lent, itemNumbers, room};
 ghost use Rattle.list_definitions.specs.Defs.{Tables, increment, decrement};
 ghost use Rattle.ink_list.specs.Slices.{list, Answers};
-use crate::retarget::retarget;
+use increment_search::retarget;
 use ink_list::cursor::skip_below;
 
 // Increment: `by` is added to each value, wrapping, and the first item of the same definition that is defined

@@ -8,8 +8,7 @@ use borrow.Author.Tests.{le-leb}
 use lib.Dec.{eqb}
 use lib.IntN.{ℤ}
 use lib.ListN.{length, take}
-use Rattle.ink_list.specs.Entries.{itemNumbers, Entry, entries, items, values, Ascends, Rising, Lent, Wrote}
-use Rattle.ink_list.proofs.Rests.{items-entries, values-entries}
+use Rattle.ink_list.specs.Entries.{itemNumbers, Entry, items, Ascends, Rising, Wrote}
 use Rattle.ink_value.specs.Convert.{asInt, entriesOf, originsIn}
 use Rattle.ink_value.specs.declared.Value.{Value}
 use Rattle.ink_value.proofs.Reading.{wrote-is}
@@ -17,7 +16,8 @@ use Rattle.ink_value.proofs.Given.{gave-is}
 use Rattle.ink_value.specs.Val.{Val, list}
 use Rattle.ink_number.specs.Answer.{gives}
 use Rattle.list_definitions.specs.Defs.{ListDefinitions, invert, retarget, raise, lower, originsOf}
-use Rattle.list_operators.specs.Lists.{mergeL, shiftL, unaryL, listBinary, entriesFor, originsAfter, listed, listAnswer}
+use Rattle.list_pairs.specs.Pairs.{mergeL}
+use Rattle.list_operators.specs.Lists.{shiftL, unaryL, listBinary, entriesFor, originsAfter, listed, listAnswer}
 use Rattle.ink_value.specs.Value.{valOf, codeOfValue, Gave}
 use Rattle.ink_value.specs.declared.Outcome.{Outcome}
 use Rattle.ink_list.specs.Ops.{range, listExtreme, extreme, beats}
@@ -155,12 +155,3 @@ right-int u o a is vs (Is.Int z) h = refl
 right-int u o a is vs (Is.Float x) h = refl
 right-int u o a is vs (Is.List s i n) h = absurd (h refl)
 right-int u o a is vs Is.Void h = refl
-
--- a test on two lists' values, or on their items
-pub by-values : {X : Type 0} (f : List ℤ → List ℤ → X) (l : ℕ) (ai : List ℕ) (av : List ℤ) (bi : List ℕ) (bv : List ℤ)
-    → Lent l ai av → Lent l bi bv → f av bv ≡ f (values (entries ai av)) (values (entries bi bv))
-by-values f l ai av bi bv p q = sym (ap (λ (x : List ℤ). f x (values (entries bi bv))) (values-entries ai av (p .long)) ∙ ap (f av) (values-entries bi bv (q .long)))
-
-pub by-items : {X : Type 0} (f : List ℕ → List ℕ → X) (l : ℕ) (ai : List ℕ) (av : List ℤ) (bi : List ℕ) (bv : List ℤ)
-    → Lent l ai av → Lent l bi bv → f ai bi ≡ f (items (entries ai av)) (items (entries bi bv))
-by-items f l ai av bi bv p q = sym (ap (λ (x : List ℕ). f x (items (entries bi bv))) (items-entries ai av (p .long)) ∙ ap (f ai) (items-entries bi bv (q .long)))

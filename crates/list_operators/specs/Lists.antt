@@ -1,42 +1,24 @@
 -- The operators on Lists, by operator number, and the definitions that they go by. A number that is none of the operators listed gives no,
 -- or an empty List. Assumes nothing.
-use mathlib.Core.Bool.{Bool, false, cond}
+use mathlib.Core.Bool.{cond}
 use mathlib.Core.List.{List, [], _∷_}
 use Prim.Native.Nat.{ℕ, _≤_, _<_}
 use denote.Ref.{now}
 use lib.Dec.{eqb, leb}
 use lib.IntN.{ℤ}
 use lib.ListN.{length}
-use Rattle.operator_kinds.specs.Op.{opAdd, opSubtract, opGreater, opLess, opGreaterThanOrEquals, opLessThanOrEquals, opHas, opHasnt, opIntersect, opListMin, opListMax, opAll, opInvert}
+use Rattle.operator_kinds.specs.Op.{opAdd, opSubtract, opListMin, opListMax, opAll, opInvert}
 use Rattle.operator_kinds.specs.Kinds.{isList}
 use Rattle.ink_number.specs.Answer.{Answer, gives, refuses}
 use Rattle.slices.specs.Slices.{Slice}
-use Rattle.ink_list.specs.Entries.{Entry, items, values, itemNumbers}
-use Rattle.ink_list.specs.Ops.{union, without, intersect, range, has, hasnt, listMin, listMax, greater, greaterOrEquals, less, lessOrEquals}
+use Rattle.ink_list.specs.Entries.{Entry, items, itemNumbers}
+use Rattle.ink_list.specs.Ops.{range, listMin, listMax}
 use Rattle.list_definitions.specs.Defs.{ListDefinitions, Tables, originsOf, all, invert, increment, decrement}
+use Rattle.list_pairs.specs.Pairs.{mergeL}
 use Rattle.ink_value.specs.Val.{Val, list, kindOf}
 use Rattle.ink_value.specs.Convert.{asInt, entriesOf, originsIn, lowerOf, upperOf}
 
--- the tests on two Lists
-unfoldable pub testL : ℕ → List Entry → List Entry → Bool
-testL o a b =
-    cond (eqb o opGreater) (greater (values a) (values b))
-    (cond (eqb o opLess) (less (values a) (values b))
-    (cond (eqb o opGreaterThanOrEquals) (greaterOrEquals (values a) (values b))
-    (cond (eqb o opLessThanOrEquals) (lessOrEquals (values a) (values b))
-    (cond (eqb o opHas) (has (items a) (items b))
-    (cond (eqb o opHasnt) (hasnt (items a) (items b))
-    false)))))
-
 -- ---- results that are Lists
-
--- two Lists
-unfoldable pub mergeL : ℕ → ℕ → List Entry → List Entry → List Entry
-mergeL limit o a b =
-    cond (eqb o opAdd) (union limit a b)
-    (cond (eqb o opSubtract) (without limit a (items b))
-    (cond (eqb o opIntersect) (intersect limit a (items b))
-    []))
 
 -- a List and an Int, set being the List's origins
 unfoldable pub shiftL : List ℕ → List ℤ → ℕ → ℕ → ℤ → List Entry → List Entry

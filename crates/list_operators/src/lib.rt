@@ -5,9 +5,9 @@ use ink_value::kind_code;
 use operator_kinds::op;
 ghost use mathlib.Core.Path.{_≡_};
 ghost use mathlib.Core.List.{[], _∷_};
-ghost use Prim.Native.Nat.{ℕ, _≤_};
+ghost use Prim.Native.Nat.{_≤_};
 ghost use lib.ListN.{length, take};
-ghost use Rattle.ink_list.specs.Entries.{itemNumbers, room, Ascends, Rising, Lent};
+ghost use Rattle.ink_list.specs.Entries.{itemNumbers, room, Ascends, Lent};
 ghost use Rattle.ink_list.specs.Slices.{list, Answers};
 ghost use Rattle.list_definitions.specs.Defs.{Tables, originsOf};
 ghost use Rattle.ink_value.specs.Val.{listK, codeOf};
@@ -15,44 +15,8 @@ ghost use Rattle.ink_value.specs.Value.{codeOfValue, Spans, Formed, FirstFormed
 ghost use Rattle.ink_value.specs.Slices.{valIn, firstIn, entriesIn, Gives};
 ghost use Rattle.ink_value.specs.declared.Value.the-variants as Is;
 ghost use Rattle.ink_value.specs.declared.Outcome.the-variants as Out;
-ghost use Rattle.list_operators.specs.Lists.{testL, mergeL, unaryL, shiftL, listAnswer, Room, definitions, definitionsIn};
-
-fn test_entries(op: u8, ai: &[u16], av: &[i32], bi: &[u16], bv: &[i32]) -> bool
-    requires { ⌜ Lent itemNumbers (now ai) (now av) × Lent itemNumbers (now bi) (now bv) ⌝ }
-    ensures { λ r. ⌜ r ≡ testL op (list ai av) (list bi bv) ⌝ }
-{
-    match op {
-        op::GREATER => list_extremes::greater(av, bv),
-        op::LESS => list_extremes::less(av, bv),
-        op::GREATER_THAN_OR_EQUALS => list_extremes::greater_or_equals(av, bv),
-        op::LESS_THAN_OR_EQUALS => list_extremes::less_or_equals(av, bv),
-        op::HAS => list_merge::has(ai, bi),
-        op::HASNT => list_merge::hasnt(ai, bi),
-        _ => false,
-    }
-}
-
-fn merge(
-    op: u8,
-    ai: &[u16],
-    av: &[i32],
-    bi: &[u16],
-    bv: &[i32],
-    oi: &mut [u16],
-    ov: &mut [i32],
-) -> usize
-    requires { ⌜ Lent (room (now oi) (now ov)) (now ai) (now av) ⌝ }
-    requires { ⌜ Lent (room (now oi) (now ov)) (now bi) (now bv) ⌝ }
-    ensures { λ r. ⌜ ((limit : ℕ) → Rising limit (list ai av) → Rising limit (list bi bv)
-        → Answers (mergeL limit op (list ai av) (list bi bv)) r oi ov) ⌝ }
-{
-    match op {
-        op::ADD => list_merge::union(ai, av, bi, bv, oi, ov),
-        op::SUBTRACT => list_merge::without(ai, av, bi, oi, ov),
-        op::INTERSECT => list_merge::intersect(ai, av, bi, oi, ov),
-        _ => 0,
-    }
-}
+ghost use Rattle.list_pairs.specs.Pairs.{testL};
+ghost use Rattle.list_operators.specs.Lists.{unaryL, shiftL, listAnswer, Room, definitions, definitionsIn};
 
 fn unary(
     op: u8,
@@ -114,7 +78,7 @@ pub fn test_held(
 {
     let e = i + m;
     let f = j + n;
-    test_entries(op, &items[i..e], &values[i..e], &items[j..f], &values[j..f])
+    list_pairs::test_entries(op, &items[i..e], &values[i..e], &items[j..f], &values[j..f])
 }
 
 // The list of the first n entries of the output, with its items' origins.
@@ -178,7 +142,7 @@ fn list_list(
     let k = ink_value::len_of(b);
     let e = i + m;
     let f = j + k;
-    let n = merge(
+    let n = list_pairs::merge(
         op,
         &items[i..e],
         &values[i..e],
@@ -268,12 +232,7 @@ fn list3(
     requires { ⌜ Formed limit (now items) (now values) c ⌝ }
     ensures { λ r. ⌜ Gives (listAnswer (definitionsIn ends defined limit) op (firstIn items values 3 a b c)) r oi ov ⌝ }
 {
-    let i = ink_value::start_of(a);
-    let m = ink_value::len_of(a);
-    let lower = ink_value::lower_bound(b, values);
-    let upper = ink_value::upper_bound(c, values);
-    let e = i + m;
-    let n = list_extremes::range(&items[i..e], &values[i..e], lower, upper, oi, ov);
+    let n = value_range::range(a, b, c, items, values, oi, ov);
     located(n, oi, ends)
 }
 

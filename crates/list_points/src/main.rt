@@ -2,6 +2,9 @@
 // with its answer.
 
 ghost use Rattle.ink_list.specs.Entries.{Lent};
+use extreme_values::lower_bound;
+use extreme_values::upper_bound;
+use extreme_values::value_of_list;
 use ink_list::entries::copy;
 use ink_list::entries::is_formed;
 use list_cases::ITEM_LIMIT;
@@ -14,21 +17,18 @@ use list_cases::operand;
 use list_cases::ramp;
 use list_cases::result;
 use list_cases::test;
-use list_extremes::greater;
-use list_extremes::greater_or_equals;
-use list_extremes::less;
-use list_extremes::less_or_equals;
+use list_comparisons::greater;
+use list_comparisons::greater_or_equals;
+use list_comparisons::less;
+use list_comparisons::less_or_equals;
 use list_extremes::list_max;
 use list_extremes::list_min;
-use list_extremes::lower_bound;
-use list_extremes::range;
-use list_extremes::upper_bound;
-use list_extremes::value_of_list;
-use list_merge::has;
-use list_merge::hasnt;
-use list_merge::intersect;
+use list_has::has;
+use list_has::hasnt;
 use list_merge::union;
-use list_merge::without;
+use list_range::range;
+use list_sift::intersect;
+use list_sift::without;
 
 fn show_union(ai: &[u16], av: &[i32], bi: &[u16], bv: &[i32])
     requires { ⌜ Lent 256 (now ai) (now av) ⌝ }

@@ -5,7 +5,7 @@ use lib.Ieee.{ofInt, toBits}
 use Rattle.ink_number.specs.Int.{quotient, remainder, residue, signed, wrap}
 use Rattle.operator_kinds.specs.Kinds.{unary, arity, kindUnary, kindBinary, kindApply}
 use Rattle.number_operators.specs.Numbers.{arithZ, wholeUnary, realUnary}
-use Rattle.list_operators.specs.Lists.{testL}
+use Rattle.list_pairs.specs.Pairs.{testL}
 use Rattle.native_function_call.specs.Apply.{testLists, compute, applyOp}
 use Rattle.native_function_call.specs.Known.{points, allHold}
 

@@ -12,7 +12,8 @@ use Rattle.ink_number.specs.Answer.{Answer, gives, refuses}
 use Rattle.operator_kinds.specs.Kinds.{kindApply, isList}
 use Rattle.ink_value.specs.Convert.{asInt, entriesOf, originsIn, lowerOf, upperOf}
 use Rattle.list_definitions.specs.Defs.{ListDefinitions}
-use Rattle.list_operators.specs.Lists.{mergeL, shiftL, listBinary, entriesFor, originsAfter, listed, listAnswer}
+use Rattle.list_pairs.specs.Pairs.{mergeL}
+use Rattle.list_operators.specs.Lists.{shiftL, listBinary, entriesFor, originsAfter, listed, listAnswer}
 use Rattle.native_function_call.specs.Apply.{compute, guarded, applyOp}
 use Rattle.ink_value.specs.Value.{written, AllWf}
 use Rattle.list_operators.proofs.Listing.{Fine, none-fine, merge-fine, shift-fine, range-fine, unary-fine}

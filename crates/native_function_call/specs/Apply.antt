@@ -15,7 +15,8 @@ use Rattle.ink_value.specs.Val.{Val, bool, int, float, void, Kind, boolK, intK,
 use Rattle.ink_value.specs.Convert.{asInt, asFloat, truthy, entriesOf}
 use Rattle.list_definitions.specs.Defs.{ListDefinitions}
 use Rattle.number_operators.specs.Numbers.{arithZ, arithF, testNumbers, wholeUnary, realUnary}
-use Rattle.list_operators.specs.Lists.{testL, listAnswer}
+use Rattle.list_pairs.specs.Pairs.{testL}
+use Rattle.list_operators.specs.Lists.{listAnswer}
 
 -- ---- results that are Bools
 

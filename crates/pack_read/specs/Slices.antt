@@ -1,29 +1,14 @@
 -- The words of the contracts for slices that a pack's parts are read into, each as it was at entry and as it is at exit. Assumes nothing.
 -- For inner steps alone: no entry point's contract cites it.
-use mathlib.Core.Path.{_≡_}
-use mathlib.Core.List.{List}
 use Prim.Native.Nat.{ℕ}
 use denote.Ref.{now}
 use lib.IntN.{ℤ}
-use Rattle.ink_list.specs.Entries.{Entry}
-use Rattle.slices.specs.Every.{table}
-use Rattle.slices.specs.Filled.{fill}
 use Rattle.slices.specs.Slices.{Slice}
 use Rattle.pack.specs.Bodies.{Pack}
-use Rattle.pack.specs.Read.{itemFrom, valueFrom, Tabled, EntriesRead}
+use Rattle.pack.specs.Read.{Tabled}
 use Rattle.pack_read.specs.declared.Defined.{Defined}
-
--- the items and the values of n entries, which stand from `at` on in a pack, are written from a place on of two slices
-abbrev pub Copies : ℕ → ℕ → Slice ℕ → ℕ → ℕ → Slice ℕ → Slice ℤ → Type 0
-Copies wide n p at from is vs =
-    (now (is .exit) ≡ fill from (table n (itemFrom wide (now (p .entry)) at)) (now (is .entry)))
-    × (now (vs .exit) ≡ fill from (table n (valueFrom wide (now (p .entry)) at)) (now (vs .entry)))
 
 -- a pack's two tables are written from the start of two slices, and how many places each takes is returned
 abbrev pub TabledIn : Pack → Defined → Slice ℕ → Slice ℤ → Type 0
 TabledIn d r ends defined =
     Tabled d (r .definitions) (r .items) (now (ends .entry)) (now (ends .exit)) (now (defined .entry)) (now (defined .exit))
-
--- entries are written from a place on of two slices, and how many there are is returned
-abbrev pub EntriesReadIn : List Entry → ℕ → ℕ → Slice ℕ → Slice ℤ → Type 0
-EntriesReadIn es from count is vs = EntriesRead es from count (now (is .entry)) (now (is .exit)) (now (vs .entry)) (now (vs .exit))

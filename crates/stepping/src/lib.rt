@@ -80,8 +80,8 @@ fn push_literal(
         return Step::No(9);
     }
     let to = n * format.limit;
-    let origins = pack_read::literal_origins(pack, l, format);
-    let len = pack_read::read_literal(pack, l, work_items, work_values, to, format);
+    let origins = pack_literals::literal_origins(pack, l, format);
+    let len = pack_literals::read_literal(pack, l, work_items, work_values, to, format);
     let value = Value::List {
         origins,
         start: to,

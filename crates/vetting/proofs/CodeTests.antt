@@ -11,7 +11,8 @@ use lib.Seq.{drop-cons}
 use borrow.Author.Tests.{le-leb, lt-leb, leb-true}
 use Rattle.slices.specs.Every.{_and_}
 use Rattle.slices.proofs.Every.{and-left, and-right}
-use Rattle.vetting.specs.Vet.{allCodes, Codes}
+use Rattle.vet_steps.specs.Step.{Codes}
+use Rattle.vetting.specs.Vet.{allCodes}
 
 module _ (cs : List ℕ) (i : ℕ) (h : i < length cs) where
   pub code-right : getD cs i 0 ≤ 4 → allCodes (drop (i + 1) cs) ≡ allCodes (drop i cs)

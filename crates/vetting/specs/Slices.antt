@@ -1,36 +1,13 @@
 -- The words of the contracts for vetting's lent slices. In an `ensures` a slice is what it was at entry and what it is at exit.
 -- Assumes nothing.
-use mathlib.Core.Path.{_≡_}
-use mathlib.Core.List.{List, map}
+use mathlib.Core.List.{List}
 use Prim.Native.Nat.{ℕ}
 use denote.Ref.{now}
-use lib.ListN.{length}
-use Rattle.ink_number.specs.Answer.{Answer}
 use Rattle.slices.specs.Slices.{Slice}
-use Rattle.ink_value.specs.Val.{Kind, kindAt}
 use Rattle.pack.specs.Instruction.{Instr}
 use Rattle.pack.specs.declared.format.Format.{Format}
-use Rattle.machine.specs.Foretold.{verdict}
-use Rattle.machine.specs.Machine.{vet}
-use Rattle.machine.specs.Stack.{stackOf}
-use Rattle.vetting.specs.Vet.{kindOn, stepped, verdictOf, Forecasts, VetsProgram, Vets}
-use Rattle.vetting.specs.declared.KindStep.{KindStep}
+use Rattle.vetting.specs.Vet.{VetsProgram, Vets}
 use Rattle.vetting.specs.declared.Vetted.{Vetted}
-
--- the kinds on a stack of n, whose codes stand in an array, from below
-abbrev pub kindsIn : Slice ℕ → ℕ → List Kind
-kindsIn stack n = stackOf (kindOn (now (stack .entry))) n
-
--- the stack after a step, the kinds below being those of the array
-abbrev pub steppedIn : KindStep → Slice ℕ → Answer (List Kind)
-steppedIn r stack = stepped r (kindOn (now (stack .entry)))
-
--- the answer of a program, and where it passed the array begins with the forecast
-abbrev pub ForecastsIn : List Instr → List ℕ → Vetted → Slice ℕ → Type 0
-ForecastsIn program codes v out =
-    (verdictOf v ≡ verdict (vet program (map kindAt codes) .end))
-    × Forecasts v (now (out .exit)) (vet program (map kindAt codes) .stacks)
-    × (length (now (out .exit)) ≡ 2048)
 
 -- the answer of a program that question 7 let through, and what it leaves in the forecast slice
 abbrev pub VetsProgramIn : List Instr → List ℕ → Vetted → Slice ℕ → Type 0

@@ -2,10 +2,9 @@
 use mathlib.Core.Path.{_≡_}
 use mathlib.Core.Bool.{Bool, true}
 use mathlib.Core.List.{List, [], _∷_, map}
-use Prim.Native.Nat.{ℕ, _<_, _≤_, _*_}
+use Prim.Native.Nat.{ℕ, _*_}
 use lib.Dec.{leb}
-use lib.ListN.{length, getD}
-use Rattle.ink_number.specs.Answer.{Answer, gives, refuses}
+use lib.ListN.{length}
 use Rattle.slices.specs.Every.{_and_}
 use Rattle.slices.specs.Filled.{over}
 use Rattle.ink_value.specs.Val.{Val, Kind, kindOf, kindAt}
@@ -13,14 +12,11 @@ use Rattle.pack.specs.Bodies.{Pack}
 use Rattle.pack.specs.Instruction.{Instr}
 use Rattle.pack.specs.Format.{instructionLimit}
 use Rattle.pack.specs.declared.format.Format.{Format}
-use Rattle.machine.specs.Machine.{stackLimit, vet}
-use Rattle.machine.specs.Stack.{stackOf}
+use Rattle.machine.specs.Machine.{vet}
 use Rattle.machine.specs.Whole.{opened, Suffices, countOf, sheetRun, sheetVet}
-use Rattle.machine.specs.Foretold.{Verdict, passed, turned, verdict, Begins, forecast, Foretold}
+use Rattle.machine.specs.Foretold.{Verdict, passed, turned, verdict, forecast, Foretold}
 use Rattle.vetting.specs.declared.Vetted.{Vetted}
 use Rattle.vetting.specs.declared.Vetted.the-variants as Vet
-use Rattle.vetting.specs.declared.KindStep.{KindStep}
-use Rattle.vetting.specs.declared.KindStep.the-variants as Is
 
 -- ---- question 7
 
@@ -66,29 +62,6 @@ pub record Vets (F : Format) (p : List ℕ) (s : ℕ) (codes : List ℕ) (v : Ve
       → Foretold (countOf (opened F p s (vetMemory codes old)) s) (verdictOf v) new (sheetRun F p s runs slots)
 
 -- ---- the parts
-
--- each byte is a kind code
-abbrev pub Codes : List ℕ → Type 0
-Codes xs = (p : ℕ) → getD xs p 0 < 5
-
--- the kind at place p
-abbrev pub kindOn : List ℕ → ℕ → Kind
-kindOn xs p = kindAt (getD xs p 0)
-
--- the stack after a step, f giving the kinds below
-abbrev pub stepped : KindStep → (ℕ → Kind) → Answer (List Kind)
-stepped (Is.Put p k) f = gives (kindAt k ∷ stackOf f p)
-stepped (Is.No r) f = refuses r
-
--- a step on a stack of n puts a kind code at a place of the array, no higher than n
-abbrev pub Within : KindStep → ℕ → Type 0
-Within (Is.Put p k) n = (p < stackLimit) × (p ≤ n) × (k < 5)
-Within (Is.No r) n = Unit {0}
-
--- where it passed, the array begins with the forecast of the stacks
-abbrev pub Forecasts : Vetted → List ℕ → List (List Kind) → Type 0
-Forecasts (Vet.Passed n) f sts = (length sts ≡ n) × (n ≤ instructionLimit) × Begins f sts
-Forecasts (Vet.Refused r k) f sts = Unit {0}
 
 -- the answer of a program that question 7 let through, and what it leaves in the forecast slice
 pub record VetsProgram (program : List Instr) (codes : List ℕ) (v : Vetted) (old new : List ℕ) : Type 0 where

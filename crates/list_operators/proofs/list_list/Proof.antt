@@ -5,7 +5,8 @@ use mathlib.Core.List.{[], _∷_}
 use Prim.Native.Nat.{_≤_}
 use native.Mathlib.Omega.{arith}
 use Rattle.ink_list.specs.Entries.{room}
-use Rattle.list_operators.specs.Lists.{mergeL, definitions}
+use Rattle.list_pairs.specs.Pairs.{mergeL}
+use Rattle.list_operators.specs.Lists.{definitions}
 use Rattle.ink_value.specs.Value.{valOf}
 use Rattle.slices.proofs.Lists.{ap2}
 use Rattle.ink_value.proofs.Reading.{entries-in, formed-limit, lends-lent, lends-held}

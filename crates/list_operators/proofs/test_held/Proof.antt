@@ -3,7 +3,7 @@ use mathlib.Core.Path.{_∙_}
 use Rattle.ink_list.specs.Entries.{itemNumbers}
 use Rattle.slices.proofs.Lists.{ap2}
 use Rattle.ink_value.proofs.Parts.{cut-lent, cut-entries}
-use Rattle.list_operators.specs.Lists.{testL}
+use Rattle.list_pairs.specs.Pairs.{testL}
 use borrow.Author.Needs.{needs}
 use Rattle.list_operators.proofs.test_held.Statement.{statement}
 use Rattle.list_operators.proofs.test_held.Tie as tie

@@ -8,7 +8,7 @@ use lib.IntN.{ℤ}
 use Rattle.ink_number.proofs.Signed.{read}
 use Rattle.ink_value.specs.Convert.{truthy}
 use Rattle.ink_value.proofs.Arms.{at}
-use Rattle.list_operators.specs.Lists.{testL}
+use Rattle.list_pairs.specs.Pairs.{testL}
 use Rattle.native_function_call.specs.Apply.{testLists}
 use Rattle.native_function_call.proofs.InParts.{parts-entries, spans-cut}
 use borrow.Author.Needs.{needs}

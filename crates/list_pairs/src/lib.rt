@@ -1,0 +1,44 @@
+// The operators on the entries of two lists: tests, and Add, Subtract and Intersect.
+use operator_kinds::op;
+ghost use mathlib.Core.Path.{_≡_};
+ghost use Prim.Native.Nat.{ℕ};
+ghost use Rattle.ink_list.specs.Entries.{itemNumbers, room, Rising, Lent};
+ghost use Rattle.ink_list.specs.Slices.{list, Answers};
+ghost use Rattle.list_pairs.specs.Pairs.{testL, mergeL};
+
+pub fn test_entries(op: u8, ai: &[u16], av: &[i32], bi: &[u16], bv: &[i32]) -> bool
+    requires { ⌜ Lent itemNumbers (now ai) (now av) × Lent itemNumbers (now bi) (now bv) ⌝ }
+    ensures { λ r. ⌜ r ≡ testL op (list ai av) (list bi bv) ⌝ }
+{
+    match op {
+        op::GREATER => list_comparisons::greater(av, bv),
+        op::LESS => list_comparisons::less(av, bv),
+        op::GREATER_THAN_OR_EQUALS => list_comparisons::greater_or_equals(av, bv),
+        op::LESS_THAN_OR_EQUALS => list_comparisons::less_or_equals(av, bv),
+        op::HAS => list_has::has(ai, bi),
+        op::HASNT => list_has::hasnt(ai, bi),
+        _ => false,
+    }
+}
+
+pub fn merge(
+    op: u8,
+    ai: &[u16],
+    av: &[i32],
+    bi: &[u16],
+    bv: &[i32],
+    oi: &mut [u16],
+    ov: &mut [i32],
+) -> usize
+    requires { ⌜ Lent (room (now oi) (now ov)) (now ai) (now av) ⌝ }
+    requires { ⌜ Lent (room (now oi) (now ov)) (now bi) (now bv) ⌝ }
+    ensures { λ r. ⌜ ((limit : ℕ) → Rising limit (list ai av) → Rising limit (list bi bv)
+        → Answers (mergeL limit op (list ai av) (list bi bv)) r oi ov) ⌝ }
+{
+    match op {
+        op::ADD => list_merge::union(ai, av, bi, bv, oi, ov),
+        op::SUBTRACT => list_sift::without(ai, av, bi, oi, ov),
+        op::INTERSECT => list_sift::intersect(ai, av, bi, oi, ov),
+        _ => 0,
+    }
+}

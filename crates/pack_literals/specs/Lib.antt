@@ -1,0 +1,2 @@
+-- The words of the readers' contracts.
+pub mod Slices

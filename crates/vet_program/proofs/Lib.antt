@@ -1,0 +1,2 @@
+-- The laws of a sheet under way on kinds.
+mod Going
