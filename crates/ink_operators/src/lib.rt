@@ -10,7 +10,7 @@ use pack_check::format::FORMAT1;
 use value_words::words;
 ghost use mathlib.Core.Path.{_≡_};
 ghost use denote.Ref.{now};
-ghost use Rattle.ink_value.specs.Convert.{coerceBool, coerceInt, coerceFloat};
+ghost use Rattle.value_conversions.specs.Convert.{coerceBool, coerceInt, coerceFloat};
 ghost use Rattle.list_operators.specs.Lists.{definitions};
 ghost use Rattle.pack.specs.Format.{format1};
 ghost use Rattle.pack.specs.Judge.{judge};

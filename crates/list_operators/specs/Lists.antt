@@ -15,7 +15,8 @@ use Rattle.ink_list.specs.Entries.{Entry, items, values, itemNumbers}
 use Rattle.ink_list.specs.Ops.{union, without, intersect, range, has, hasnt, listMin, listMax, greater, greaterOrEquals, less, lessOrEquals}
 use Rattle.list_definitions.specs.Defs.{ListDefinitions, Tables, originsOf, all, invert, increment, decrement}
 use Rattle.ink_value.specs.Val.{Val, list, kindOf}
-use Rattle.ink_value.specs.Convert.{asInt, entriesOf, originsIn, lowerOf, upperOf}
+use Rattle.ink_value.specs.Convert.{asInt, entriesOf, originsIn}
+use Rattle.value_conversions.specs.Convert.{lowerOf, upperOf}
 
 -- the tests on two Lists
 unfoldable pub testL : ℕ → List Entry → List Entry → Bool

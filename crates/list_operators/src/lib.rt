@@ -270,8 +270,8 @@ fn list3(
 {
     let i = ink_value::start_of(a);
     let m = ink_value::len_of(a);
-    let lower = ink_value::lower_bound(b, values);
-    let upper = ink_value::upper_bound(c, values);
+    let lower = value_conversions::lower_bound(b, values);
+    let upper = value_conversions::upper_bound(c, values);
     let e = i + m;
     let n = list_extremes::range(&items[i..e], &values[i..e], lower, upper, oi, ov);
     located(n, oi, ends)

@@ -1,18 +1,18 @@
--- `ink_value::coerce_to_bool` meets its contract. Assumes nothing.
+-- `value_conversions::coerce_to_bool` meets its contract. Assumes nothing.
 use borrow.Author.Needs.{needs}
 use mathlib.Core.Path.{sym, ap, _∙_}
 use mathlib.Core.Bool.{Bool}
 use lib.IntN.{ℤ, pos}
-use Rattle.ink_value.specs.Convert.{coerceBool}
+use Rattle.value_conversions.specs.Convert.{coerceBool}
 use Rattle.ink_value.specs.Value.{valOf, placed}
 use Rattle.ink_value.specs.declared.Value.{Value}
-use Rattle.ink_value.proofs.Casting.{bit-one}
+use Rattle.value_conversions.proofs.Casting.{bit-one}
 use Rattle.ink_number.specs.Int.{eqZ}
 use Rattle.ink_number.proofs.Signed.{read}
 use Rattle.ink_value.specs.declared.Value.the-variants as Is
 use Rattle.ink_value.specs.declared.Outcome.the-variants as Out
-use Rattle.ink_value.proofs.coerce_to_bool.Statement.{statement}
-use Rattle.ink_value.proofs.coerce_to_bool.Tie as tie
+use Rattle.value_conversions.proofs.coerce_to_bool.Statement.{statement}
+use Rattle.value_conversions.proofs.coerce_to_bool.Tie as tie
 
 enum-known-v : tie.Need-enum-known-v
 enum-known-v c = search needs

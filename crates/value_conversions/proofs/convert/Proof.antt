@@ -1,4 +1,4 @@
--- `ink_value::convert` meets its contract: by the kind and the target's code. Assumes nothing.
+-- `value_conversions::convert` meets its contract: by the kind and the target's code. Assumes nothing.
 use borrow.Author.Needs.{needs}
 use mathlib.Core.Path.{refl, ap, _∙_}
 use mathlib.Core.Bool.{Bool}
@@ -6,16 +6,16 @@ use Prim.Native.Nat.{ℕ}
 use lib.IntN.{ℤ}
 use lib.Ieee.{Float}
 use Rattle.ink_number.specs.Answer.{gives}
-use Rattle.ink_value.specs.Convert.{converted}
+use Rattle.value_conversions.specs.Convert.{converted}
 use Rattle.ink_value.specs.Value.{valOf, codeOfValue}
 use Rattle.ink_value.specs.declared.Value.{Value}
-use Rattle.ink_value.proofs.Casting.{cast-list, same-kind}
+use Rattle.value_conversions.proofs.Casting.{cast-list, same-kind}
 use Rattle.ink_value.proofs.Given.{gave-is, gave-plain}
 use Rattle.ink_number.proofs.Signed.{returned}
 use Rattle.ink_value.specs.declared.Value.the-variants as Is
 use Rattle.ink_value.specs.declared.Outcome.the-variants as Out
-use Rattle.ink_value.proofs.convert.Statement.{statement}
-use Rattle.ink_value.proofs.convert.Tie as tie
+use Rattle.value_conversions.proofs.convert.Statement.{statement}
+use Rattle.value_conversions.proofs.convert.Tie as tie
 
 is-truthy-requires : tie.Need-is-truthy-requires
 is-truthy-requires c κs = search needs

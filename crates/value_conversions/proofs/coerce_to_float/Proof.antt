@@ -1,16 +1,16 @@
--- `ink_value::coerce_to_float` meets its contract. Assumes nothing.
+-- `value_conversions::coerce_to_float` meets its contract. Assumes nothing.
 use borrow.Author.Needs.{needs}
 use mathlib.Core.Path.{sym, ap, _∙_}
 use lib.Ieee.{Float}
-use Rattle.ink_value.specs.Convert.{coerceFloat}
+use Rattle.value_conversions.specs.Convert.{coerceFloat}
 use Rattle.ink_value.specs.Value.{valOf, placed}
 use Rattle.ink_value.specs.declared.Value.{Value}
 use Rattle.ink_float.specs.Real.{ofInt32}
 use Rattle.ink_number.proofs.Signed.{read, returned}
 use Rattle.ink_value.specs.declared.Value.the-variants as Is
 use Rattle.ink_value.specs.declared.Outcome.the-variants as Out
-use Rattle.ink_value.proofs.coerce_to_float.Statement.{statement}
-use Rattle.ink_value.proofs.coerce_to_float.Tie as tie
+use Rattle.value_conversions.proofs.coerce_to_float.Statement.{statement}
+use Rattle.value_conversions.proofs.coerce_to_float.Tie as tie
 
 enum-known-v : tie.Need-enum-known-v
 enum-known-v c = search needs

@@ -1,14 +1,14 @@
--- `ink_value::cast` meets its contract: by the target's code. Assumes nothing.
+-- `value_conversions::cast` meets its contract: by the target's code. Assumes nothing.
 use borrow.Author.Needs.{needs}
 use mathlib.Core.Path.{refl, sym, ap, _∙_}
 use mathlib.Core.Bool.{Bool, cond}
 use Rattle.ink_number.specs.Answer.{gives, refuses}
-use Rattle.ink_value.specs.Convert.{castable, converted, cast}
+use Rattle.value_conversions.specs.Convert.{castable, converted, cast}
 use Rattle.ink_value.specs.Value.{valOf}
 use Rattle.ink_value.proofs.Reading.{code-of}
 use Rattle.ink_value.proofs.Given.{gave-is, gave-plain}
-use Rattle.ink_value.proofs.cast.Statement.{statement}
-use Rattle.ink_value.proofs.cast.Tie as tie
+use Rattle.value_conversions.proofs.cast.Statement.{statement}
+use Rattle.value_conversions.proofs.cast.Tie as tie
 
 kind-requires : tie.Need-kind-requires
 kind-requires c κs = search needs

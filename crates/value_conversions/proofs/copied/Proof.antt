@@ -1,17 +1,17 @@
--- `ink_value::copied` meets its contract: the entries are copied to the start of the result slices. Assumes nothing.
+-- `value_conversions::copied` meets its contract: the entries are copied to the start of the result slices. Assumes nothing.
 use borrow.Author.Needs.{needs}
 use mathlib.Core.Path.{sym, ap}
 use mathlib.Core.List.{List}
 use Prim.Native.Nat.{ℕ}
 use Rattle.ink_list.specs.Entries.{room}
 use Rattle.ink_number.specs.Answer.{gives}
 use Rattle.ink_value.specs.declared.Value.{Value}
 use Rattle.ink_value.proofs.Reading.{wrote-is, list-in, lends-lent, lends-held, lends-few}
 use Rattle.ink_value.proofs.Given.{gave-is, gave-copy}
 use Rattle.ink_value.specs.declared.Value.the-variants as Is
 use Rattle.ink_value.specs.declared.Outcome.the-variants as Out
-use Rattle.ink_value.proofs.copied.Statement.{statement}
-use Rattle.ink_value.proofs.copied.Tie as tie
+use Rattle.value_conversions.proofs.copied.Statement.{statement}
+use Rattle.value_conversions.proofs.copied.Tie as tie
 
 start-of-requires : tie.Need-start-of-requires
 start-of-requires c κs = search needs

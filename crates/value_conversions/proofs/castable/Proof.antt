@@ -1,10 +1,10 @@
--- `ink_value::castable` meets its contract. Assumes nothing.
+-- `value_conversions::castable` meets its contract. Assumes nothing.
 use mathlib.Core.Path.{refl}
 use borrow.Author.Tests.{ne-eqb}
-use Rattle.ink_value.specs.Convert.{castable}
+use Rattle.value_conversions.specs.Convert.{castable}
 use Rattle.ink_value.proofs.Arms.{at}
-use Rattle.ink_value.proofs.castable.Statement.{statement}
-use Rattle.ink_value.proofs.castable.Tie as tie
+use Rattle.value_conversions.proofs.castable.Statement.{statement}
+use Rattle.value_conversions.proofs.castable.Tie as tie
 
 returns : tie.Need-returns
 unfolding castable

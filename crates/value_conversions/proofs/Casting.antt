@@ -6,8 +6,9 @@ use native.Mathlib.Omega.{arith}
 use lib.Dec.{eqb}
 use lib.IntN.{pos}
 use borrow.Author.Tests.{eqb-true, ne-eqb}
 use Rattle.ink_value.specs.Val.{Val}
-use Rattle.ink_value.specs.Convert.{bitZ, castable, converted}
+use Rattle.ink_value.specs.Convert.{bitZ}
+use Rattle.value_conversions.specs.Convert.{castable, converted}
 use Rattle.ink_number.specs.Int.{eqZ}
 
 pub bit-one : (b : Bool) → b ≡ eqZ (bitZ b) (pos 1)
