@@ -136,7 +136,14 @@ fn with_list(s: &[u8], ai: &[u16], av: &[i32], items: &[u16], values: &[i32]) {
     }
     let by = value(s, NUMBER);
     let set = place(s, OTHER_NUMBER) as u64;
-    by_definitions(ai, av, set, by, &items[from..ends_to], &values[from..defined_to]);
+    by_definitions(
+        ai,
+        av,
+        set,
+        by,
+        &items[from..ends_to],
+        &values[from..defined_to],
+    );
 }
 
 fn work(s: &[u8], items: &[u16], values: &[i32]) {

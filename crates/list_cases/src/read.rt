@@ -2,7 +2,6 @@
 // A list of a case is three numbers of two bytes: where it starts in the pool, how many items and how many values it has. A byte past
 // the end is 0.
 ghost use Prim.Native.Nat.{_<_, _≤_};
-ghost use lib.ListN.{length};
 
 // How many entries the pool has, where the cases start, and how many bytes a case takes.
 pub const POOL: usize = 1600;

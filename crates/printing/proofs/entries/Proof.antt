@@ -1,16 +1,16 @@
--- `printing::Output::entries` is safe and ends. Assumes nothing.
+-- `printing::entries` is safe and ends. Assumes nothing.
 use mathlib.Core.Path.{_≡_}
 use Prim.Native.Nat.{_-_, _≤_}
 use lib.ListN.{length}
 use borrow.Author.Needs.{needs}
-use Rattle.printing.proofs.Output.entries.Statement.{statement}
-use Rattle.printing.proofs.Output.entries.Tie as tie
+use Rattle.printing.proofs.entries.Statement.{statement}
+use Rattle.printing.proofs.entries.Tie as tie
 
 abbrev Inv-loop : tie.InvT-loop
-Inv-loop out₀ n items values o₀ i₀ out o i = (i ≤ n) × (length out ≡ length out₀)
+Inv-loop out₀ n items values told₀ i₀ out told i = (i ≤ n) × (length out ≡ length out₀)
 
 abbrev μ-loop : tie.MeasureT-loop
-μ-loop out₀ n items values o₀ i₀ out o i = n - i
+μ-loop out₀ n items values told₀ i₀ out told i = n - i
 
 loop-holds : tie.Need-loop-holds Inv-loop μ-loop
 loop-holds c = search needs

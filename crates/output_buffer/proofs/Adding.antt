@@ -6,8 +6,8 @@ use Prim.Native.Nat.{ℕ, _+_, _<_, _≤_}
 use native.Mathlib.Numerals.{add-one}
 use lib.ListN.{length, take, set, getD}
 use lib.Seq.{take-suc-set, take-suc, take-all}
-use Rattle.printing.specs.declared.Output.{Output}
-use Rattle.printing.specs.Text.{Adds, waiting}
+use Rattle.output_buffer.specs.declared.Output.{Output}
+use Rattle.output_buffer.specs.Text.{Adds, waiting}
 
 pub nothing : (out : List ℕ) (o : Output) → Adds [] out o out o
 nothing out o = record { handed = []; in-order = sym (append-nil (waiting out o)); failed = λ f. f }

@@ -1,10 +1,10 @@
--- `printing::Output::byte` adds the byte: to the buffer, or where that is full to the emptied one. Assumes nothing.
+-- `output_buffer::Output::byte` adds the byte: to the buffer, or where that is full to the emptied one. Assumes nothing.
 use mathlib.Core.Path.{refl}
 use lib.Seq.{take-suc-set}
 use borrow.Author.Needs.{needs}
-use Rattle.printing.proofs.Adding.{put, left, anew}
-use Rattle.printing.proofs.Output.byte.Statement.{statement}
-use Rattle.printing.proofs.Output.byte.Tie as tie
+use Rattle.output_buffer.proofs.Adding.{put, left, anew}
+use Rattle.output_buffer.proofs.Output.byte.Statement.{statement}
+use Rattle.output_buffer.proofs.Output.byte.Tie as tie
 
 slice-write-out : tie.Need-slice-write-out
 slice-write-out c = search needs

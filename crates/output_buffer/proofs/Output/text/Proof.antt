@@ -1,12 +1,12 @@
--- `printing::Output::text` adds the text, a byte at a time. Assumes nothing.
+-- `output_buffer::Output::text` adds the text, a byte at a time. Assumes nothing.
 use mathlib.Core.Path.{_≡_}
 use Prim.Native.Nat.{_-_, _≤_}
 use lib.ListN.{length, take}
 use borrow.Author.Needs.{needs}
-use Rattle.printing.specs.Text.{Adds}
-use Rattle.printing.proofs.Adding.{nothing, grown, ended}
-use Rattle.printing.proofs.Output.text.Statement.{statement}
-use Rattle.printing.proofs.Output.text.Tie as tie
+use Rattle.output_buffer.specs.Text.{Adds}
+use Rattle.output_buffer.proofs.Adding.{nothing, grown, ended}
+use Rattle.output_buffer.proofs.Output.text.Statement.{statement}
+use Rattle.output_buffer.proofs.Output.text.Tie as tie
 
 abbrev Inv-loop : tie.InvT-loop
 Inv-loop out₀ s o₀ i₀ out o i = (i ≤ length s) × (length out ≡ length out₀) × Adds (take i s) out₀ o₀ out o

@@ -1,10 +1,10 @@
--- What the contracts of `printing` say of the buffer: text is added at its end, and what leaves it leaves from its start. Assumes nothing.
+-- What the contracts of `output_buffer` say of the buffer: text is added at its end, and what leaves it leaves from its start. Assumes nothing.
 use mathlib.Core.Path.{_≡_}
 use mathlib.Core.Bool.{true}
 use mathlib.Core.List.{List, _++_}
 use Prim.Native.Nat.{ℕ}
 use lib.ListN.{take}
-use Rattle.printing.specs.declared.Output.{Output}
+use Rattle.output_buffer.specs.declared.Output.{Output}
 
 -- the bytes of a buffer that wait to be written
 abbrev pub waiting : List ℕ → Output → List ℕ

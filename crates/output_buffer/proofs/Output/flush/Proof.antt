@@ -1,9 +1,9 @@
--- `printing::Output::flush` is safe, and leaves nothing to wait. Assumes nothing.
+-- `output_buffer::Output::flush` is safe, and leaves nothing to wait. Assumes nothing.
 use mathlib.Core.Path.{sym}
 use lib.Seq.{length-take-le}
 use borrow.Author.Needs.{needs}
-use Rattle.printing.proofs.Output.flush.Statement.{statement}
-use Rattle.printing.proofs.Output.flush.Tie as tie
+use Rattle.output_buffer.proofs.Output.flush.Statement.{statement}
+use Rattle.output_buffer.proofs.Output.flush.Tie as tie
 
 returns : tie.Need-returns
 returns c = search needs
