@@ -18,7 +18,10 @@ use cases::byte;
 use cases::number;
 use cases::operand;
 use ink_value::Outcome;
-use printing::Output;
+use ink_value::Value;
+use output_buffer::Output;
+use test_output::entry;
+use test_output::text;
 
 // A pack of two definitions, of the values 1, 2, 3 and of 10, 20.
 const PACK: [u8; 34] = [
@@ -75,45 +78,42 @@ fn written(r: Outcome) -> usize {
     }
 }
 
-fn show(o: Output, out: &mut [u8], r: Outcome, items: &[u16], values: &[i32]) -> Output {
+fn show(r: Outcome, items: &[u16], values: &[i32]) {
+    let mut out = io::buffer();
     match r {
-        Outcome::Value(v) => o.value(out, v, items, values),
-        Outcome::Refused(number) => o.refused(out, number),
+        Outcome::Value(v) => printing::value(Output::new(), &mut out, v, items, values).flush(&out),
+        Outcome::Refused(number) => printing::refused(Output::new(), &mut out, number).flush(&out),
     }
+    ;
 }
 
 // The place after the first n entries.
-fn place_after(o: Output, out: &mut [u8], n: usize, items: &[u16], values: &[i32]) -> Output {
+fn place_after(n: usize, items: &[u16], values: &[i32]) {
     if items.len() <= n {
-        return o;
+        return;
     }
     if values.len() <= n {
-        return o;
+        return;
     }
-    o.text(out, b" then").entry(out, items[n], values[n])
+    text(b" then");
+    entry(items[n], values[n]);
 }
 
-fn named(o: Output, out: &mut [u8], s: &[u8]) -> Output {
+fn print_name(s: &[u8]) {
     let end = 1 + number(s, 0);
     if s.len() < end {
-        return o;
+        return;
     }
-    o.text(out, &s[1..end]).text(out, b":")
+    text(&s[1..end]);
+    text(b":");
 }
 
 // The line of a call that has result slices.
 fn report(s: &[u8], r: Outcome, items: &[u16], values: &[i32]) {
-    let mut out = io::buffer();
-    let o = show(
-        named(Output::new(), &mut out, s),
-        &mut out,
-        r,
-        items,
-        values,
-    );
-    place_after(o, &mut out, written(r), items, values)
-        .text(&mut out, b"\n")
-        .flush(&out);
+    print_name(s);
+    show(r, items, values);
+    place_after(written(r), items, values);
+    text(b"\n");
 }
 
 fn call_into(s: &[u8], pack: &[u8], values: &[i32], oi: &mut [u16], ov: &mut [i32]) {
@@ -168,21 +168,23 @@ fn cast(s: &[u8]) {
     report(s, r, &oi, &ov);
 }
 
-fn coerced(s: &[u8]) -> Outcome {
-    let v = operand(s, FIRST);
-    match byte(s, WHICH) {
-        0 => calls::coerce_to_bool(&PACK, v, &ITEMS, &VALUES),
-        1 => calls::coerce_to_int(&PACK, v, &ITEMS, &VALUES),
-        _ => calls::coerce_to_float(&PACK, v, &ITEMS, &VALUES),
+fn coerced(v: Value, which: u8, items: &[u16], values: &[i32]) -> Outcome {
+    match which {
+        0 => calls::coerce_to_bool(&PACK, v, items, values),
+        1 => calls::coerce_to_int(&PACK, v, items, values),
+        _ => calls::coerce_to_float(&PACK, v, items, values),
     }
 }
 
 // A conversion that has no result slices.
 fn coerce(s: &[u8]) {
-    let mut out = io::buffer();
-    let o = named(Output::new(), &mut out, s);
-    show(o, &mut out, coerced(s), &ITEMS, &VALUES).text(&mut out, b"\n")
-        .flush(&out);
+    print_name(s);
+    show(
+        coerced(operand(s, FIRST), byte(s, WHICH), &ITEMS, &VALUES),
+        &ITEMS,
+        &VALUES,
+    );
+    text(b"\n");
 }
 
 fn work(s: &[u8]) {

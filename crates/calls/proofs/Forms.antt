@@ -15,7 +15,7 @@ use Rattle.list_definitions.specs.Defs.{ListDefinitions}
 use Rattle.native_function_call.specs.Apply.{call}
 use Rattle.call_memory.specs.Lent.{operandsOk, resultsOk}
 use Rattle.calls.specs.Call.{called, castTo, coerced, onPack, afterAsked}
-use Rattle.ink_value.specs.Convert.{cast}
+use Rattle.value_conversions.specs.Convert.{cast}
 use Rattle.pack.specs.Bodies.{decoded}
 use Rattle.pack.specs.declared.Checked.{Checked}
 use Rattle.pack.specs.declared.format.Format.{Format}

@@ -10,7 +10,8 @@ use Rattle.ink_number.specs.Answer.{Answer, gives, refuses, ask, andThen}
 use Rattle.ink_number.specs.Int.{eqZ}
 use Rattle.list_definitions.specs.Defs.{ListDefinitions}
 use Rattle.ink_value.specs.Val.{Val, bool, int, float, list, void, kindOf, codeOf}
-use Rattle.ink_value.specs.Convert.{asInt, asFloat, coerceBool, coerceInt, coerceFloat}
+use Rattle.ink_value.specs.Convert.{asInt, asFloat}
+use Rattle.value_conversions.specs.Convert.{coerceBool, coerceInt, coerceFloat}
 use Rattle.ink_value.specs.Value.{valOf, placed, outcomeOf, Gave}
 use Rattle.ink_value.specs.declared.Outcome.{Outcome}
 use Rattle.ink_value.specs.declared.Value.{Value}

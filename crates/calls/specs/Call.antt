@@ -8,7 +8,7 @@ use Rattle.ink_number.specs.Answer.{Answer, refuses, ask, andThen}
 use Rattle.slices.specs.Every.{_and_}
 use Rattle.list_definitions.specs.Defs.{ListDefinitions}
 use Rattle.ink_value.specs.Val.{Val}
-use Rattle.ink_value.specs.Convert.{cast}
+use Rattle.value_conversions.specs.Convert.{cast}
 use Rattle.ink_value.specs.Value.{valOf, placed, outcomeOf, Gave}
 use Rattle.ink_value.specs.declared.Outcome.{Outcome}
 use Rattle.ink_value.specs.declared.Value.{Value}

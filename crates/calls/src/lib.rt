@@ -14,7 +14,7 @@ ghost use Rattle.ink_list.specs.Entries.{itemNumbers};
 ghost use denote.Ref.{now};
 ghost use Rattle.list_operators.specs.Lists.{definitions, definitionsIn};
 ghost use Rattle.pack.specs.Read.{PackLists};
-ghost use Rattle.ink_value.specs.Convert.{cast, coerceBool, coerceInt, coerceFloat};
+ghost use Rattle.value_conversions.specs.Convert.{cast, coerceBool, coerceInt, coerceFloat};
 ghost use Rattle.ink_value.specs.Slices.{Gives};
 ghost use Rattle.pack.specs.Format.{format1, Runnable};
 ghost use Rattle.pack.specs.Judge.{Sound};
@@ -207,7 +207,7 @@ fn cast_checked(
     if ov.len() < format.limit {
         return Outcome::Refused(7);
     }
-    ink_value::cast(to, v, items, values, oi, ov)
+    value_conversions::cast(to, v, items, values, oi, ov)
 }
 
 // `Value::cast` to the kind code `to`: codes 0 to 3.
@@ -259,7 +259,7 @@ pub fn coerce_to_bool(pack: &[u8], v: Value, items: &[u16], values: &[i32]) -> O
 {
     match operand_asked(pack, v, items, values) {
         Checked::Refused(number) => Outcome::Refused(number),
-        Checked::Passed => ink_value::coerce_to_bool(v),
+        Checked::Passed => value_conversions::coerce_to_bool(v),
     }
 }
 
@@ -269,7 +269,7 @@ pub fn coerce_to_int(pack: &[u8], v: Value, items: &[u16], values: &[i32]) -> Ou
 {
     match operand_asked(pack, v, items, values) {
         Checked::Refused(number) => Outcome::Refused(number),
-        Checked::Passed => ink_value::coerce_to_int(v),
+        Checked::Passed => value_conversions::coerce_to_int(v),
     }
 }
 
@@ -279,6 +279,6 @@ pub fn coerce_to_float(pack: &[u8], v: Value, items: &[u16], values: &[i32]) -> 
 {
     match operand_asked(pack, v, items, values) {
         Checked::Refused(number) => Outcome::Refused(number),
-        Checked::Passed => ink_value::coerce_to_float(v),
+        Checked::Passed => value_conversions::coerce_to_float(v),
     }
 }

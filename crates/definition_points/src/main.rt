@@ -1,5 +1,5 @@
-// The operators on lists that go by definitions, on empty, small, tied and full lists: for each case the operands, then each operator with
-// its answer.
+// The operators on lists that go by definitions, on empty, small, tied and full lists, which make_cases.py beside this writes: for each
+// case the operands, then each operator with its answer. The second list of a case is the ends of the definitions and their values.
 
 ghost use mathlib.Core.Path.{_≡_};
 ghost use mathlib.Core.Bool.{true};
@@ -11,17 +11,29 @@ use ink_list::entries::is_formed;
 use list_cases::ITEM_LIMIT;
 use list_cases::UNWRITTEN_ITEM;
 use list_cases::UNWRITTEN_VALUE;
-use list_cases::every_item;
-use list_cases::line;
 use list_cases::number;
 use list_cases::operand;
-use list_cases::ramp;
+use list_cases::read::CASE;
+use list_cases::read::CASES;
+use list_cases::read::FIRST;
+use list_cases::read::NUMBER;
+use list_cases::read::OTHER_NUMBER;
+use list_cases::read::POOL;
+use list_cases::read::SECOND;
+use list_cases::read::TITLE;
+use list_cases::read::WHAT;
+use list_cases::read::byte;
+use list_cases::read::place;
+use list_cases::read::pool;
+use list_cases::read::title;
+use list_cases::read::value;
 use list_cases::result;
 use list_definitions::all;
 use list_definitions::invert;
 use list_definitions::origins_of;
 use list_increment::decrement;
 use list_increment::increment;
+use test_output::line;
 
 // Are the ends those of definitions with so many items.
 fn numbered(ends: &[u16], defined: &[i32]) -> bool
@@ -111,67 +123,69 @@ fn by_definitions(ai: &[u16], av: &[i32], set: u64, by: i32, ends: &[u16], defin
     show_decrement(ai, av, by, set, ends, defined);
 }
 
-fn small_definitions() {
-    let ends = [3u16, 5, 8];
-    let defined = [1i32, 2, 3, 2, 2, -5, 2147483647, -2147483648];
-    let ai = [1u16, 4, 6];
-    let av = [2i32, 1, 2147483647];
-    by_definitions(&ai[..0], &av[..0], 7, 1, &ends, &defined);
-    by_definitions(&ai[..1], &av[..1], 7, 1, &ends, &defined);
-    by_definitions(&ai, &av, 7, 1, &ends, &defined);
+// A case whose list is at hand.
+fn with_list(s: &[u8], ai: &[u16], av: &[i32], items: &[u16], values: &[i32]) {
+    let from = place(s, SECOND);
+    let ends_to = from + place(s, SECOND + 2);
+    let defined_to = from + place(s, SECOND + 4);
+    if items.len() < ends_to {
+        return;
+    }
+    if values.len() < defined_to {
+        return;
+    }
+    let by = value(s, NUMBER);
+    let set = place(s, OTHER_NUMBER) as u64;
+    by_definitions(
+        ai,
+        av,
+        set,
+        by,
+        &items[from..ends_to],
+        &values[from..defined_to],
+    );
 }
 
-fn other_origins() {
-    let ends = [3u16, 5, 8];
-    let defined = [1i32, 2, 3, 2, 2, -5, 2147483647, -2147483648];
-    let ai = [1u16, 4, 6];
-    let av = [2i32, 1, 2147483647];
-    by_definitions(&ai, &av, 1, 1, &ends, &defined);
-    by_definitions(&ai, &av, 6, 1, &ends, &defined);
-    by_definitions(&ai, &av, 0, 1, &ends, &defined);
-    by_definitions(&ai, &av, 8, 1, &ends, &defined);
-    by_definitions(&ai, &av, 7, -2147483648, &ends, &defined);
+fn work(s: &[u8], items: &[u16], values: &[i32]) {
+    if byte(s, WHAT) == TITLE {
+        title(s);
+        return;
+    }
+    let from = place(s, FIRST);
+    let items_to = from + place(s, FIRST + 2);
+    let values_to = from + place(s, FIRST + 4);
+    if items.len() < items_to {
+        return;
+    }
+    if values.len() < values_to {
+        return;
+    }
+    with_list(
+        s,
+        &items[from..items_to],
+        &values[from..values_to],
+        items,
+        values,
+    );
 }
 
-fn unlike_definitions() {
-    let ends = [3u16, 5, 8];
-    let defined = [1i32, 2, 3, 2, 2, -5, 2147483647, -2147483648];
-    let ai = [0u16, 1, 2, 7];
-    let same = [5i32, 5, 5, 0];
-    let falling = [3i32, 2, 1, -2147483648];
-    by_definitions(&ai, &same, 5, -3, &ends, &defined);
-    by_definitions(&ai, &falling, 5, 0, &ends, &defined);
-    by_definitions(&ai, &falling, 5, 1, &ends, &defined);
-    by_definitions(&ai[..0], &same[..0], 0, 1, &ends[..0], &defined[..0]);
-}
-
-fn full_definitions() {
-    let items = every_item();
-    let values = ramp(0, 1);
-    let up = ramp(0, 1);
-    let down = ramp(255, -1);
-    let ends = [64u16, 128, 192, 256];
-    by_definitions(&items, &values, 15, 1, &ends, &up);
-    by_definitions(&items, &values, 5, 63, &ends, &up);
-    by_definitions(&items, &down, 15, 1, &ends, &up);
-    by_definitions(&items, &values, 15, 1, &ends, &down);
-}
-
-fn level_definitions() {
-    let items = every_item();
-    let up = ramp(0, 1);
-    let values = ramp(7, 0);
-    let level = ramp(7, 0);
-    let ends = [64u16, 128, 192, 256];
-    by_definitions(&items, &values, 15, 0, &ends, &level);
-    by_definitions(&items[0..100], &values[0..100], 3, 100, &ends, &up);
+fn work_all(s: &[u8], items: &[u16], values: &[i32]) {
+    let mut at = 0;
+    while CASE <= s.len() - at {
+        let end = at + CASE;
+        work(&s[at..end], items, values);
+        at = end;
+    }
 }
 
 fn main() {
-    line(b"definitions");
-    small_definitions();
-    other_origins();
-    unlike_definitions();
-    full_definitions();
-    level_definitions();
+    let mut buf = io::large_buffer();
+    let n = io::read_full(0, &mut buf);
+    if n < CASES {
+        return;
+    }
+    let mut items = [0u16; POOL];
+    let mut values = [0i32; POOL];
+    pool(&buf, &mut items, &mut values);
+    work_all(&buf[CASES..n], &items, &values);
 }

@@ -5,7 +5,7 @@ use pack::Checked;
 use pack_check::format::FORMAT1;
 ghost use mathlib.Core.Path.{_≡_};
 ghost use denote.Ref.{now};
-ghost use Rattle.ink_value.specs.Convert.{coerceBool, coerceInt, coerceFloat};
+ghost use Rattle.value_conversions.specs.Convert.{coerceBool, coerceInt, coerceFloat};
 ghost use Rattle.pack.specs.Format.{format1};
 ghost use Rattle.pack.specs.Judge.{judge};
 ghost use Rattle.pack.specs.Read.{PackLists};

@@ -3,6 +3,5 @@ pub mod Arms
 pub mod Reading
 pub mod Parts
 pub mod Given
-pub mod Casting
 pub mod ReadBack
 pub mod Forming

@@ -1,4 +1,4 @@
--- What values are, and what the conversions answer.
+-- What values are, and what they read as.
 pub mod Val
 pub mod Convert
 pub mod Value

@@ -16,7 +16,8 @@ use Rattle.ink_list.specs.Ops.{range, listMin, listMax}
 use Rattle.list_definitions.specs.Defs.{ListDefinitions, Tables, originsOf, all, invert, increment, decrement}
 use Rattle.list_pairs.specs.Pairs.{mergeL}
 use Rattle.ink_value.specs.Val.{Val, list, kindOf}
-use Rattle.ink_value.specs.Convert.{asInt, entriesOf, originsIn, lowerOf, upperOf}
+use Rattle.ink_value.specs.Convert.{asInt, entriesOf, originsIn}
+use Rattle.value_conversions.specs.Convert.{lowerOf, upperOf}
 
 -- ---- results that are Lists
 

@@ -1,5 +1,5 @@
-// The operators on lists that go by no definitions, on empty, small, tied and full lists: for each case the operands, then each operator
-// with its answer.
+// The operators on lists that go by no definitions, on empty, small, tied and full lists, which make_cases.py beside this writes: for
+// each case the operands, then each operator with its answer.
 
 ghost use Rattle.ink_list.specs.Entries.{Lent};
 use extreme_values::lower_bound;
@@ -10,11 +10,22 @@ use ink_list::entries::is_formed;
 use list_cases::ITEM_LIMIT;
 use list_cases::UNWRITTEN_ITEM;
 use list_cases::UNWRITTEN_VALUE;
-use list_cases::every_item;
-use list_cases::line;
 use list_cases::number;
 use list_cases::operand;
-use list_cases::ramp;
+use list_cases::read::CASE;
+use list_cases::read::CASES;
+use list_cases::read::FIRST;
+use list_cases::read::NUMBER;
+use list_cases::read::OTHER_NUMBER;
+use list_cases::read::POOL;
+use list_cases::read::SECOND;
+use list_cases::read::TITLE;
+use list_cases::read::WHAT;
+use list_cases::read::byte;
+use list_cases::read::place;
+use list_cases::read::pool;
+use list_cases::read::title;
+use list_cases::read::value;
 use list_cases::result;
 use list_cases::test;
 use list_comparisons::greater;
@@ -29,6 +40,7 @@ use list_merge::union;
 use list_range::range;
 use list_sift::intersect;
 use list_sift::without;
+use test_output::line;
 
 fn show_union(ai: &[u16], av: &[i32], bi: &[u16], bv: &[i32])
     requires { ⌜ Lent 256 (now ai) (now av) ⌝ }
@@ -125,6 +137,15 @@ fn single(ai: &[u16], av: &[i32]) {
     number(b"as upper bound", upper_bound(av));
 }
 
+fn show_range(ai: &[u16], av: &[i32], lower: i32, upper: i32)
+    requires { ⌜ Lent 256 (now ai) (now av) ⌝ }
+{
+    let mut oi = [UNWRITTEN_ITEM; 257];
+    let mut ov = [UNWRITTEN_VALUE; 257];
+    let n = range(ai, av, lower, upper, &mut oi, &mut ov);
+    result(b"range", n, &oi, &ov);
+}
+
 // Range within two bounds.
 fn ranged(ai: &[u16], av: &[i32], lower: i32, upper: i32) {
     operand(b"a", ai, av);
@@ -134,109 +155,71 @@ fn ranged(ai: &[u16], av: &[i32], lower: i32, upper: i32) {
     }
     number(b"lower", lower);
     number(b"upper", upper);
-    let mut oi = [UNWRITTEN_ITEM; 257];
-    let mut ov = [UNWRITTEN_VALUE; 257];
-    let n = range(ai, av, lower, upper, &mut oi, &mut ov);
-    result(b"range", n, &oi, &ov);
+    show_range(ai, av, lower, upper);
 }
 
-fn small_pairs() {
-    let ai = [0u16, 2, 5];
-    let av = [1i32, 7, -1];
-    let bi = [2u16, 3];
-    let bv = [9i32, 9];
-    pair(&ai[..0], &av[..0], &bi[..0], &bv[..0]);
-    pair(&ai[..1], &av[..1], &bi[..0], &bv[..0]);
-    pair(&bi[..0], &bv[..0], &ai[..1], &av[..1]);
-    pair(&ai, &av, &bi, &bv);
-    pair(&bi, &bv, &ai, &av);
+// A case of two lists, of which the first is at hand.
+fn with_second(s: &[u8], ai: &[u16], av: &[i32], items: &[u16], values: &[i32]) {
+    let from = place(s, SECOND);
+    let items_to = from + place(s, SECOND + 2);
+    let values_to = from + place(s, SECOND + 4);
+    if items.len() < items_to {
+        return;
+    }
+    if values.len() < values_to {
+        return;
+    }
+    pair(ai, av, &items[from..items_to], &values[from..values_to]);
 }
 
-fn pairs_with_itself() {
-    let ai = [0u16, 2, 5];
-    let av = [1i32, 7, -1];
-    let bi = [0u16, 2, 5];
-    let bv = [1i32, 7, -1];
-    pair(&ai, &av, &bi[1..], &bv[1..]);
-    pair(&ai, &av, &bi, &bv);
+fn with_first(s: &[u8], ai: &[u16], av: &[i32], items: &[u16], values: &[i32]) {
+    match byte(s, WHAT) {
+        0 => with_second(s, ai, av, items, values),
+        1 => single(ai, av),
+        _ => ranged(ai, av, value(s, NUMBER), value(s, OTHER_NUMBER)),
+    }
 }
 
-fn order_pairs() {
-    let ai = [0u16, 1];
-    let bi = [0u16, 1];
-    let rising = [5i32, 8];
-    let level = [5i32, 5];
-    let flat = [5i32, 5];
-    let wider = [4i32, 9];
-    let widest = [-2147483648i32, 2147483647];
-    pair(&ai, &rising, &bi, &level);
-    pair(&ai, &level, &bi, &flat);
-    pair(&ai, &rising, &bi, &wider);
-    pair(&ai, &widest, &bi, &rising);
-    pair(&ai[1..], &rising[1..], &bi, &level);
+fn work(s: &[u8], items: &[u16], values: &[i32]) {
+    if byte(s, WHAT) == TITLE {
+        title(s);
+        return;
+    }
+    let from = place(s, FIRST);
+    let items_to = from + place(s, FIRST + 2);
+    let values_to = from + place(s, FIRST + 4);
+    if items.len() < items_to {
+        return;
+    }
+    if values.len() < values_to {
+        return;
+    }
+    with_first(
+        s,
+        &items[from..items_to],
+        &values[from..values_to],
+        items,
+        values,
+    );
 }
 
-fn full_pairs() {
-    let ai = every_item();
-    let bi = every_item();
-    let up = ramp(0, 1);
-    let down = ramp(255, -1);
-    pair(&ai, &up, &bi, &down);
-    pair(&ai[0..250], &up[0..250], &bi[6..], &down[6..]);
-    pair(&ai, &up, &bi[255..], &down[255..]);
-}
-
-fn not_lists() {
-    let twice = [3u16, 3];
-    let falling = [4u16, 3];
-    let far = [3u16, 256];
-    let av = [1i32, 2];
-    single(&twice, &av);
-    single(&falling, &av);
-    single(&far, &av);
-    single(&far[..1], &av);
-}
-
-fn singles() {
-    let ai = [0u16, 2, 5, 9];
-    let tied = [7i32, -1, 7, -1];
-    let lowest = [-2147483648i32, -2147483648, 0, 0];
-    single(&ai[..0], &tied[..0]);
-    single(&ai[..1], &tied[..1]);
-    single(&ai, &tied);
-    single(&ai, &lowest);
-    single(&ai[..2], &lowest[..2]);
-    let items = every_item();
-    let down = ramp(255, -1);
-    let wrapping = ramp(2147483640, 1);
-    single(&items, &down);
-    single(&items, &wrapping);
-}
-
-fn ranges() {
-    let ai = [0u16, 2, 5, 9];
-    let av = [7i32, -1, 8, 7];
-    ranged(&ai, &av, 7, 8);
-    ranged(&ai, &av, 7, 7);
-    ranged(&ai, &av, 8, 7);
-    ranged(&ai, &av, 0, 2147483647);
-    ranged(&ai, &av, -2147483648, -1);
-    ranged(&ai[..0], &av[..0], 0, 2147483647);
-    let items = every_item();
-    let up = ramp(-100, 1);
-    ranged(&items, &up, -2147483648, 2147483647);
-    ranged(&items, &up, -5, 5);
+fn work_all(s: &[u8], items: &[u16], values: &[i32]) {
+    let mut at = 0;
+    while CASE <= s.len() - at {
+        let end = at + CASE;
+        work(&s[at..end], items, values);
+        at = end;
+    }
 }
 
 fn main() {
-    line(b"two lists");
-    small_pairs();
-    pairs_with_itself();
-    order_pairs();
-    full_pairs();
-    line(b"one list");
-    singles();
-    not_lists();
-    line(b"range");
-    ranges();
+    let mut buf = io::large_buffer();
+    let n = io::read_full(0, &mut buf);
+    if n < CASES {
+        return;
+    }
+    let mut items = [0u16; POOL];
+    let mut values = [0i32; POOL];
+    pool(&buf, &mut items, &mut values);
+    work_all(&buf[CASES..n], &items, &values);
 }

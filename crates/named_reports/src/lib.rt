@@ -1,6 +1,6 @@
 // What sheetrun prints of each pack of a stream of named packs, after the pack's name.
 use named_packs::Named;
-use printing::Output;
+use output_buffer::Output;
 ghost use Prim.Native.Nat.{_<_, _≤_};
 ghost use lib.ListN.{length};
 

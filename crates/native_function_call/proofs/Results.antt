@@ -10,7 +10,8 @@ use Rattle.ink_list.specs.Entries.{Entry}
 use Rattle.ink_value.specs.Val.{Val, list, Kind, boolK, intK, floatK, listK, voidK, kindOf}
 use Rattle.ink_number.specs.Answer.{Answer, gives, refuses}
 use Rattle.operator_kinds.specs.Kinds.{kindApply, isList}
-use Rattle.ink_value.specs.Convert.{asInt, entriesOf, originsIn, lowerOf, upperOf}
+use Rattle.ink_value.specs.Convert.{asInt, entriesOf, originsIn}
+use Rattle.value_conversions.specs.Convert.{lowerOf, upperOf}
 use Rattle.list_definitions.specs.Defs.{ListDefinitions}
 use Rattle.list_pairs.specs.Pairs.{mergeL}
 use Rattle.list_operators.specs.Lists.{shiftL, listBinary, entriesFor, originsAfter, listed, listAnswer}

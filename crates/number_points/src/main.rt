@@ -6,7 +6,10 @@ use ink_float::convert;
 use ink_float::float;
 use ink_number::int;
 use ink_number::int::Divided;
-use printing::Output;
+use test_output::decimal;
+use test_output::line;
+use test_output::pattern;
+use test_output::text;
 
 // What a row shows: an Int, two Ints, a pattern, two Floats.
 enum Row {
@@ -96,136 +99,127 @@ const PATTERNS: [u32; 12] = [
     0xffff_ffff,
 ];
 
-fn print_int(o: Output, out: &mut [u8], n: i32) -> Output {
-    o.text(out, b" ").decimal(out, n)
+fn print_int(n: i32) {
+    text(b" ");
+    decimal(n);
 }
 
-fn print_pattern(o: Output, out: &mut [u8], b: u32) -> Output {
-    o.text(out, b" ").pattern(out, b)
+fn print_pattern(b: u32) {
+    text(b" ");
+    pattern(b);
 }
 
-fn print_float(o: Output, out: &mut [u8], x: f32) -> Output {
-    print_pattern(o, out, convert::float_to_bits(x))
+fn print_float(x: f32) {
+    print_pattern(convert::float_to_bits(x));
 }
 
-fn print_bool(o: Output, out: &mut [u8], b: bool) -> Output {
+fn print_bool(b: bool) {
     if b {
-        return o.text(out, b" 1");
+        text(b" 1");
+        return;
     }
-    o.text(out, b" 0")
+    text(b" 0");
 }
 
-fn print_divided(o: Output, out: &mut [u8], d: Divided) -> Output {
+fn print_divided(d: Divided) {
     match d {
-        Divided::Value(z) => print_int(o, out, z),
-        Divided::Refused => o.text(out, b" R 15"),
+        Divided::Value(z) => print_int(z),
+        Divided::Refused => text(b" R 15"),
     }
-}
-
-fn two_ints(o: Output, out: &mut [u8], a: i32, b: i32) -> Output {
-    let one = print_int(o, out, a);
-    print_int(one, out, b)
-}
-
-fn two_floats(o: Output, out: &mut [u8], x: f32, y: f32) -> Output {
-    let one = print_float(o, out, x);
-    print_float(one, out, y)
-}
-
-fn three_bools(o: Output, out: &mut [u8], a: bool, b: bool, c: bool) -> Output {
-    let one = print_bool(o, out, a);
-    let two = print_bool(one, out, b);
-    print_bool(two, out, c)
 }
 
 // The pattern of an Int, what is opposite, its truth and its Float.
-fn int_forms(o: Output, out: &mut [u8], a: i32) -> Output {
-    let pattern = print_pattern(o, out, int::pattern(a));
-    let opposite = print_int(pattern, out, int::wrapping_neg(a));
-    let truth = print_bool(opposite, out, int::truthy(a));
-    print_float(truth, out, convert::int_to_float(a))
+fn int_value(a: i32) {
+    text(b"int");
+    print_int(a);
+    text(b":");
+    print_pattern(int::pattern(a));
+    print_int(int::wrapping_neg(a));
+    print_bool(int::truthy(a));
+    print_float(convert::int_to_float(a));
 }
 
-fn int_value(out: &mut [u8], a: i32) -> Output {
-    let o = print_int(Output::new().text(out, b"int"), out, a).text(out, b":");
-    int_forms(o, out, a)
+fn int_arithmetic(a: i32, b: i32) {
+    print_int(int::wrapping_add(a, b));
+    print_int(int::wrapping_sub(a, b));
+    print_int(int::wrapping_mul(a, b));
+    print_divided(int::divide(a, b));
+    print_divided(int::remainder_of(a, b));
+    print_int(int::min(a, b));
+    print_int(int::max(a, b));
 }
 
-fn int_division(o: Output, out: &mut [u8], a: i32, b: i32) -> Output {
-    let quotient = print_divided(o, out, int::divide(a, b));
-    print_divided(quotient, out, int::remainder_of(a, b))
+fn int_tests(a: i32, b: i32) {
+    print_bool(int::eq(a, b));
+    print_bool(int::ne(a, b));
+    print_bool(int::lt(a, b));
+    print_bool(int::le(a, b));
+    print_bool(int::gt(a, b));
+    print_bool(int::ge(a, b));
+    print_bool(int::can_divide(a, b));
 }
 
-fn int_arithmetic(o: Output, out: &mut [u8], a: i32, b: i32) -> Output {
-    let sum = two_ints(o, out, int::wrapping_add(a, b), int::wrapping_sub(a, b));
-    let product = print_int(sum, out, int::wrapping_mul(a, b));
-    let divided = int_division(product, out, a, b);
-    two_ints(divided, out, int::min(a, b), int::max(a, b))
-}
-
-fn int_tests(o: Output, out: &mut [u8], a: i32, b: i32) -> Output {
-    let three = three_bools(o, out, int::eq(a, b), int::ne(a, b), int::lt(a, b));
-    let six = three_bools(three, out, int::le(a, b), int::gt(a, b), int::ge(a, b));
-    print_bool(six, out, int::can_divide(a, b))
-}
-
-fn int_pair(out: &mut [u8], a: i32, b: i32) -> Output {
-    let o = two_ints(Output::new().text(out, b"int"), out, a, b).text(out, b":");
-    int_tests(int_arithmetic(o, out, a, b), out, a, b)
+fn int_pair(a: i32, b: i32) {
+    text(b"int");
+    print_int(a);
+    print_int(b);
+    text(b":");
+    int_arithmetic(a, b);
+    int_tests(a, b);
 }
 
 // A Float and what is opposite, its truth and its Int.
-fn float_forms(o: Output, out: &mut [u8], x: f32) -> Output {
-    let both = two_floats(o, out, x, float::neg(x));
-    let truth = print_bool(both, out, float::truthy(x));
-    print_int(truth, out, convert::float_to_int(x))
+fn float_forms(x: f32) {
+    print_float(x);
+    print_float(float::neg(x));
+    print_bool(float::truthy(x));
+    print_int(convert::float_to_int(x));
 }
 
-fn pattern_value(out: &mut [u8], b: u32) -> Output {
-    let x = convert::float_from_bits(b);
-    let o = print_pattern(Output::new().text(out, b"pattern"), out, b).text(out, b":");
-    float_forms(print_int(o, out, int::signed_of(b)), out, x)
+fn pattern_value(b: u32) {
+    text(b"pattern");
+    print_pattern(b);
+    text(b":");
+    print_int(int::signed_of(b));
+    float_forms(convert::float_from_bits(b));
 }
 
-fn float_arithmetic(o: Output, out: &mut [u8], x: f32, y: f32) -> Output {
-    let sum = two_floats(o, out, float::add(x, y), float::sub(x, y));
-    let product = two_floats(sum, out, float::mul(x, y), float::div(x, y));
-    let remainder = print_float(product, out, float::rem(x, y));
-    two_floats(remainder, out, float::min(x, y), float::max(x, y))
+fn float_arithmetic(x: f32, y: f32) {
+    print_float(float::add(x, y));
+    print_float(float::sub(x, y));
+    print_float(float::mul(x, y));
+    print_float(float::div(x, y));
+    print_float(float::rem(x, y));
+    print_float(float::min(x, y));
+    print_float(float::max(x, y));
 }
 
-fn float_tests(o: Output, out: &mut [u8], x: f32, y: f32) -> Output {
-    let three = three_bools(o, out, float::eq(x, y), float::ne(x, y), float::lt(x, y));
-    three_bools(
-        three,
-        out,
-        float::le(x, y),
-        float::gt(x, y),
-        float::ge(x, y),
-    )
+fn float_tests(x: f32, y: f32) {
+    print_bool(float::eq(x, y));
+    print_bool(float::ne(x, y));
+    print_bool(float::lt(x, y));
+    print_bool(float::le(x, y));
+    print_bool(float::gt(x, y));
+    print_bool(float::ge(x, y));
 }
 
-fn float_pair(out: &mut [u8], x: f32, y: f32) -> Output {
-    let o = two_floats(Output::new().text(out, b"float"), out, x, y).text(out, b":");
-    float_tests(float_arithmetic(o, out, x, y), out, x, y)
-}
-
-fn told(what: Row, out: &mut [u8], a: u32, b: u32) -> Output {
-    match what {
-        Row::Int => int_value(out, int::signed_of(b)),
-        Row::Ints => int_pair(out, int::signed_of(a), int::signed_of(b)),
-        Row::Pattern => pattern_value(out, b),
-        Row::Floats => float_pair(
-            out,
-            convert::float_from_bits(a),
-            convert::float_from_bits(b),
-        ),
-    }
+fn float_pair(x: f32, y: f32) {
+    text(b"float");
+    print_float(x);
+    print_float(y);
+    text(b":");
+    float_arithmetic(x, y);
+    float_tests(x, y);
 }
 
 fn print_row(what: Row, a: u32, b: u32) {
-    let mut out = io::buffer();
-    told(what, &mut out, a, b).text(&mut out, b"\n").flush(&out);
+    match what {
+        Row::Int => int_value(int::signed_of(b)),
+        Row::Ints => int_pair(int::signed_of(a), int::signed_of(b)),
+        Row::Pattern => pattern_value(b),
+        Row::Floats => float_pair(convert::float_from_bits(a), convert::float_from_bits(b)),
+    }
+    text(b"\n");
 }
 
 // A row of each pattern, beside a where the row is of two.
@@ -242,34 +236,27 @@ fn pairs(what: Row, patterns: &[u32]) {
     }
 }
 
-fn line(s: &[u8]) {
-    let mut out = io::buffer();
-    Output::new()
-        .text(&mut out, s)
-        .text(&mut out, b"\n")
-        .flush(&out);
-}
-
 fn divided_point(name: &[u8], d: Divided) {
-    let mut out = io::buffer();
-    let o = Output::new().text(&mut out, b"point ").text(&mut out, name);
-    print_divided(o, &mut out, d)
-        .text(&mut out, b"\n")
-        .flush(&out);
+    text(b"point ");
+    text(name);
+    print_divided(d);
+    text(b"\n");
 }
 
 fn float_point(name: &[u8], n: i32) {
-    let mut out = io::buffer();
-    let o = Output::new().text(&mut out, b"point ").text(&mut out, name);
-    print_float(o, &mut out, convert::int_to_float(n))
-        .text(&mut out, b"\n")
-        .flush(&out);
+    text(b"point ");
+    text(name);
+    print_float(convert::int_to_float(n));
+    text(b"\n");
 }
 
-fn points() {
+fn division_points() {
     divided_point(b"-7 / 2:", int::divide(-7, 2));
     divided_point(b"-7 % 2:", int::remainder_of(-7, 2));
     divided_point(b"-2147483648 / -1:", int::divide(-2147483648, -1));
+}
+
+fn conversion_points() {
     float_point(b"16777216 to Float:", 16777216);
     float_point(b"16777217 to Float:", 16777217);
     float_point(b"16777219 to Float:", 16777219);
@@ -279,16 +266,25 @@ fn points() {
     );
 }
 
-fn main() {
-    points();
+fn ints() {
     line(b"# int a: pattern, -a, truthy, as Float");
     rows(Row::Int, 0, &INTS);
     rows(Row::Int, 0, &ROUNDED);
     line(b"# int a b: + - * / % min max == != < <= > >= can_divide");
     pairs(Row::Ints, &INTS);
+}
+
+fn floats() {
     line(b"# pattern b: as Int; the Float x, -x, truthy, x to Int");
     rows(Row::Pattern, 0, &FLOATS);
     rows(Row::Pattern, 0, &PATTERNS);
     line(b"# float x y: + - * / % min max == != < <= > >=");
     pairs(Row::Floats, &FLOATS);
+}
+
+fn main() {
+    division_points();
+    conversion_points();
+    ints();
+    floats();
 }

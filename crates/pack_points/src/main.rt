@@ -17,6 +17,9 @@ use pack_literals::read_literal;
 use pack_read::read_definitions;
 use pack_read::sheet_count;
 use pack_read::sheet_span;
+use test_output::natural;
+use test_output::pattern;
+use test_output::text;
 ghost use mathlib.Core.Path.{_≡_};
 ghost use Prim.Native.Nat.{_<_, _≤_};
 ghost use lib.ListN.{length};
@@ -41,14 +44,14 @@ fn widen_item(x: u16) -> usize {
 
 // A number after a space.
 fn number(n: usize) {
-    io::write_all(STDOUT, b" ");
-    io::print_decimal(STDOUT, n as u64);
+    text(b" ");
+    natural(n as u64);
 }
 
 // The bits of a value or a Float after a space.
 fn bits(n: u32) {
-    io::write_all(STDOUT, b" ");
-    io::print_hex(STDOUT, n as u64, 8);
+    text(b" ");
+    pattern(n);
 }
 
 fn numbers(ns: &[u16]) {
@@ -66,11 +69,11 @@ fn show_definitions(p: &[u8])
     let mut defined = [0i32; SHOWN_FORMAT.limit];
     let d = read_definitions(p, &mut ends, &mut defined, SHOWN_FORMAT);
     let n = d.definitions;
-    io::write_all(STDOUT, b" ends");
+    text(b" ends");
     numbers(&ends[..n]);
     let m = d.items;
     if 0 < m {
-        io::write_all(STDOUT, b" value");
+        text(b" value");
         bits(ink_number::int::pattern(defined[m - 1]));
     }
 }
@@ -95,7 +98,7 @@ fn show_literal(p: &[u8], l: usize)
     requires { ⌜ Passed (now p) ⌝ }
     requires { ⌜ l < literalCount (now p) ⌝ }
 {
-    io::write_all(STDOUT, b"; literal ");
+    text(b"; literal ");
     io::print_hex(STDOUT, literal_origins(p, l, SHOWN_FORMAT), 1);
     number(literal_len(p, l, SHOWN_FORMAT));
     let mut items = [0u16; SHOWN_FORMAT.limit];
@@ -115,35 +118,26 @@ fn show_literals(p: &[u8])
     }
 }
 
+// A word, and a number or the bits of a value after it.
+fn show_number(word: &[u8], n: u8) {
+    text(word);
+    number(widen(n));
+}
+
+fn show_bits(word: &[u8], n: u32) {
+    text(word);
+    bits(n);
+}
+
 fn show_instruction(i: Instruction) {
     match i {
-        Instruction::Op(n) => {
-            io::write_all(STDOUT, b" op");
-            number(widen(n));
-        }
-        Instruction::Bool(b) => {
-            io::write_all(STDOUT, b" bool");
-            number(if b { 1 } else { 0 });
-        }
-        Instruction::Int(n) => {
-            io::write_all(STDOUT, b" int");
-            bits(ink_number::int::pattern(n));
-        }
-        Instruction::Float(n) => {
-            io::write_all(STDOUT, b" float");
-            bits(n);
-        }
-        Instruction::List(n) => {
-            io::write_all(STDOUT, b" list");
-            number(widen(n));
-        }
-        Instruction::Slot(n) => {
-            io::write_all(STDOUT, b" slot");
-            number(widen(n));
-        }
-        Instruction::Void => {
-            io::write_all(STDOUT, b" void");
-        }
+        Instruction::Op(n) => show_number(b" op", n),
+        Instruction::Bool(b) => show_number(b" bool", if b { 1 } else { 0 }),
+        Instruction::Int(n) => show_bits(b" int", ink_number::int::pattern(n)),
+        Instruction::Float(n) => show_bits(b" float", n),
+        Instruction::List(n) => show_number(b" list", n),
+        Instruction::Slot(n) => show_number(b" slot", n),
+        Instruction::Void => text(b" void"),
     }
 }
 
@@ -183,7 +177,7 @@ fn show_sheet(p: &[u8], s: usize)
     requires { ⌜ Passed (now p) ⌝ }
     requires { ⌜ s < sheetCount (now p) ⌝ }
 {
-    io::write_all(STDOUT, b"; sheet");
+    text(b"; sheet");
     let n = instruction_count(p, s);
     number(n);
     if n <= SHOWN {
@@ -205,7 +199,7 @@ fn show_sheets(p: &[u8])
 fn show(p: &[u8])
     requires { ⌜ Passed (now p) ⌝ }
 {
-    io::write_all(STDOUT, b" passed");
+    text(b" passed");
     show_definitions(p);
     show_literals(p);
     show_sheets(p);
@@ -220,15 +214,15 @@ fn report(p: &[u8]) {
             show(p);
         }
     }
-    io::write_all(STDOUT, b"\n");
+    text(b"\n");
 }
 
 // Reports on a pack after its name.
 fn report_named(s: &[u8], name: usize, after: usize, start: usize, end: usize)
     requires { ⌜ (name ≤ after) × (after ≤ length (now s)) × (start ≤ end) × (end ≤ length (now s)) ⌝ }
 {
-    io::write_all(STDOUT, &s[name..after]);
-    io::write_all(STDOUT, b":");
+    text(&s[name..after]);
+    text(b":");
     report(&s[start..end]);
 }
 

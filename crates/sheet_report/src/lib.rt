@@ -3,9 +3,12 @@
 // text cannot be written, no further sheet is run.
 use ink_value::Value;
 use machine::STACK_LIMIT;
+use output_buffer::Output;
 use pack::Checked;
 use pack_check::format::FORMAT1;
-use printing::Output;
+use printing::natural;
+use printing::refused;
+use printing::value;
 use running::Ran;
 ghost use Rattle.pack.specs.Judge.{Framed};
 
@@ -14,12 +17,14 @@ const ITEM_LIMIT: usize = FORMAT1.limit;
 
 const WORK_LIMIT: usize = STACK_LIMIT * ITEM_LIMIT;
 
+fn stopped(o: Output, out: &mut [u8], number: u8, index: usize) -> Output {
+    natural(refused(o, out, number).text(out, b" "), out, index as u64)
+}
+
 fn answer(o: Output, out: &mut [u8], r: Ran, items: &[u16], values: &[i32]) -> Output {
     match r {
-        Ran::Ended(v) => o.value(out, v, items, values),
-        Ran::Stopped { number, index } => o.refused(out, number)
-            .text(out, b" ")
-            .natural(out, index as u64),
+        Ran::Ended(v) => value(o, out, v, items, values),
+        Ran::Stopped { number, index } => stopped(o, out, number, index),
     }
 }
 
@@ -42,16 +47,19 @@ fn sheet_line(o: Output, out: &mut [u8], pack: &[u8], sheet: usize) -> Output {
         &mut items,
         &mut values,
     );
-    answer(o.natural(out, sheet as u64), out, r, &items, &values).text(out, b"\n")
+    answer(natural(o, out, sheet as u64), out, r, &items, &values).text(out, b"\n")
+}
+
+// How many sheets there are.
+fn heading(o: Output, out: &mut [u8], n: usize) -> Output {
+    natural(o.text(out, b"sheets "), out, n as u64).text(out, b"\n")
 }
 
 fn sheet_lines(o: Output, out: &mut [u8], pack: &[u8]) -> Output
     requires { ⌜ Framed (now pack) ⌝ }
 {
     let n = pack_read::sheet_count(pack);
-    let mut told = o.text(out, b"sheets ")
-        .natural(out, n as u64)
-        .text(out, b"\n");
+    let mut told = heading(o, out, n);
     let mut s = 0;
     while s < n {
         if told.failed {
@@ -63,9 +71,13 @@ fn sheet_lines(o: Output, out: &mut [u8], pack: &[u8]) -> Output
     told
 }
 
+fn turned_back(o: Output, out: &mut [u8], number: u8) -> Output {
+    refused(o.text(out, b"pack"), out, number).text(out, b"\n")
+}
+
 pub fn report(o: Output, out: &mut [u8], pack: &[u8]) -> Output {
     match pack_check::check(pack) {
         Checked::Passed => sheet_lines(o, out, pack),
-        Checked::Refused(number) => o.text(out, b"pack").refused(out, number).text(out, b"\n"),
+        Checked::Refused(number) => turned_back(o, out, number),
     }
 }

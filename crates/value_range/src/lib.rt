@@ -4,7 +4,8 @@ ghost use Prim.Native.Nat.{ℕ};
 ghost use Rattle.ink_list.specs.Entries.{room};
 ghost use Rattle.ink_list.specs.Ops.{range};
 ghost use Rattle.ink_list.specs.Slices.{Answers};
-ghost use Rattle.ink_value.specs.Convert.{entriesOf, lowerOf, upperOf};
+ghost use Rattle.ink_value.specs.Convert.{entriesOf};
+ghost use Rattle.value_conversions.specs.Convert.{lowerOf, upperOf};
 ghost use Rattle.ink_value.specs.Slices.{valIn};
 ghost use Rattle.ink_value.specs.Value.{Formed};
 
@@ -26,8 +27,8 @@ pub fn range(
 {
     let i = ink_value::start_of(a);
     let m = ink_value::len_of(a);
-    let lower = ink_value::lower_bound(b, values);
-    let upper = ink_value::upper_bound(c, values);
+    let lower = value_conversions::lower_bound(b, values);
+    let upper = value_conversions::upper_bound(c, values);
     let e = i + m;
     list_range::range(&items[i..e], &values[i..e], lower, upper, oi, ov)
 }

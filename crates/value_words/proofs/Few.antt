@@ -16,7 +16,8 @@ use Rattle.slices.proofs.Every.{and-left, and-right}
 use Rattle.ink_list.proofs.Laws.{rising-length}
 use Rattle.list_definitions.specs.Defs.{ListDefinitions}
 use Rattle.ink_value.specs.Val.{Val, bool, int, float, list, void, kindOf, codeOf}
-use Rattle.ink_value.specs.Convert.{entriesOf, truthy, asInt, asFloat, castable, converted, cast, coerceBool, coerceInt, coerceFloat}
+use Rattle.ink_value.specs.Convert.{entriesOf, truthy, asInt, asFloat}
+use Rattle.value_conversions.specs.Convert.{castable, converted, cast, coerceBool, coerceInt, coerceFloat}
 use Rattle.ink_value.specs.Value.{valOf, eachFormed, written, placed, Wf, AllWf}
 use Rattle.ink_value.specs.declared.Value.{Value}
 use Rattle.ink_value.specs.declared.Outcome.{Outcome}

@@ -8,7 +8,7 @@ use borrow.Author.Tests.{not-true, not-false, le-leb, lt-leb}
 use Rattle.ink_number.specs.Answer.{refuses}
 use Rattle.ink_list.specs.Entries.{room}
 use Rattle.slices.proofs.Every.{and-both, and-no-left, and-no-right, and-left, and-right}
-use Rattle.ink_value.specs.Convert.{cast}
+use Rattle.value_conversions.specs.Convert.{cast}
 use Rattle.ink_value.proofs.Forming.{formed-yes}
 use Rattle.ink_value.proofs.Given.{gave-is, gave-plain}
 use Rattle.pack.specs.Bodies.{decoded}

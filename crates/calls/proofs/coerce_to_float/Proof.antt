@@ -1,6 +1,6 @@
 -- `calls::coerce_to_float` meets its contract. Assumes nothing.
 use mathlib.Core.Path.{_∙_}
-use Rattle.ink_value.specs.Convert.{coerceFloat}
+use Rattle.value_conversions.specs.Convert.{coerceFloat}
 use Rattle.ink_value.specs.Value.{valOf}
 use Rattle.calls.proofs.Forms.{asked-outcome}
 use Rattle.calls.proofs.Standing.{coerces, float-plain}

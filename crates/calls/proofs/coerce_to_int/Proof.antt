@@ -1,6 +1,6 @@
 -- `calls::coerce_to_int` meets its contract. Assumes nothing.
 use mathlib.Core.Path.{_∙_}
-use Rattle.ink_value.specs.Convert.{coerceInt}
+use Rattle.value_conversions.specs.Convert.{coerceInt}
 use Rattle.ink_value.specs.Value.{valOf}
 use Rattle.calls.proofs.Forms.{asked-outcome}
 use Rattle.calls.proofs.Standing.{coerces, int-plain}

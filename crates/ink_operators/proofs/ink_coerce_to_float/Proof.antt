@@ -1,6 +1,6 @@
 -- `ink_operators::ink_coerce_to_float` meets its contract: the answer of `calls::coerce_to_float` on the operand that the words hold. Assumes nothing.
 use mathlib.Core.Path.{ap}
-use Rattle.ink_value.specs.Convert.{coerceFloat}
+use Rattle.value_conversions.specs.Convert.{coerceFloat}
 use Rattle.ink_value.specs.declared.Value.{Value}
 use Rattle.calls.specs.Call.{coerced, onPack}
 use Rattle.pack.proofs.Formats.{runnable1}

@@ -11,9 +11,6 @@ slice-aggregate-text c = search needs
 text-requires : tie.Need-text-requires
 text-requires c κs = search needs
 
-same-length : tie.Need-same-length
-same-length c = search needs
-
 returns : tie.Need-returns
 returns c = search needs
 
@@ -22,9 +19,6 @@ slice-aggregate-text-2 c = search needs
 
 text-requires-2 : tie.Need-text-requires-2
 text-requires-2 c κs = search needs
-
-same-length-2 : tie.Need-same-length-2
-same-length-2 c = search needs
 
 returns-2 : tie.Need-returns-2
 returns-2 c = search needs
@@ -56,9 +50,6 @@ shared-slice-copy-out-beyond-value c = search needs
 beyond-value-requires : tie.Need-beyond-value-requires
 beyond-value-requires c κs = search needs
 
-same-length-3 : tie.Need-same-length-3
-same-length-3 c = search needs
-
 returns-3 : tie.Need-returns-3
 returns-3 c = search needs
 
@@ -68,11 +59,9 @@ written-spec =
     (tie.spec
     slice-aggregate-text
     text-requires
-    same-length
     returns
     slice-aggregate-text-2
     text-requires-2
-    same-length-2
     returns-2
     slice-aggregate-list
     slice-aggregate-list-2
@@ -83,5 +72,4 @@ written-spec =
     mul-beyond-value
     shared-slice-copy-out-beyond-value
     beyond-value-requires
-    same-length-3
     returns-3)

@@ -2,8 +2,6 @@
 use mathlib.Core.Path.{sym, _∙_}
 use borrow.Author.Tests.{not-false}
 use Rattle.ink_list.proofs.Formed.{formed-sound}
-use native.Mathlib.Omega.{arith}
-use Rattle.ink_list.proofs.Wrote.{lent-limit}
 use borrow.Author.Needs.{needs}
 use Rattle.list_points.proofs.ranged.Statement.{statement}
 use Rattle.list_points.proofs.ranged.Tie as tie
@@ -38,26 +36,8 @@ slice-aggregate-number-2 c = search needs
 number-requires-2 : tie.Need-number-requires-2
 number-requires-2 c κs = search needs
 
-slice-aggregate-range : tie.Need-slice-aggregate-range
-slice-aggregate-range c = search needs
-
-slice-aggregate-range-2 : tie.Need-slice-aggregate-range-2
-slice-aggregate-range-2 c = search needs
-
-range-requires : tie.Need-range-requires
-range-requires c κs = lent-limit 256 257 _ _ (omega arith) (formed-sound 256 0 0 _ _ (sym (c .before .before .before .before .before .before .before .is-formed .ensures) ∙ not-false _ (c .before .before .before .before .before .before .if1 .left)) .0)
-
-slice-aggregate-result : tie.Need-slice-aggregate-result
-slice-aggregate-result c = search needs
-
-slice-aggregate-result-2 : tie.Need-slice-aggregate-result-2
-slice-aggregate-result-2 c = search needs
-
-slice-aggregate-result-3 : tie.Need-slice-aggregate-result-3
-slice-aggregate-result-3 c = search needs
-
-result-requires : tie.Need-result-requires
-result-requires c κs = search needs
+show-range-requires : tie.Need-show-range-requires
+show-range-requires c κs = formed-sound 256 0 0 _ _ (sym (c .before .before .before .before .before .is-formed .ensures) ∙ not-false _ (c .before .before .before .before .if1 .left)) .0
 
 returns-2 : tie.Need-returns-2
 returns-2 c = search needs
@@ -76,11 +56,5 @@ ranged-spec =
     number-requires
     slice-aggregate-number-2
     number-requires-2
-    slice-aggregate-range
-    slice-aggregate-range-2
-    range-requires
-    slice-aggregate-result
-    slice-aggregate-result-2
-    slice-aggregate-result-3
-    result-requires
+    show-range-requires
     returns-2)

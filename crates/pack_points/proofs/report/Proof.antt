@@ -24,11 +24,11 @@ show-requires : tie.Need-show-requires
 show-requires c κs =
     passed _ (now (c .before .before .before .before .args .p)) (c .before .before .check .result) (c .enum-told .given .1) (c .before .before .check .ensures)
 
-slice-aggregate-write-all : tie.Need-slice-aggregate-write-all
-slice-aggregate-write-all c = search needs
+slice-aggregate-text : tie.Need-slice-aggregate-text
+slice-aggregate-text c = search needs
 
-write-all-requires : tie.Need-write-all-requires
-write-all-requires c κs = search needs
+text-requires : tie.Need-text-requires
+text-requires c κs = search needs
 
 returns : tie.Need-returns
 returns c = search needs
@@ -43,6 +43,6 @@ report-spec =
     number-requires
     enum-told
     show-requires
-    slice-aggregate-write-all
-    write-all-requires
+    slice-aggregate-text
+    text-requires
     returns)

@@ -20,11 +20,11 @@ read-definitions-requires c κs =
     let t = pack-tables _ (now (c .before .before .before .args .p)) (runnable1 .narrow) (c .before .before .before .pre) in
     (runnable1 .narrow, (c .before .before .before .pre, (omega arith, omega arith)))
 
-slice-aggregate-write-all : tie.Need-slice-aggregate-write-all
-slice-aggregate-write-all c = search needs
+slice-aggregate-text : tie.Need-slice-aggregate-text
+slice-aggregate-text c = search needs
 
-write-all-requires : tie.Need-write-all-requires
-write-all-requires c κs = search needs
+text-requires : tie.Need-text-requires
+text-requires c κs = search needs
 
 array-share-prefix-ends : tie.Need-array-share-prefix-ends
 array-share-prefix-ends c =
@@ -39,11 +39,11 @@ slice-aggregate-numbers c =
 numbers-requires : tie.Need-numbers-requires
 numbers-requires c κs = search needs
 
-slice-aggregate-write-all-2 : tie.Need-slice-aggregate-write-all-2
-slice-aggregate-write-all-2 c = search needs
+slice-aggregate-text-2 : tie.Need-slice-aggregate-text-2
+slice-aggregate-text-2 c = search needs
 
-write-all-requires-2 : tie.Need-write-all-requires-2
-write-all-requires-2 c κs = search needs
+text-requires-2 : tie.Need-text-requires-2
+text-requires-2 c κs = search needs
 
 sub-pattern : tie.Need-sub-pattern
 sub-pattern c = search needs
@@ -75,13 +75,13 @@ show-definitions-spec =
     slice-aggregate-read-definitions
     slice-aggregate-read-definitions-2
     read-definitions-requires
-    slice-aggregate-write-all
-    write-all-requires
+    slice-aggregate-text
+    text-requires
     array-share-prefix-ends
     slice-aggregate-numbers
     numbers-requires
-    slice-aggregate-write-all-2
-    write-all-requires-2
+    slice-aggregate-text-2
+    text-requires-2
     sub-pattern
     mul-pattern
     array-copy-out-pattern

@@ -7,11 +7,11 @@ use borrow.Author.Needs.{needs}
 use Rattle.pack_points.proofs.show_literal.Statement.{statement}
 use Rattle.pack_points.proofs.show_literal.Tie as tie
 
-slice-aggregate-write-all : tie.Need-slice-aggregate-write-all
-slice-aggregate-write-all c = search needs
+slice-aggregate-text : tie.Need-slice-aggregate-text
+slice-aggregate-text c = search needs
 
-write-all-requires : tie.Need-write-all-requires
-write-all-requires c κs = search needs
+text-requires : tie.Need-text-requires
+text-requires c κs = search needs
 
 literal-origins-requires : tie.Need-literal-origins-requires
 literal-origins-requires c κs = search needs
@@ -53,8 +53,8 @@ pub show-literal-spec : {M : Type 1} → statement M
 show-literal-spec =
     tie.close
     (tie.spec
-    slice-aggregate-write-all
-    write-all-requires
+    slice-aggregate-text
+    text-requires
     literal-origins-requires
     print-hex-requires
     literal-len-requires

@@ -17,20 +17,8 @@ sheet-lines-requires c κs =
 enum-known-number : tie.Need-enum-known-number
 enum-known-number c = search needs
 
-slice-aggregate-text : tie.Need-slice-aggregate-text
-slice-aggregate-text c = search needs
-
-text-requires : tie.Need-text-requires
-text-requires c κs = search needs
-
-refused-requires : tie.Need-refused-requires
-refused-requires c κs = search needs
-
-slice-aggregate-text-2 : tie.Need-slice-aggregate-text-2
-slice-aggregate-text-2 c = search needs
-
-text-requires-2 : tie.Need-text-requires-2
-text-requires-2 c κs = search needs
+turned-back-requires : tie.Need-turned-back-requires
+turned-back-requires c κs = search needs
 
 same-length : tie.Need-same-length
 same-length c = search needs
@@ -52,11 +40,7 @@ report-spec =
     enum-told
     sheet-lines-requires
     enum-known-number
-    slice-aggregate-text
-    text-requires
-    refused-requires
-    slice-aggregate-text-2
-    text-requires-2
+    turned-back-requires
     same-length
     returns
     same-length-2

@@ -15,20 +15,8 @@ abbrev μ-loop : tie.MeasureT-loop
 sheet-count-requires : tie.Need-sheet-count-requires Inv-loop μ-loop
 sheet-count-requires c κs = search needs
 
-slice-aggregate-text : tie.Need-slice-aggregate-text Inv-loop μ-loop
-slice-aggregate-text c = search needs
-
-text-requires : tie.Need-text-requires Inv-loop μ-loop
-text-requires c κs = search needs
-
-natural-requires : tie.Need-natural-requires Inv-loop μ-loop
-natural-requires c κs = search needs
-
-slice-aggregate-text-2 : tie.Need-slice-aggregate-text-2 Inv-loop μ-loop
-slice-aggregate-text-2 c = search needs
-
-text-requires-2 : tie.Need-text-requires-2 Inv-loop μ-loop
-text-requires-2 c κs = search needs
+heading-requires : tie.Need-heading-requires Inv-loop μ-loop
+heading-requires c κs = search needs
 
 loop-holds : tie.Need-loop-holds Inv-loop μ-loop
 loop-holds c = search needs
@@ -64,11 +52,7 @@ sheet-lines-spec =
     Inv-loop
     μ-loop
     sheet-count-requires
-    slice-aggregate-text
-    text-requires
-    natural-requires
-    slice-aggregate-text-2
-    text-requires-2
+    heading-requires
     loop-holds
     same-length
     returns

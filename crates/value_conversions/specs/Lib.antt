@@ -1,0 +1,2 @@
+-- What the conversions answer.
+pub mod Convert
