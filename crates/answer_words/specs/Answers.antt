@@ -11,8 +11,8 @@ use Rattle.running.specs.Run.{ranTo, endAfter, Runs}
 use Rattle.running.specs.declared.Ran.{Ran}
 use Rattle.running.specs.declared.Ran.the-variants as Rn
 use Rattle.vetting.specs.Vet.{Vets}
-use Rattle.vetting.specs.declared.Vetted.{Vetted}
-use Rattle.vetting.specs.declared.Vetted.the-variants as Vet
+use Rattle.vet_program.specs.declared.Vetted.{Vetted}
+use Rattle.vet_program.specs.declared.Vetted.the-variants as Vet
 use Rattle.words_out.specs.Words.{wordsOf, Small}
 use Rattle.value_words.specs.Calls.{indexWords}
 

@@ -1,3 +1,2 @@
 -- The answers of a run and of vetting in words.
 pub mod Answers
-pub mod Slices

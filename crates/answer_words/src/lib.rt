@@ -1,11 +1,9 @@
 // The answers of a run and of vetting as a number that is returned and words that are written.
 use running::Ran;
 use value_words::number;
-use vetting::Vetted;
+use vet_program::Vetted;
 ghost use mathlib.Core.Path.{_≡_};
-ghost use Rattle.pack.specs.Format.{format1};
 ghost use Rattle.answer_words.specs.Answers.{ranNumber, ranWords, SmallRan, vettedNumber, vettedIndex};
-ghost use Rattle.answer_words.specs.Slices.{VetSaysAny};
 
 // A run's answer.
 pub fn ran(r: Ran, answer: &mut [u64; 3]) -> u32
@@ -41,13 +39,4 @@ pub fn vetted(v: Vetted, index: &mut u64) -> u32
             number(n)
         }
     }
-}
-
-// Vets a sheet of any bytes for slots of sixteen kinds.
-pub fn vet(pack: &[u8], sheet: usize, kinds: &[u8; 16], forecast: &mut [u8], index: &mut u64) -> u32
-    ensures { λ r. ⌜ VetSaysAny format1 pack sheet kinds r index forecast ⌝ }
-{
-    let codes = *kinds;
-    let verdict = vetting::vet(pack, sheet, codes, forecast);
-    vetted(verdict, index)
 }

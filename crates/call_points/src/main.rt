@@ -168,22 +168,21 @@ fn cast(s: &[u8]) {
     report(s, r, &oi, &ov);
 }
 
-fn coerced(v: Value, which: u8, items: &[u16], values: &[i32]) -> Outcome {
-    match which {
-        0 => calls::coerce_to_bool(&PACK, v, items, values),
-        1 => calls::coerce_to_int(&PACK, v, items, values),
-        _ => calls::coerce_to_float(&PACK, v, items, values),
+fn coerced(pack: &[u8], to: u8, v: Value, items: &[u16], values: &[i32]) -> Outcome {
+    match to {
+        0 => calls::coerce_to_bool(pack, v, items, values),
+        1 => calls::coerce_to_int(pack, v, items, values),
+        _ => calls::coerce_to_float(pack, v, items, values),
     }
 }
 
 // A conversion that has no result slices.
 fn coerce(s: &[u8]) {
+    let items = ITEMS;
+    let values = VALUES;
+    let r = coerced(&PACK, byte(s, WHICH), operand(s, FIRST), &items, &values);
     print_name(s);
-    show(
-        coerced(operand(s, FIRST), byte(s, WHICH), &ITEMS, &VALUES),
-        &ITEMS,
-        &VALUES,
-    );
+    show(r, &items, &values);
     text(b"\n");
 }
 

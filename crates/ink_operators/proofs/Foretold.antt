@@ -18,8 +18,8 @@ use Rattle.machine.specs.Machine.{End, ended, stopped}
 use Rattle.machine.specs.Whole.{opened, Suffices, sheetVet}
 use Rattle.machine.proofs.Numbers.{NumberedEnd, vet-numbered}
 use Rattle.vetting.specs.Vet.{Vets, forecastLimit, vetMemory}
-use Rattle.vetting.specs.declared.Vetted.{Vetted}
-use Rattle.vetting.specs.declared.Vetted.the-variants as Vet
+use Rattle.vet_program.specs.declared.Vetted.{Vetted}
+use Rattle.vet_program.specs.declared.Vetted.the-variants as Vet
 use Rattle.running.specs.Run.{runMemory, ranTo, endAfter}
 use Rattle.running.specs.declared.Ran.{Ran}
 use Rattle.run_memory.proofs.Opening.{Long}

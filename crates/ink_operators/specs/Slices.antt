@@ -4,7 +4,7 @@ use Prim.Native.Nat.{ℕ}
 use denote.Ref.{now}
 use lib.IntN.{ℤ}
 use Rattle.ink_number.specs.Answer.{Answer}
-use Rattle.slices.specs.Slices.{Slice}
+use Rattle.slices.specs.Slices.{Slice, Cell}
 use Rattle.ink_value.specs.Slices.{valIn}
 use Rattle.ink_value.specs.Val.{Val}
 use Rattle.pack.specs.declared.format.Format.{Format}
@@ -13,7 +13,7 @@ use Rattle.running.specs.Slices.{runMemoryIn}
 use Rattle.words_in.specs.Words.{slotsIn, valueAt}
 use Rattle.value_words.specs.Calls.{operandsIn}
 use Rattle.value_words.specs.Slices.{SaysIn, CallsIn}
-use Rattle.answer_words.specs.Answers.{RunSays}
+use Rattle.answer_words.specs.Answers.{RunSays, VetSays}
 use Rattle.machine.specs.Whole.{opened}
 
 -- a run of any bytes on slots that stand in words: questions 1 to 7 asked, the number n and the answer's words, and what it leaves
@@ -22,6 +22,11 @@ RunSaysAny F pack sheet slots si sv n answer wi wv ri rv =
     RunSays F (opened F (now (pack .entry)) sheet (runMemoryIn F (slotsIn (now (slots .entry))) si sv wi wv ri rv))
     sheet (map (valIn si sv) (slotsIn (now (slots .entry)))) n (now (answer .exit))
     (now (wi .entry)) (now (wi .exit)) (now (wv .entry)) (now (wv .exit)) (now (ri .entry)) (now (ri .exit)) (now (rv .entry)) (now (rv .exit))
+
+-- vetting of any bytes for kind codes: the number n, the index, and what is left in the forecast slice
+abbrev pub VetSaysAny : Format → Slice ℕ → ℕ → Slice ℕ → ℕ → Cell ℕ → Slice ℕ → Type 0
+VetSaysAny F pack sheet kinds n index f =
+    VetSays F (now (pack .entry)) sheet (now (kinds .entry)) n (now (index .exit)) (now (f .entry)) (now (f .exit))
 
 -- an operator on the operands that nine words hold, with a pack of any bytes: the number n and the answer's words, and what is left
 abbrev pub CallSaysAny : Format → Slice ℕ → ℕ → ℕ → Slice ℕ → Slice ℕ → Slice ℤ → ℕ → Slice ℕ → Slice ℕ → Slice ℤ → Type 0

@@ -12,12 +12,11 @@ ghost use Rattle.pack.specs.Read.{PackLists};
 ghost use Rattle.running.specs.Slices.{Kept};
 ghost use Rattle.value_words.specs.Calls.{numberOf};
 ghost use Rattle.word_operators.specs.Slices.{CallSays};
-ghost use Rattle.answer_words.specs.Slices.{VetSaysAny};
 ghost use Rattle.definition_tables.specs.Tables.{Passed, Ready};
 ghost use Rattle.definition_tables.specs.Slices.{ReadsAny};
 ghost use Rattle.run_ready.specs.Work.{Clear};
 ghost use Rattle.ink_operators.specs.Apply.{Applies};
-ghost use Rattle.ink_operators.specs.Slices.{RunSaysAny, CallSaysAny, CastSaysAny, CoerceSaysAny};
+ghost use Rattle.ink_operators.specs.Slices.{RunSaysAny, VetSaysAny, CallSaysAny, CastSaysAny, CoerceSaysAny};
 
 // Questions 1 to 5 of a pack: 0, or the number of the first no.
 #[no_mangle]
@@ -41,7 +40,9 @@ pub extern "C" fn ink_vet(
 ) -> u32
     ensures { λ r. ⌜ VetSaysAny format1 pack sheet kinds r index forecast ⌝ }
 {
-    answer_words::vet(pack, sheet, kinds, forecast, index)
+    let codes = *kinds;
+    let vetted = vetting::vet(pack, sheet, codes, forecast);
+    answer_words::vetted(vetted, index)
 }
 
 // Runs a sheet of any bytes.

@@ -30,7 +30,6 @@ use Rattle.running.specs.declared.Ran.{Ran}
 use Rattle.operating.specs.Stacked.{workLimit}
 use Rattle.running.specs.declared.Ran.the-variants as Rn
 use Rattle.run_memory.proofs.Forming.{each-at}
-use Rattle.run_checked.proofs.Ending.{ran-stopped}
 
 -- ---- the answer of questions 1 to 7
 
@@ -38,7 +37,7 @@ pub runs-stopped : {F : Format} (a : Answer Pack) (q s : ℕ) (slots : List Val)
     → Runs F a s slots (Rn.Stopped q 0) wi wi wv wv ri ri rv rv
 runs-stopped {F} a q s slots wi wv ri rv e =
     subst (λ (x : Answer Pack). Runs F x s slots (Rn.Stopped q 0) wi wi wv wv ri ri rv rv) (sym e)
-    (record { ran = ran-stopped _ q 0 ri rv refl; items-left = refl; values-left = refl })
+    (record { ran = record { end-is = refl; answered = refl; items-out = refl; values-out = refl }; items-left = refl; values-left = refl })
 
 pub runs-is : {F : Format} (a b : Answer Pack) (s : ℕ) (slots : List Val) (r : Ran) (wi wi′ : List ℕ) (wv wv′ : List ℤ) (ri ri′ : List ℕ) (rv rv′ : List ℤ) → a ≡ b
     → Runs F b s slots r wi wi′ wv wv′ ri ri′ rv rv′ → Runs F a s slots r wi wi′ wv wv′ ri ri′ rv rv′

@@ -12,9 +12,10 @@ use Rattle.pack.specs.declared.format.Format.{Format}
 use Rattle.machine.specs.Foretold.{StopsByValue, Foretold}
 use Rattle.machine.specs.Machine.{End, ended, stopped, Run}
 use Rattle.machine.specs.Whole.{opened, countOf, sheetRun}
-use Rattle.vetting.specs.Vet.{Vets, verdictOf, CountIs, vetMemory}
-use Rattle.vetting.specs.declared.Vetted.{Vetted}
-use Rattle.vetting.specs.declared.Vetted.the-variants as Vet
+use Rattle.vetting.specs.Vet.{Vets, CountIs, vetMemory}
+use Rattle.vet_program.specs.Ending.{verdictOf}
+use Rattle.vet_program.specs.declared.Vetted.{Vetted}
+use Rattle.vet_program.specs.declared.Vetted.the-variants as Vet
 use Rattle.running.specs.Run.{runMemory, ranTo, Runs}
 use Rattle.running.specs.declared.Ran.{Ran}
 use Rattle.vet_and_run.specs.Both.{StoppedByValue, ForetoldAnswer, Both}

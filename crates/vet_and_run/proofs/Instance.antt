@@ -30,9 +30,10 @@ use Rattle.machine.specs.Foretold.{passed, verdict}
 use Rattle.machine.specs.Machine.{ended, stopped, step, runFrom, run, vet}
 use Rattle.machine.specs.Whole.{opened, Suffices, started, countOf}
 use Rattle.machine.proofs.Whole.{opened-all}
-use Rattle.vetting.specs.Vet.{forecastLimit, verdictOf, CountIs, vetMemory}
-use Rattle.vetting.specs.declared.Vetted.{Vetted}
-use Rattle.vetting.specs.declared.Vetted.the-variants as Vet
+use Rattle.vetting.specs.Vet.{forecastLimit, CountIs, vetMemory}
+use Rattle.vet_program.specs.Ending.{verdictOf}
+use Rattle.vet_program.specs.declared.Vetted.{Vetted}
+use Rattle.vet_program.specs.declared.Vetted.the-variants as Vet
 use Rattle.operating.specs.Stacked.{workLimit}
 use Rattle.running.specs.Run.{runMemory, ranTo, endAfter}
 use Rattle.running.specs.declared.Ran.the-variants as Rn

@@ -17,7 +17,7 @@ use Rattle.machine.specs.Machine.{vet}
 use Rattle.machine.specs.Whole.{opened, started}
 use Rattle.machine.proofs.Whole.{opened-six}
 use Rattle.vetting.specs.Vet.{Vets, vetMemory}
-use Rattle.vetting.specs.declared.Vetted.the-variants as Vet
+use Rattle.vet_program.specs.declared.Vetted.the-variants as Vet
 use Rattle.running.specs.Run.{Runs}
 use Rattle.running.specs.declared.Ran.{Ran}
 

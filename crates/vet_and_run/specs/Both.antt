@@ -15,9 +15,10 @@ use Rattle.pack.specs.Bodies.{Pack}
 use Rattle.pack.specs.declared.format.Format.{Format}
 use Rattle.machine.specs.Foretold.{ByValue, Foretold}
 use Rattle.machine.specs.Whole.{opened, Suffices, countOf, sheetRun}
-use Rattle.vetting.specs.Vet.{Vets, verdictOf, vetMemory}
-use Rattle.vetting.specs.declared.Vetted.{Vetted}
-use Rattle.vetting.specs.declared.Vetted.the-variants as Vet
+use Rattle.vetting.specs.Vet.{Vets, vetMemory}
+use Rattle.vet_program.specs.Ending.{verdictOf}
+use Rattle.vet_program.specs.declared.Vetted.{Vetted}
+use Rattle.vet_program.specs.declared.Vetted.the-variants as Vet
 use Rattle.running.specs.Run.{runMemory, Runs}
 use Rattle.running.specs.declared.Ran.{Ran}
 use Rattle.running.specs.declared.Ran.the-variants as Rn

@@ -1,7 +1,7 @@
 // Vetting and a run of one sheet, one after the other.
 use ink_value::Value;
 use running::Ran;
-use vetting::Vetted;
+use vet_program::Vetted;
 ghost use Rattle.pack.specs.Format.{format1};
 ghost use Rattle.vet_and_run.specs.Both.{BothIn};
 

@@ -1,4 +1,4 @@
--- What the end of a sheet on kinds stands for, and the forecast that is then written. Assumes nothing.
+-- What vetting's answer stands for, and the forecast that is then written. Assumes nothing.
 use mathlib.Core.Path.{_≡_}
 use mathlib.Core.List.{List}
 use Prim.Native.Nat.{ℕ, _≤_}
@@ -6,15 +6,15 @@ use lib.ListN.{length}
 use Rattle.ink_value.specs.Val.{Kind}
 use Rattle.pack.specs.Format.{instructionLimit}
 use Rattle.machine.specs.Foretold.{Verdict, passed, turned, Begins}
-use Rattle.vet_program.specs.declared.KindEnd.{KindEnd}
-use Rattle.vet_program.specs.declared.KindEnd.the-variants as Is
+use Rattle.vet_program.specs.declared.Vetted.{Vetted}
+use Rattle.vet_program.specs.declared.Vetted.the-variants as Is
 
--- the verdict that an end stands for
-abbrev pub verdictAt : KindEnd → Verdict
-verdictAt (Is.Passed n) = passed
-verdictAt (Is.Refused r k) = turned r k
+-- the verdict that an answer stands for
+abbrev pub verdictOf : Vetted → Verdict
+verdictOf (Is.Passed n) = passed
+verdictOf (Is.Refused r k) = turned r k
 
 -- where it passed, the array begins with the forecast of the stacks
-abbrev pub Forecasts : KindEnd → List ℕ → List (List Kind) → Type 0
+abbrev pub Forecasts : Vetted → List ℕ → List (List Kind) → Type 0
 Forecasts (Is.Passed n) f sts = (length sts ≡ n) × (n ≤ instructionLimit) × Begins f sts
 Forecasts (Is.Refused r k) f sts = Unit {0}

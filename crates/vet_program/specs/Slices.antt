@@ -9,12 +9,12 @@ use Rattle.ink_value.specs.Val.{kindAt}
 use Rattle.pack.specs.Instruction.{Instr}
 use Rattle.machine.specs.Foretold.{verdict}
 use Rattle.machine.specs.Machine.{vet}
-use Rattle.vet_program.specs.Ending.{verdictAt, Forecasts}
-use Rattle.vet_program.specs.declared.KindEnd.{KindEnd}
+use Rattle.vet_program.specs.Ending.{verdictOf, Forecasts}
+use Rattle.vet_program.specs.declared.Vetted.{Vetted}
 
 -- the end of a program, and where it passed the array begins with the forecast
-abbrev pub ForecastsIn : List Instr → List ℕ → KindEnd → Slice ℕ → Type 0
+abbrev pub ForecastsIn : List Instr → List ℕ → Vetted → Slice ℕ → Type 0
 ForecastsIn program codes v out =
-    (verdictAt v ≡ verdict (vet program (map kindAt codes) .end))
+    (verdictOf v ≡ verdict (vet program (map kindAt codes) .end))
     × Forecasts v (now (out .exit)) (vet program (map kindAt codes) .stacks)
     × (length (now (out .exit)) ≡ 2048)

@@ -6,15 +6,15 @@ ghost use mathlib.Core.Path.{_≡_};
 ghost use mathlib.Core.Bool.{true};
 ghost use Prim.Native.Nat.{_<_};
 ghost use lib.ListN.{length};
-ghost use Rattle.operator_kinds.specs.Kinds.{Table};
+ghost use Rattle.kind_table.specs.Table.{Table};
 ghost use Rattle.pack.specs.Contents.{sheetCount};
 ghost use Rattle.pack.specs.Judge.{question5, Placed};
 ghost use Rattle.pack.specs.Read.{program};
 ghost use Rattle.vet_steps.specs.Step.{Codes};
 ghost use Rattle.vet_program.specs.Slices.{ForecastsIn};
 
-// How a sheet ends on kinds: passed, with the count of instructions; or the number of the first no, and its instruction's index.
-pub enum KindEnd {
+// Vetting's answer: passed, with the count of instructions; or the number of the first no, and its instruction's index.
+pub enum Vetted {
     Passed { count: usize },
     Refused { number: u8, index: usize },
 }
@@ -26,7 +26,7 @@ pub fn vet_into(
     kinds: [u8; 16],
     table: &[[u8; PAIRS]; OPERATORS],
     out: &mut [u8; 2048],
-) -> KindEnd
+) -> Vetted
     requires { ⌜ (Placed (now pack) × (question5 (now pack) ≡ true)) × (sheet < sheetCount (now pack)) ⌝ }
     requires { ⌜ (length (now out) ≡ 2048) × Codes kinds × Table (now table) ⌝ }
     ensures { λ r. ⌜ ForecastsIn (program (now (pack .entry)) sheet) kinds r out ⌝ }
@@ -51,14 +51,14 @@ pub fn vet_into(
                 i += 1;
             }
             KindStep::No(number) => {
-                return KindEnd::Refused { number, index: i };
+                return Vetted::Refused { number, index: i };
             }
         }
     }
     if n == 1 {
-        KindEnd::Passed { count: i }
+        Vetted::Passed { count: i }
     } else {
-        KindEnd::Refused {
+        Vetted::Refused {
             number: 17,
             index: i,
         }

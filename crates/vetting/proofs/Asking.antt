@@ -20,8 +20,8 @@ use Rattle.pack.proofs.Judged.{accepted, passed, turned}
 use Rattle.pack.proofs.Programs.{sheets-long}
 use Rattle.machine.proofs.Whole.{opened-refused, opened-six, opened-seven, opened-all}
 use Rattle.vetting.specs.Vet.{vetMemory, allCodes, forecastLimit, VetsProgram, Vets}
-use Rattle.vetting.specs.declared.Vetted.{Vetted}
-use Rattle.vetting.specs.declared.Vetted.the-variants as Is
+use Rattle.vet_program.specs.declared.Vetted.{Vetted}
+use Rattle.vet_program.specs.declared.Vetted.the-variants as Is
 use Rattle.vetting.proofs.Written.{stops, goes}
 
 module _ (F : Format) (p : List ℕ) (c : Checked) (e : checked c (decoded F p) ≡ judge F p) where

@@ -23,9 +23,10 @@ use Rattle.machine.specs.Foretold.{Verdict, passed, turned, verdict, forecast, 
 use Rattle.operator_kinds.specs.Kinds.{kindApply}
 use Rattle.machine.proofs.Demand.{whole-length}
 use Rattle.machine.proofs.Whole.{demand3-whole}
-use Rattle.vetting.specs.Vet.{vetMemory, verdictOf, CountIs, forecastAfter, Vets, VetsProgram}
-use Rattle.vetting.specs.declared.Vetted.{Vetted}
-use Rattle.vetting.specs.declared.Vetted.the-variants as Is
+use Rattle.vetting.specs.Vet.{vetMemory, CountIs, forecastAfter, Vets, VetsProgram}
+use Rattle.vet_program.specs.Ending.{verdictOf}
+use Rattle.vet_program.specs.declared.Vetted.{Vetted}
+use Rattle.vet_program.specs.declared.Vetted.the-variants as Is
 
 -- ---- one byte more
 

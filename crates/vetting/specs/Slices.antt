@@ -7,7 +7,7 @@ use Rattle.slices.specs.Slices.{Slice}
 use Rattle.pack.specs.Instruction.{Instr}
 use Rattle.pack.specs.declared.format.Format.{Format}
 use Rattle.vetting.specs.Vet.{VetsProgram, Vets}
-use Rattle.vetting.specs.declared.Vetted.{Vetted}
+use Rattle.vet_program.specs.declared.Vetted.{Vetted}
 
 -- the answer of a program that question 7 let through, and what it leaves in the forecast slice
 abbrev pub VetsProgramIn : List Instr → List ℕ → Vetted → Slice ℕ → Type 0

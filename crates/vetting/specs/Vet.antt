@@ -15,8 +15,9 @@ use Rattle.pack.specs.declared.format.Format.{Format}
 use Rattle.machine.specs.Machine.{vet}
 use Rattle.machine.specs.Whole.{opened, Suffices, countOf, sheetRun, sheetVet}
 use Rattle.machine.specs.Foretold.{Verdict, passed, turned, verdict, forecast, Foretold}
-use Rattle.vetting.specs.declared.Vetted.{Vetted}
-use Rattle.vetting.specs.declared.Vetted.the-variants as Vet
+use Rattle.vet_program.specs.Ending.{verdictOf}
+use Rattle.vet_program.specs.declared.Vetted.{Vetted}
+use Rattle.vet_program.specs.declared.Vetted.the-variants as Vet
 
 -- ---- question 7
 
@@ -34,11 +35,6 @@ unfoldable pub vetMemory : List ℕ → List ℕ → Pack → Bool
 vetMemory codes f d = allCodes codes and leb forecastLimit (length f)
 
 -- ---- the answer
-
--- the verdict that an answer stands for
-abbrev pub verdictOf : Vetted → Verdict
-verdictOf (Vet.Passed n) = passed
-verdictOf (Vet.Refused r k) = turned r k
 
 -- where it passed, the count of instructions
 abbrev pub CountIs : Vetted → ℕ → Type 0

@@ -1,6 +1,6 @@
 // Vetting: the questions of any bytes, and a sheet's answer and forecast.
 use pack::Checked;
-use vet_program::KindEnd;
+use vet_program::Vetted;
 ghost use mathlib.Core.Path.{_≡_};
 ghost use mathlib.Core.Bool.{true};
 ghost use Prim.Native.Nat.{_<_, _≤_};
@@ -13,12 +13,6 @@ ghost use Rattle.pack.specs.Read.{program};
 ghost use Rattle.vet_steps.specs.Step.{Codes};
 ghost use Rattle.vetting.specs.Vet.{allCodes};
 ghost use Rattle.vetting.specs.Slices.{VetsProgramIn, VetsAny};
-
-// Vetting's answer: passed, with the count of instructions; or the number of the first no, and its instruction's index.
-pub enum Vetted {
-    Passed { count: usize },
-    Refused { number: u8, index: usize },
-}
 
 // The bytes that a forecast may take: two for each instruction.
 const FORECAST_LIMIT: usize = 2048;
@@ -59,11 +53,11 @@ fn vet_sheet(pack: &[u8], sheet: usize, kinds: [u8; 16], forecast: &mut [u8]) ->
     let table = kind_table::table();
     let answer = vet_program::vet_into(pack, sheet, kinds, &table, &mut bytes);
     match answer {
-        KindEnd::Passed { count } => {
+        Vetted::Passed { count } => {
             write_first(&bytes, forecast, 2 * count);
             Vetted::Passed { count }
         }
-        KindEnd::Refused { number, index } => Vetted::Refused { number, index },
+        Vetted::Refused { number, index } => Vetted::Refused { number, index },
     }
 }
 
