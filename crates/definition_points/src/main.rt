@@ -23,10 +23,12 @@ use list_cases::read::SECOND;
 use list_cases::read::TITLE;
 use list_cases::read::WHAT;
 use list_cases::read::byte;
+use list_cases::read::items_of;
 use list_cases::read::place;
 use list_cases::read::pool;
 use list_cases::read::title;
 use list_cases::read::value;
+use list_cases::read::values_of;
 use list_cases::result;
 use list_definitions::all;
 use list_definitions::invert;
@@ -123,49 +125,18 @@ fn by_definitions(ai: &[u16], av: &[i32], set: u64, by: i32, ends: &[u16], defin
     show_decrement(ai, av, by, set, ends, defined);
 }
 
-// A case whose list is at hand.
-fn with_list(s: &[u8], ai: &[u16], av: &[i32], items: &[u16], values: &[i32]) {
-    let from = place(s, SECOND);
-    let ends_to = from + place(s, SECOND + 2);
-    let defined_to = from + place(s, SECOND + 4);
-    if items.len() < ends_to {
-        return;
-    }
-    if values.len() < defined_to {
-        return;
-    }
-    let by = value(s, NUMBER);
-    let set = place(s, OTHER_NUMBER) as u64;
-    by_definitions(
-        ai,
-        av,
-        set,
-        by,
-        &items[from..ends_to],
-        &values[from..defined_to],
-    );
-}
-
 fn work(s: &[u8], items: &[u16], values: &[i32]) {
     if byte(s, WHAT) == TITLE {
         title(s);
         return;
     }
-    let from = place(s, FIRST);
-    let items_to = from + place(s, FIRST + 2);
-    let values_to = from + place(s, FIRST + 4);
-    if items.len() < items_to {
-        return;
-    }
-    if values.len() < values_to {
-        return;
-    }
-    with_list(
-        s,
-        &items[from..items_to],
-        &values[from..values_to],
-        items,
-        values,
+    by_definitions(
+        items_of(s, FIRST, items),
+        values_of(s, FIRST, values),
+        place(s, OTHER_NUMBER) as u64,
+        value(s, NUMBER),
+        items_of(s, SECOND, items),
+        values_of(s, SECOND, values),
     );
 }
 

@@ -74,6 +74,29 @@ pub fn pool(s: &[u8], items: &mut [u16], values: &mut [i32]) {
     }
 }
 
+// A list of a case, which part `at` has: its items and its values in the pool, none where the pool does not go so far.
+pub fn items_of<'a>(s: &[u8], at: usize, items: &'a [u16]) -> &'a [u16]
+    requires { ⌜ at ≤ 65530 ⌝ }
+{
+    let from = place(s, at);
+    let to = from + place(s, at + 2);
+    if items.len() < to {
+        return &items[..0];
+    }
+    &items[from..to]
+}
+
+pub fn values_of<'a>(s: &[u8], at: usize, values: &'a [i32]) -> &'a [i32]
+    requires { ⌜ at ≤ 65530 ⌝ }
+{
+    let from = place(s, at);
+    let to = from + place(s, at + 4);
+    if values.len() < to {
+        return &values[..0];
+    }
+    &values[from..to]
+}
+
 pub fn title(s: &[u8]) {
     let end = 2 + number(s, 1);
     if end <= s.len() {

@@ -22,10 +22,11 @@ use list_cases::read::SECOND;
 use list_cases::read::TITLE;
 use list_cases::read::WHAT;
 use list_cases::read::byte;
-use list_cases::read::place;
+use list_cases::read::items_of;
 use list_cases::read::pool;
 use list_cases::read::title;
 use list_cases::read::value;
+use list_cases::read::values_of;
 use list_cases::result;
 use list_cases::test;
 use list_comparisons::greater;
@@ -158,49 +159,25 @@ fn ranged(ai: &[u16], av: &[i32], lower: i32, upper: i32) {
     show_range(ai, av, lower, upper);
 }
 
-// A case of two lists, of which the first is at hand.
-fn with_second(s: &[u8], ai: &[u16], av: &[i32], items: &[u16], values: &[i32]) {
-    let from = place(s, SECOND);
-    let items_to = from + place(s, SECOND + 2);
-    let values_to = from + place(s, SECOND + 4);
-    if items.len() < items_to {
-        return;
-    }
-    if values.len() < values_to {
-        return;
-    }
-    pair(ai, av, &items[from..items_to], &values[from..values_to]);
-}
+// What a case is: two lists, one, or else a list with a range's bounds.
+const PAIR: u8 = 0;
 
-fn with_first(s: &[u8], ai: &[u16], av: &[i32], items: &[u16], values: &[i32]) {
-    match byte(s, WHAT) {
-        0 => with_second(s, ai, av, items, values),
-        1 => single(ai, av),
-        _ => ranged(ai, av, value(s, NUMBER), value(s, OTHER_NUMBER)),
-    }
-}
+const SINGLE: u8 = 1;
 
 fn work(s: &[u8], items: &[u16], values: &[i32]) {
-    if byte(s, WHAT) == TITLE {
-        title(s);
-        return;
+    let ai = items_of(s, FIRST, items);
+    let av = values_of(s, FIRST, values);
+    match byte(s, WHAT) {
+        TITLE => title(s),
+        PAIR => pair(
+            ai,
+            av,
+            items_of(s, SECOND, items),
+            values_of(s, SECOND, values),
+        ),
+        SINGLE => single(ai, av),
+        _ => ranged(ai, av, value(s, NUMBER), value(s, OTHER_NUMBER)),
     }
-    let from = place(s, FIRST);
-    let items_to = from + place(s, FIRST + 2);
-    let values_to = from + place(s, FIRST + 4);
-    if items.len() < items_to {
-        return;
-    }
-    if values.len() < values_to {
-        return;
-    }
-    with_first(
-        s,
-        &items[from..items_to],
-        &values[from..values_to],
-        items,
-        values,
-    );
 }
 
 fn work_all(s: &[u8], items: &[u16], values: &[i32]) {
