@@ -7,7 +7,7 @@ use Rattle.kind_table.specs.declared.KindAnswer.{KindAnswer}
 use Rattle.kind_table.specs.declared.KindAnswer.the-variants as Ans
 use Rattle.ink_value.specs.Val.{Kind, kindAt}
 use Rattle.ink_number.specs.Answer.{Answer, gives, refuses}
-use Rattle.operator_kinds.specs.Op.{opRange}
+use Rattle.op.specs.Op.{opRange}
 use Rattle.operator_kinds.specs.Kinds.{kindEntry, decoded}
 
 -- the table has for each operator its 25 answers, by the left kind and then by the right

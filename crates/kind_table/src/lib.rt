@@ -2,7 +2,7 @@
 ghost use mathlib.Core.Path.{_≡_};
 ghost use Prim.Native.Nat.{_<_};
 ghost use Rattle.ink_value.specs.Val.{kindAt};
-ghost use Rattle.operator_kinds.specs.Op.{opRange};
+ghost use Rattle.op.specs.Op.{opRange};
 ghost use Rattle.operator_kinds.specs.Kinds.{kindEntry, decoded, kindRange};
 ghost use Rattle.kind_table.specs.Table.{Table, kindAnswer, Coded};
 

@@ -27,7 +27,7 @@ use Rattle.list_definitions.proofs.DefLaws.{invert-length, all-is}
 use Rattle.list_definitions.proofs.TargetLaws.{retarget-length}
 use Rattle.ink_list.proofs.Wrote.{read-items, union-rising, sift-rising, ascends-limit}
 use Rattle.list_definitions.proofs.AnswersFormed.{invert-rising, retarget-rising}
-use Rattle.operator_kinds.specs.Op.{opAdd, opSubtract, opIntersect, opListMin, opListMax, opAll, opInvert}
+use Rattle.op.specs.Op.{opAdd, opSubtract, opIntersect, opListMin, opListMax, opAll, opInvert}
 use Rattle.ink_value.specs.declared.Value.the-variants as Is
 use Rattle.ink_value.specs.declared.Outcome.the-variants as Out
 

@@ -7,7 +7,7 @@ use denote.Ref.{now}
 use lib.Dec.{eqb, leb}
 use lib.IntN.{ℤ}
 use lib.ListN.{length}
-use Rattle.operator_kinds.specs.Op.{opAdd, opSubtract, opListMin, opListMax, opAll, opInvert}
+use Rattle.op.specs.Op.{opAdd, opSubtract, opListMin, opListMax, opAll, opInvert}
 use Rattle.operator_kinds.specs.Kinds.{isList}
 use Rattle.ink_number.specs.Answer.{Answer, gives, refuses}
 use Rattle.slices.specs.Slices.{Slice}
@@ -17,7 +17,7 @@ use Rattle.list_definitions.specs.Defs.{ListDefinitions, Tables, originsOf, all
 use Rattle.list_pairs.specs.Pairs.{mergeL}
 use Rattle.ink_value.specs.Val.{Val, list, kindOf}
 use Rattle.ink_value.specs.Convert.{asInt, entriesOf, originsIn}
-use Rattle.value_conversions.specs.Convert.{lowerOf, upperOf}
+use Rattle.value_range.specs.Bounds.{lowerOf, upperOf}
 
 -- ---- results that are Lists
 

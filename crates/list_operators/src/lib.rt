@@ -2,7 +2,6 @@
 use ink_value::Outcome;
 use ink_value::Value;
 use ink_value::kind_code;
-use operator_kinds::op;
 ghost use mathlib.Core.Path.{_≡_};
 ghost use mathlib.Core.List.{[], _∷_};
 ghost use Prim.Native.Nat.{_≤_};

@@ -3,7 +3,7 @@ use mathlib.Core.Bool.{Bool, false, cond}
 use mathlib.Core.List.{List, []}
 use Prim.Native.Nat.{ℕ}
 use lib.Dec.{eqb}
-use Rattle.operator_kinds.specs.Op.{opAdd, opSubtract, opGreater, opLess, opGreaterThanOrEquals, opLessThanOrEquals, opHas, opHasnt, opIntersect}
+use Rattle.op.specs.Op.{opAdd, opSubtract, opGreater, opLess, opGreaterThanOrEquals, opLessThanOrEquals, opHas, opHasnt, opIntersect}
 use Rattle.ink_list.specs.Entries.{Entry, items, values}
 use Rattle.ink_list.specs.Ops.{union, without, intersect, has, hasnt, greater, greaterOrEquals, less, lessOrEquals}
 

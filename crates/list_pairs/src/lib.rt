@@ -1,5 +1,4 @@
 // The operators on the entries of two lists: tests, and Add, Subtract and Intersect.
-use operator_kinds::op;
 ghost use mathlib.Core.Path.{_≡_};
 ghost use Prim.Native.Nat.{ℕ};
 ghost use Rattle.ink_list.specs.Entries.{itemNumbers, room, Rising, Lent};

@@ -9,7 +9,7 @@ use lib.Dec.{eqb, ltb}
 use lib.ListN.{length}
 use Rattle.ink_number.specs.Answer.{Answer, gives, refuses, ask, andThen}
 use Rattle.ink_value.specs.Val.{Kind, listK}
-use Rattle.operator_kinds.specs.Op.{opEqual, opNotEquals}
+use Rattle.op.specs.Op.{opEqual, opNotEquals}
 use Rattle.operator_kinds.specs.Kinds.{known, arity, isList, isVoid, common, available, resultKind, mixed, mixes, kindUnary, kindBinary, kindRange, kindApply}
 use Rattle.pack.specs.Bodies.{Pack, decoded}
 use Rattle.pack.specs.Instruction.{Instr, op, push}

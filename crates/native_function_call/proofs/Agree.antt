@@ -14,7 +14,7 @@ use Rattle.operator_kinds.specs.Kinds.{kindApply}
 use Rattle.ink_value.specs.Convert.{asInt}
 use Rattle.number_operators.specs.Numbers.{arithZ}
 use Rattle.ink_number.specs.Int.{canDivide, quotient, remainder}
-use Rattle.operator_kinds.specs.Op.{opAdd, opSubtract, opDivide, opMultiply, opMod, opMin, opMax}
+use Rattle.op.specs.Op.{opAdd, opSubtract, opDivide, opMultiply, opMod, opMin, opMax}
 use Rattle.list_definitions.specs.Defs.{ListDefinitions}
 use Rattle.native_function_call.specs.Apply.{ofInt, whole, compute, guarded, applyOp, Agree}
 use Rattle.list_operators.specs.Lists.{entriesFor, listed}

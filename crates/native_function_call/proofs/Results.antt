@@ -11,7 +11,7 @@ use Rattle.ink_value.specs.Val.{Val, list, Kind, boolK, intK, floatK, listK, vo
 use Rattle.ink_number.specs.Answer.{Answer, gives, refuses}
 use Rattle.operator_kinds.specs.Kinds.{kindApply, isList}
 use Rattle.ink_value.specs.Convert.{asInt, entriesOf, originsIn}
-use Rattle.value_conversions.specs.Convert.{lowerOf, upperOf}
+use Rattle.value_range.specs.Bounds.{lowerOf, upperOf}
 use Rattle.list_definitions.specs.Defs.{ListDefinitions}
 use Rattle.list_pairs.specs.Pairs.{mergeL}
 use Rattle.list_operators.specs.Lists.{shiftL, listBinary, entriesFor, originsAfter, listed, listAnswer}

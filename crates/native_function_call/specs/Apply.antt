@@ -7,7 +7,7 @@ use Prim.Native.Nat.{ℕ}
 use lib.IntN.{ℤ, pos}
 use lib.Ieee.{Float}
 use lib.Dec.{eqb}
-use Rattle.operator_kinds.specs.Op.{opAnd, opOr}
+use Rattle.op.specs.Op.{opAnd, opOr}
 use Rattle.operator_kinds.specs.Kinds.{known, arity, kindApply, common, isList}
 use Rattle.ink_number.specs.Answer.{Answer, gives, refuses, ask}
 use Rattle.ink_float.specs.Real.{ofInt32}

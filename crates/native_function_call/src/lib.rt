@@ -6,7 +6,6 @@ use ink_value::Value;
 use ink_value::kind_code;
 use number_operators::both;
 use number_operators::either;
-use operator_kinds::op;
 ghost use mathlib.Core.Path.{_≡_};
 ghost use mathlib.Core.List.{List, [], _∷_};
 ghost use Prim.Native.Nat.{ℕ, _≤_, _+_, max};

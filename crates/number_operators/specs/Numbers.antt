@@ -7,7 +7,7 @@ use lib.IntN.{ℤ, pos, negℤ, _+ℤ_, _-ℤ_, _*ℤ_}
 use lib.ListN.{length}
 use lib.Signed.{ltZ, leZ}
 use lib.Ieee.{Float}
-use Rattle.operator_kinds.specs.Op.{opAdd, opSubtract, opDivide, opMultiply, opMod, opNegate, opEqual, opGreater, opLess, opGreaterThanOrEquals, opLessThanOrEquals, opNotEquals, opNot, opAnd, opOr, opMin, opMax, opInt, opFloat, opCount, opValueOfList}
+use Rattle.op.specs.Op.{opAdd, opSubtract, opDivide, opMultiply, opMod, opNegate, opEqual, opGreater, opLess, opGreaterThanOrEquals, opLessThanOrEquals, opNotEquals, opNot, opAnd, opOr, opMin, opMax, opInt, opFloat, opCount, opValueOfList}
 use Rattle.operator_kinds.specs.Kinds.{common}
 use Rattle.ink_number.specs.Answer.{Answer, gives}
 use Rattle.ink_number.specs.Int.{wrap, quotient, remainder, minZ, maxZ, eqZ, truthyZ}

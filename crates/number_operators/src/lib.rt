@@ -4,7 +4,6 @@ use ink_float::float;
 use ink_number::int;
 use ink_number::int::Divided;
 use ink_value::kind_code;
-use operator_kinds::op;
 ghost use mathlib.Core.Path.{_≡_};
 ghost use mathlib.Core.Bool.{not, _&&_, _||_};
 ghost use lib.Dec.{eqb};

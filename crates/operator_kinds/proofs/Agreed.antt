@@ -10,7 +10,7 @@ use Rattle.slices.proofs.Every.{every-at, not-both}
 use Rattle.ink_value.specs.Val.{Kind, boolK, intK, floatK, listK, voidK, kindAt, codeOf}
 use Rattle.ink_number.specs.Answer.{Answer, gives, refuses}
 use Rattle.operator_kinds.specs.Kinds.{kindEntry, operandCount, decoded, bitsOf}
-use Rattle.operator_kinds.specs.Op.{opEqual, opNotEquals}
+use Rattle.op.specs.Op.{opEqual, opNotEquals}
 
 abbrev pub same : Answer Kind → Answer Kind → Bool
 same (gives k) (gives j) = eqb (codeOf k) (codeOf j)

@@ -4,7 +4,7 @@ use mathlib.Core.List.{List, [], _∷_}
 use mathlib.Core.Path.{_≡_}
 use Prim.Native.Nat.{ℕ, max, _<_, _≤_, _*_, _/_, _%_, _^_}
 use lib.Dec.{eqb, leb, ltb}
-use Rattle.operator_kinds.specs.Op.{opSubtract, opNegate, opEqual, opNotEquals, opNot, opAnd, opOr, opMin, opMax, opInt, opFloat, opHas, opHasnt, opListMin, opCount, opValueOfList, opInvert, opRange}
+use Rattle.op.specs.Op.{opSubtract, opNegate, opEqual, opNotEquals, opNot, opAnd, opOr, opMin, opMax, opInt, opFloat, opHas, opHasnt, opListMin, opCount, opValueOfList, opInvert, opRange}
 use Rattle.ink_value.specs.Val.{Kind, boolK, intK, floatK, listK, voidK, codeOf, kindAt}
 use Rattle.ink_number.specs.Answer.{Answer, gives, refuses, ask}
 

@@ -1,3 +1,2 @@
 -- What the operators answer on kinds.
-pub mod Op
 pub mod Kinds

@@ -1,6 +1,4 @@
 // The operators on kinds: what each answers, worked out, with range beside them, and how many operands an operator takes.
-pub mod op;
-
 use ink_value::kind_code;
 ghost use mathlib.Core.Path.{_≡_};
 ghost use mathlib.Core.List.{[], _∷_};
@@ -9,7 +7,7 @@ ghost use Prim.Native.Nat.{_<_, _≤_, max};
 ghost use lib.Dec.{eqb};
 ghost use lib.ListN.{take};
 ghost use Rattle.ink_value.specs.Val.{kindAt, intK, listK, codeOf};
-ghost use Rattle.operator_kinds.specs.Op.{opRange};
+ghost use Rattle.op.specs.Op.{opRange};
 ghost use Rattle.operator_kinds.specs.Kinds.{kindEntry, decoded, operandCount, kindRange, bitsOf, KindsGiven};
 
 // The higher of two kind codes.

@@ -1,31 +1,12 @@
--- A value as a bound of range; `cast` and the three `coerce_to_`. Assumes nothing.
+-- Question 18: `cast` and the three `coerce_to_`. Assumes nothing.
 use mathlib.Core.Bool.{Bool, false, cond}
 use Prim.Native.Nat.{ℕ}
 use lib.Dec.{eqb, ltb}
-use lib.IntN.{ℤ, pos}
+use lib.IntN.{pos}
 use Rattle.ink_number.specs.Answer.{Answer, gives, refuses}
 use Rattle.ink_number.specs.Int.{eqZ}
-use Rattle.ink_list.specs.Entries.{values}
-use Rattle.ink_list.specs.Ops.{lowerBound, upperBound}
-use Rattle.ink_value.specs.Val.{Val, bool, int, float, list, void, boolK, intK, floatK, listK, voidK, kindOf, codeOf}
+use Rattle.ink_value.specs.Val.{Val, bool, int, float, boolK, intK, floatK, listK, voidK, kindOf, codeOf}
 use Rattle.ink_value.specs.Convert.{asInt, asFloat, truthy}
-
--- "Range keeps values within bounds: lower 0, upper 2,147,483,647 unless the bound is an Int or non-empty List (its least, its greatest)."
-abbrev pub lowerOf : Val → ℤ
-lowerOf (bool b) = pos 0
-lowerOf (int z) = z
-lowerOf (float x) = pos 0
-lowerOf (list o es) = lowerBound (values es)
-lowerOf void = pos 0
-
-abbrev pub upperOf : Val → ℤ
-upperOf (bool b) = pos 2147483647
-upperOf (int z) = z
-upperOf (float x) = pos 2147483647
-upperOf (list o es) = upperBound (values es)
-upperOf void = pos 2147483647
-
--- ---- question 18
 
 -- "`cast` to codes 0 to 3: numbers and Bool freely among themselves, List to Int or Float .., each kind to itself"
 unfoldable pub castable : ℕ → ℕ → Bool

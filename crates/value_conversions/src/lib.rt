@@ -1,4 +1,4 @@
-// Values converted: range's bounds, and `cast` and the three `coerce_to_`, which answer by question 18.
+// Values converted: `cast` and the three `coerce_to_`, which answer by question 18.
 use ink_value::Outcome;
 use ink_value::Value;
 use ink_value::bit;
@@ -17,74 +17,14 @@ use ink_value::to_int;
 ghost use mathlib.Core.Path.{_≡_};
 ghost use mathlib.Core.Bool.{true};
 ghost use mathlib.Core.List.{List};
-ghost use Prim.Native.Nat.{ℕ, _≤_, _+_};
+ghost use Prim.Native.Nat.{ℕ, _+_};
 ghost use lib.IntN.{ℤ};
-ghost use lib.ListN.{length};
 ghost use Rattle.ink_number.specs.Answer.{gives};
-ghost use Rattle.slices.specs.Filled.{part};
 ghost use Rattle.ink_list.specs.Entries.{room};
-ghost use Rattle.ink_list.specs.Ops.{lowerBound, upperBound};
 ghost use Rattle.ink_value.specs.Val.{listK, codeOf};
-ghost use Rattle.ink_value.specs.Value.{valOf, codeOfValue, startOf, lenOf, Formed, placed};
+ghost use Rattle.ink_value.specs.Value.{valOf, codeOfValue, Formed, placed};
 ghost use Rattle.ink_value.specs.Slices.{valIn, Gives};
-ghost use Rattle.value_conversions.specs.Convert.{castable, converted, cast, coerceBool, coerceInt, coerceFloat, lowerOf, upperOf};
-
-// The least of the values that stand from `start` on, or 0.
-fn least(values: &[i32], start: usize, len: usize) -> i32
-    requires { ⌜ start + len ≤ length (now values) ⌝ }
-    ensures { λ r. ⌜ r ≡ lowerBound (part start len (now (values .entry))) ⌝ }
-{
-    let end = start + len;
-    extreme_values::lower_bound(&values[start..end])
-}
-
-// The greatest of the values that stand from `start` on, or 2147483647.
-fn highest(values: &[i32], start: usize, len: usize) -> i32
-    requires { ⌜ start + len ≤ length (now values) ⌝ }
-    ensures { λ r. ⌜ r ≡ upperBound (part start len (now (values .entry))) ⌝ }
-{
-    let end = start + len;
-    extreme_values::upper_bound(&values[start..end])
-}
-
-// Range's bounds where neither an Int nor a list that has entries gives one.
-const LOWER_BOUND: i32 = 0;
-
-const UPPER_BOUND: i32 = 2147483647;
-
-pub fn lower_bound(v: Value, values: &[i32]) -> i32
-    requires { ⌜ startOf v + lenOf v ≤ length (now values) ⌝ }
-    ensures { λ r. ⌜ ((is : List ℕ) → startOf v + lenOf v ≤ length is → r ≡ lowerOf (valOf is (now (values .entry)) v)) ⌝ }
-{
-    match v {
-        Value::Int(z) => z,
-        Value::List {
-            origins: _,
-            start,
-            len,
-        } => least(values, start, len),
-        Value::Bool(_) => LOWER_BOUND,
-        Value::Float(_) => LOWER_BOUND,
-        Value::Void => LOWER_BOUND,
-    }
-}
-
-pub fn upper_bound(v: Value, values: &[i32]) -> i32
-    requires { ⌜ startOf v + lenOf v ≤ length (now values) ⌝ }
-    ensures { λ r. ⌜ ((is : List ℕ) → startOf v + lenOf v ≤ length is → r ≡ upperOf (valOf is (now (values .entry)) v)) ⌝ }
-{
-    match v {
-        Value::Int(z) => z,
-        Value::List {
-            origins: _,
-            start,
-            len,
-        } => highest(values, start, len),
-        Value::Bool(_) => UPPER_BOUND,
-        Value::Float(_) => UPPER_BOUND,
-        Value::Void => UPPER_BOUND,
-    }
-}
+ghost use Rattle.value_conversions.specs.Convert.{castable, converted, cast, coerceBool, coerceInt, coerceFloat};
 
 // Question 18 of `cast`.
 fn castable(to: u8, from: u8) -> bool

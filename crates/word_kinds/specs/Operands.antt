@@ -11,7 +11,7 @@ use Rattle.ink_value.specs.Val.{Val, kindOf, kindAt, Kind, listK, codeOf}
 use Rattle.ink_value.specs.Value.{valOf, codeOfValue}
 use Rattle.operator_kinds.specs.Kinds.{kindCall, operandCount, kindEntry}
 use Rattle.words_in.specs.Words.{unheld, valueAt, codeAt}
-use Rattle.operator_kinds.specs.Op.{opInvert}
+use Rattle.op.specs.Op.{opInvert}
 
 -- the words of the first n operands are a value's
 pub record Held (ws : List ℕ) (n : ℕ) : Type 0 where

@@ -1,6 +1,5 @@
 // The kinds of operands that stand in words, and the kind of an operator's result on numbers among them.
 use ink_value::kind_code;
-use operator_kinds::op;
 ghost use mathlib.Core.Path.{_≡_};
 ghost use mathlib.Core.Bool.{true, false, cond};
 ghost use Prim.Native.Nat.{_<_};

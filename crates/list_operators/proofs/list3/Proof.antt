@@ -6,7 +6,7 @@ use Prim.Native.Nat.{_≤_}
 use native.Mathlib.Omega.{arith}
 use Rattle.ink_list.specs.Entries.{room}
 use Rattle.ink_value.specs.Convert.{entriesOf}
-use Rattle.value_conversions.specs.Convert.{lowerOf, upperOf}
+use Rattle.value_range.specs.Bounds.{lowerOf, upperOf}
 use Rattle.ink_value.specs.Value.{valOf}
 use Rattle.ink_value.proofs.Reading.{formed-limit}
 use Rattle.list_operators.specs.Lists.{definitions}

@@ -1,4 +1,4 @@
--- `value_conversions::least` meets its contract: the least of the part of the slice where its entries stand. Assumes nothing.
+-- `value_range::least` meets its contract: the least of the part of the slice where its entries stand. Assumes nothing.
 use mathlib.Core.Path.{_≡_, ap, _∙_}
 use Prim.Native.Nat.{ℕ, _+_, _-_}
 use native.Mathlib.Omega.{arith}
@@ -6,8 +6,8 @@ use lib.ListN.{take, drop}
 use Rattle.ink_number.proofs.Signed.{returned}
 use Rattle.ink_list.specs.Ops.{lowerBound}
 use borrow.Author.Needs.{needs}
-use Rattle.value_conversions.proofs.least.Statement.{statement}
-use Rattle.value_conversions.proofs.least.Tie as tie
+use Rattle.value_range.proofs.least.Statement.{statement}
+use Rattle.value_range.proofs.least.Tie as tie
 
 add-end : tie.Need-add-end
 add-end c = search needs

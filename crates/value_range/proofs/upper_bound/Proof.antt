@@ -1,16 +1,16 @@
--- `value_conversions::upper_bound` meets its contract. Assumes nothing.
+-- `value_range::upper_bound` meets its contract. Assumes nothing.
 use borrow.Author.Needs.{needs}
 use mathlib.Core.Path.{sym, ap, _∙_, subst}
 use Prim.Native.Nat.{_+_, _≤_}
 use lib.ListN.{length}
 use Rattle.ink_value.specs.Value.{valOf, startOf, lenOf}
-use Rattle.value_conversions.specs.Convert.{upperOf}
+use Rattle.value_range.specs.Bounds.{upperOf}
 use Rattle.ink_list.specs.Ops.{upperBound}
 use Rattle.ink_value.proofs.Reading.{values-at}
 use Rattle.ink_value.specs.declared.Value.{Value}
 use Rattle.ink_number.proofs.Signed.{returned}
-use Rattle.value_conversions.proofs.upper_bound.Statement.{statement}
-use Rattle.value_conversions.proofs.upper_bound.Tie as tie
+use Rattle.value_range.proofs.upper_bound.Statement.{statement}
+use Rattle.value_range.proofs.upper_bound.Tie as tie
 
 enum-known-v : tie.Need-enum-known-v
 enum-known-v c = search needs

@@ -1,0 +1,2 @@
+-- The operators' numbers.
+pub mod Op

@@ -1,0 +1,2 @@
+-- The bounds of a range.
+pub mod Bounds
