@@ -5,6 +5,7 @@ ghost use Rattle.ink_list.specs.Entries.{itemNumbers, room, Rising, Lent};
 ghost use Rattle.ink_list.specs.Slices.{list, Answers};
 ghost use Rattle.list_pairs.specs.Pairs.{testL, mergeL};
 
+// A test of two lists.
 pub fn test_entries(op: u8, ai: &[u16], av: &[i32], bi: &[u16], bv: &[i32]) -> bool
     requires { ⌜ Lent itemNumbers (now ai) (now av) × Lent itemNumbers (now bi) (now bv) ⌝ }
     ensures { λ r. ⌜ r ≡ testL op (list ai av) (list bi bv) ⌝ }
@@ -20,6 +21,7 @@ pub fn test_entries(op: u8, ai: &[u16], av: &[i32], bi: &[u16], bv: &[i32]) -> b
     }
 }
 
+// A result that is a List.
 pub fn merge(
     op: u8,
     ai: &[u16],

@@ -8,7 +8,7 @@ use number_operators::both;
 use number_operators::either;
 ghost use mathlib.Core.Path.{_≡_};
 ghost use mathlib.Core.List.{List, [], _∷_};
-ghost use Prim.Native.Nat.{ℕ, _≤_, _+_, max};
+ghost use Prim.Native.Nat.{ℕ, _≤_, _+_};
 ghost use lib.ListN.{length, take};
 ghost use Rattle.ink_number.specs.Int.{divided};
 ghost use Rattle.ink_list.specs.Entries.{itemNumbers};
@@ -27,19 +27,6 @@ fn whole_outcome(d: Divided) -> Outcome
         Divided::Value(z) => Outcome::Value(Value::Int(z)),
         Divided::Refused => Outcome::Refused(int::DIVISOR_QUESTION),
     }
-}
-
-// The code of the common kind: the highest present, at least 1.
-fn common(left: u8, right: u8) -> u8
-    ensures { λ r. ⌜ r ≡ max 1 (max left right) ⌝ }
-{
-    if right < left {
-        return left;
-    }
-    if right == kind_code::BOOL {
-        return kind_code::INT;
-    }
-    right
 }
 
 // ---- operators whose result is no List, on operands in parts: kind code k, number z or x, n entries from s on
@@ -102,7 +89,7 @@ fn test2(
     requires { ⌜ Spans itemNumbers (now items) (now values) sa na × Spans itemNumbers (now items) (now values) sb nb ⌝ }
     ensures { λ r. ⌜ r ≡ test op (partsIn items values ka za xa sa na ∷ partsIn items values kb zb xb sb nb ∷ []) ⌝ }
 {
-    match common(ka, kb) {
+    match operator_kinds::common(ka, kb) {
         kind_code::INT => number_operators::test_int(
             op,
             ink_value::int_from(ka, za, xa, sa, na, values),

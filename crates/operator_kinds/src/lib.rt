@@ -18,7 +18,7 @@ fn higher(left: u8, right: u8) -> u8
 }
 
 // The code of the common kind: the highest code present, at least Int's.
-fn common(left: u8, right: u8) -> u8
+pub fn common(left: u8, right: u8) -> u8
     ensures { λ r. ⌜ r ≡ max (codeOf intK) (max left right) ⌝ }
 {
     higher(kind_code::INT, higher(left, right))
