@@ -1,3 +1,4 @@
 pub mod Binary32
 pub mod Nearest
 pub mod Operations
+pub mod Real

@@ -71,7 +71,7 @@ pub fn operand(s: &[u8], at: usize) -> Value
     match byte(s, at) {
         0 => Value::Bool(byte(s, at + 1) == 1),
         1 => Value::Int(ink_number::int::signed_of(word(s, at + 1))),
-        2 => Value::Float(ink_float::convert::float_from_bits(word(s, at + 1))),
+        2 => Value::Float(float_conversions::float_from_bits(word(s, at + 1))),
         3 => list(s, at + 1),
         _ => Value::Void,
     }

@@ -7,7 +7,7 @@ use lib.IntN.{ℤ, pos}
 use lib.Ieee.{Float}
 use lib.ListN.{length}
 use Rattle.ink_number.specs.Int.{truthyZ, bitOf}
-use Rattle.ink_float.specs.Real.{ofInt32, toInt32, truthyF}
+use Rattle.binary32.specs.Real.{ofInt32, toInt32, truthyF}
 use Rattle.ink_list.specs.Entries.{Entry, values}
 use Rattle.ink_list.specs.Ops.{valueOfList}
 use Rattle.ink_value.specs.Val.{Val, bool, int, float, list, void}

@@ -8,7 +8,7 @@ use lib.IntN.{ℤ, pos}
 use lib.Ieee.{Float}
 use lib.ListN.{length}
 use Rattle.ink_number.specs.Answer.{Answer, gives, refuses}
-use Rattle.ink_float.specs.Real.{ofInt32}
+use Rattle.binary32.specs.Real.{ofInt32}
 use Rattle.slices.specs.Every.{_and_}
 use Rattle.slices.specs.Filled.{part, over}
 use Rattle.ink_list.specs.Entries.{Entry, entries, items, values, Lent, Rising, formed}

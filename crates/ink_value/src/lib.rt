@@ -146,14 +146,14 @@ pub fn real_in(v: Value) -> f32
 {
     match v {
         Value::Float(x) => x,
-        Value::Bool(_) => ink_float::convert::int_to_float(0),
-        Value::Int(_) => ink_float::convert::int_to_float(0),
+        Value::Bool(_) => float_conversions::int_to_float(0),
+        Value::Int(_) => float_conversions::int_to_float(0),
         Value::List {
             origins: _,
             start: _,
             len: _,
-        } => ink_float::convert::int_to_float(0),
-        Value::Void => ink_float::convert::int_to_float(0),
+        } => float_conversions::int_to_float(0),
+        Value::Void => float_conversions::int_to_float(0),
     }
 }
 
@@ -162,7 +162,7 @@ pub fn number_int(kind: u8, whole: i32, real: f32) -> i32
     ensures { λ r. ⌜ r ≡ asInt (numberOf kind whole real) ⌝ }
 {
     if kind == FLOAT {
-        return ink_float::convert::float_to_int(real);
+        return float_conversions::float_to_int(real);
     }
     whole
 }
@@ -173,16 +173,16 @@ pub fn number_float(kind: u8, whole: i32, real: f32) -> f32
     if kind == FLOAT {
         return real;
     }
-    ink_float::convert::int_to_float(whole)
+    float_conversions::int_to_float(whole)
 }
 
 pub fn number_truth(kind: u8, whole: i32, real: f32) -> bool
     ensures { λ r. ⌜ r ≡ truthy (numberOf kind whole real) ⌝ }
 {
     if kind == FLOAT {
-        return ink_float::float::truthy(real);
+        return ink_float::truthy(real);
     }
-    ink_number::int::truthy(whole)
+    int_comparisons::truthy(whole)
 }
 
 // A value in parts as an Int, whatever items stand beside its entries' values.
@@ -208,9 +208,9 @@ pub fn float_from(kind: u8, whole: i32, real: f32, start: usize, len: usize, val
         return number_float(kind, whole, real);
     }
     if kind == LIST {
-        return ink_float::convert::int_to_float(greatest(values, start, len));
+        return float_conversions::int_to_float(greatest(values, start, len));
     }
-    ink_float::convert::int_to_float(0)
+    float_conversions::int_to_float(0)
 }
 
 // Is a value in parts truthy, wherever its entries stand.

@@ -5,7 +5,7 @@ use Prim.Native.Nat.{ℕ, zero, suc, _+_}
 use lib.Dec.{ltb}
 use lib.ListN.{length, getD}
 use Rattle.ink_number.specs.Answer.{Answer, gives, refuses, ask}
-use Rattle.ink_float.specs.Real.{ofBits32}
+use Rattle.binary32.specs.Real.{ofBits32}
 use Rattle.ink_value.specs.Val.{Val, bool, int, float, list, void, Kind, boolK, intK, floatK, listK, voidK}
 use Rattle.operator_kinds.specs.Kinds.{known, arity, kindApply}
 use Rattle.list_definitions.specs.Defs.{ListDefinitions}

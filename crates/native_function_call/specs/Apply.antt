@@ -10,7 +10,7 @@ use lib.Dec.{eqb}
 use Rattle.op.specs.Op.{opAnd, opOr}
 use Rattle.operator_kinds.specs.Kinds.{known, arity, kindApply, common, isList}
 use Rattle.ink_number.specs.Answer.{Answer, gives, refuses, ask}
-use Rattle.ink_float.specs.Real.{ofInt32}
+use Rattle.binary32.specs.Real.{ofInt32}
 use Rattle.ink_value.specs.Val.{Val, bool, int, float, void, Kind, boolK, intK, floatK, listK, voidK, kindOf}
 use Rattle.ink_value.specs.Convert.{asInt, asFloat, truthy, entriesOf}
 use Rattle.list_definitions.specs.Defs.{ListDefinitions}

@@ -6,7 +6,7 @@ use lib.Dec.{eqb}
 use lib.IntN.{ℤ, pos, negsuc}
 use Rattle.ink_number.specs.Answer.{Answer, gives, refuses}
 use Rattle.ink_number.specs.Int.{eqZ, lowest}
-use Rattle.ink_float.specs.Real.{toBits32}
+use Rattle.binary32.specs.Real.{toBits32}
 use Rattle.ink_value.specs.Val.{Val, bool, int, float, list, void}
 use Rattle.op.specs.Op.{opAdd, opDivide, opMod, opLess, opNot, opHasnt, opFloat}
 use Rattle.list_definitions.specs.Defs.{ListDefinitions}

@@ -182,9 +182,9 @@ fn real1(op: u8, ka: u8, za: i32, xa: f32, sa: usize, na: usize, values: &[i32])
     ensures { λ r. ⌜ ((is : List ℕ) → sa + na ≤ length is → r ≡ realUnary op (partsWith is values ka za xa sa na)) ⌝ }
 {
     match op {
-        op::NEGATE => ink_float::float::neg(ink_value::float_from(ka, za, xa, sa, na, values)),
+        op::NEGATE => ink_float::neg(ink_value::float_from(ka, za, xa, sa, na, values)),
         op::FLOAT => ink_value::float_from(ka, za, xa, sa, na, values),
-        _ => ink_float::convert::int_to_float(0),
+        _ => float_conversions::int_to_float(0),
     }
 }
 

@@ -11,7 +11,7 @@ use Rattle.op.specs.Op.{opAdd, opSubtract, opDivide, opMultiply, opMod, opNegat
 use Rattle.operator_kinds.specs.Kinds.{common}
 use Rattle.ink_number.specs.Answer.{Answer, gives}
 use Rattle.ink_number.specs.Int.{wrap, quotient, remainder, minZ, maxZ, eqZ, truthyZ}
-use Rattle.ink_float.specs.Real.{addF, subF, mulF, divF, remF, negF, minF, maxF, eqF, neF, ltF, leF, truthyF, ofInt32}
+use Rattle.binary32.specs.Real.{addF, subF, mulF, divF, remF, negF, minF, maxF, eqF, neF, ltF, leF, truthyF, ofInt32}
 use Rattle.ink_value.specs.Val.{Val, Kind, boolK, intK, floatK, listK, voidK, kindOf}
 use Rattle.ink_value.specs.Convert.{bitZ, asInt, asFloat, truthy, entriesOf}
 

@@ -1,6 +1,4 @@
 // The operators on numbers: arithmetic and tests by operator, and the same of numbers in parts.
-use ink_float::convert;
-use ink_float::float;
 use ink_number::int;
 use ink_number::int::Divided;
 use ink_value::kind_code;
@@ -22,8 +20,8 @@ pub fn arith_int(op: u8, x: i32, y: i32) -> Divided
         op::DIVIDE => int::divide(x, y),
         op::MULTIPLY => Divided::Value(int::wrapping_mul(x, y)),
         op::MOD => int::remainder_of(x, y),
-        op::MIN => Divided::Value(int::min(x, y)),
-        op::MAX => Divided::Value(int::max(x, y)),
+        op::MIN => Divided::Value(int_comparisons::min(x, y)),
+        op::MAX => Divided::Value(int_comparisons::max(x, y)),
         _ => Divided::Value(0),
     }
 }
@@ -32,14 +30,14 @@ pub fn arith_float(op: u8, x: f32, y: f32) -> f32
     ensures { λ r. ⌜ r ≡ arithF op x y ⌝ }
 {
     match op {
-        op::ADD => float::add(x, y),
-        op::SUBTRACT => float::sub(x, y),
-        op::DIVIDE => float::div(x, y),
-        op::MULTIPLY => float::mul(x, y),
-        op::MOD => float::rem(x, y),
-        op::MIN => float::min(x, y),
-        op::MAX => float::max(x, y),
-        _ => convert::int_to_float(0),
+        op::ADD => ink_float::add(x, y),
+        op::SUBTRACT => ink_float::sub(x, y),
+        op::DIVIDE => ink_float::div(x, y),
+        op::MULTIPLY => ink_float::mul(x, y),
+        op::MOD => ink_float::rem(x, y),
+        op::MIN => ink_float::min(x, y),
+        op::MAX => ink_float::max(x, y),
+        _ => float_conversions::int_to_float(0),
     }
 }
 
@@ -59,14 +57,14 @@ pub fn test_int(op: u8, x: i32, y: i32) -> bool
     ensures { λ r. ⌜ r ≡ testZ op x y ⌝ }
 {
     match op {
-        op::EQUAL => int::eq(x, y),
-        op::GREATER => int::gt(x, y),
-        op::LESS => int::lt(x, y),
-        op::GREATER_THAN_OR_EQUALS => int::ge(x, y),
-        op::LESS_THAN_OR_EQUALS => int::le(x, y),
-        op::NOT_EQUALS => int::ne(x, y),
-        op::AND => both(int::truthy(x), int::truthy(y)),
-        op::OR => either(int::truthy(x), int::truthy(y)),
+        op::EQUAL => int_comparisons::eq(x, y),
+        op::GREATER => int_comparisons::gt(x, y),
+        op::LESS => int_comparisons::lt(x, y),
+        op::GREATER_THAN_OR_EQUALS => int_comparisons::ge(x, y),
+        op::LESS_THAN_OR_EQUALS => int_comparisons::le(x, y),
+        op::NOT_EQUALS => int_comparisons::ne(x, y),
+        op::AND => both(int_comparisons::truthy(x), int_comparisons::truthy(y)),
+        op::OR => either(int_comparisons::truthy(x), int_comparisons::truthy(y)),
         _ => false,
     }
 }
@@ -75,14 +73,14 @@ pub fn test_float(op: u8, x: f32, y: f32) -> bool
     ensures { λ r. ⌜ r ≡ testF op x y ⌝ }
 {
     match op {
-        op::EQUAL => float::eq(x, y),
-        op::GREATER => float::gt(x, y),
-        op::LESS => float::lt(x, y),
-        op::GREATER_THAN_OR_EQUALS => float::ge(x, y),
-        op::LESS_THAN_OR_EQUALS => float::le(x, y),
-        op::NOT_EQUALS => float::ne(x, y),
-        op::AND => both(float::truthy(x), float::truthy(y)),
-        op::OR => either(float::truthy(x), float::truthy(y)),
+        op::EQUAL => ink_float::eq(x, y),
+        op::GREATER => ink_float::gt(x, y),
+        op::LESS => ink_float::lt(x, y),
+        op::GREATER_THAN_OR_EQUALS => ink_float::ge(x, y),
+        op::LESS_THAN_OR_EQUALS => ink_float::le(x, y),
+        op::NOT_EQUALS => ink_float::ne(x, y),
+        op::AND => both(ink_float::truthy(x), ink_float::truthy(y)),
+        op::OR => either(ink_float::truthy(x), ink_float::truthy(y)),
         _ => false,
     }
 }
@@ -151,9 +149,9 @@ pub fn number_real1(op: u8, ka: u8, za: i32, xa: f32) -> f32
     ensures { λ r. ⌜ r ≡ realUnary op (numberOf ka za xa) ⌝ }
 {
     match op {
-        op::NEGATE => float::neg(ink_value::number_float(ka, za, xa)),
+        op::NEGATE => ink_float::neg(ink_value::number_float(ka, za, xa)),
         op::FLOAT => ink_value::number_float(ka, za, xa),
-        _ => convert::int_to_float(0),
+        _ => float_conversions::int_to_float(0),
     }
 }
 

@@ -2,8 +2,6 @@
 // value and each pair, and document 01's known points on numbers. An Int is printed in decimal, a
 // Float as its bit pattern in hexadecimal, a Bool as 0 or 1, a refusal as R and its number.
 
-use ink_float::convert;
-use ink_float::float;
 use ink_number::int;
 use ink_number::int::Divided;
 use test_output::decimal;
@@ -110,7 +108,7 @@ fn print_pattern(b: u32) {
 }
 
 fn print_float(x: f32) {
-    print_pattern(convert::float_to_bits(x));
+    print_pattern(float_conversions::float_to_bits(x));
 }
 
 fn print_bool(b: bool) {
@@ -135,8 +133,8 @@ fn int_value(a: i32) {
     text(b":");
     print_pattern(int::pattern(a));
     print_int(int::wrapping_neg(a));
-    print_bool(int::truthy(a));
-    print_float(convert::int_to_float(a));
+    print_bool(int_comparisons::truthy(a));
+    print_float(float_conversions::int_to_float(a));
 }
 
 fn int_arithmetic(a: i32, b: i32) {
@@ -145,17 +143,17 @@ fn int_arithmetic(a: i32, b: i32) {
     print_int(int::wrapping_mul(a, b));
     print_divided(int::divide(a, b));
     print_divided(int::remainder_of(a, b));
-    print_int(int::min(a, b));
-    print_int(int::max(a, b));
+    print_int(int_comparisons::min(a, b));
+    print_int(int_comparisons::max(a, b));
 }
 
 fn int_tests(a: i32, b: i32) {
-    print_bool(int::eq(a, b));
-    print_bool(int::ne(a, b));
-    print_bool(int::lt(a, b));
-    print_bool(int::le(a, b));
-    print_bool(int::gt(a, b));
-    print_bool(int::ge(a, b));
+    print_bool(int_comparisons::eq(a, b));
+    print_bool(int_comparisons::ne(a, b));
+    print_bool(int_comparisons::lt(a, b));
+    print_bool(int_comparisons::le(a, b));
+    print_bool(int_comparisons::gt(a, b));
+    print_bool(int_comparisons::ge(a, b));
     print_bool(int::can_divide(a, b));
 }
 
@@ -171,9 +169,9 @@ fn int_pair(a: i32, b: i32) {
 // A Float and what is opposite, its truth and its Int.
 fn float_forms(x: f32) {
     print_float(x);
-    print_float(float::neg(x));
-    print_bool(float::truthy(x));
-    print_int(convert::float_to_int(x));
+    print_float(ink_float::neg(x));
+    print_bool(ink_float::truthy(x));
+    print_int(float_conversions::float_to_int(x));
 }
 
 fn pattern_value(b: u32) {
@@ -181,26 +179,26 @@ fn pattern_value(b: u32) {
     print_pattern(b);
     text(b":");
     print_int(int::signed_of(b));
-    float_forms(convert::float_from_bits(b));
+    float_forms(float_conversions::float_from_bits(b));
 }
 
 fn float_arithmetic(x: f32, y: f32) {
-    print_float(float::add(x, y));
-    print_float(float::sub(x, y));
-    print_float(float::mul(x, y));
-    print_float(float::div(x, y));
-    print_float(float::rem(x, y));
-    print_float(float::min(x, y));
-    print_float(float::max(x, y));
+    print_float(ink_float::add(x, y));
+    print_float(ink_float::sub(x, y));
+    print_float(ink_float::mul(x, y));
+    print_float(ink_float::div(x, y));
+    print_float(ink_float::rem(x, y));
+    print_float(ink_float::min(x, y));
+    print_float(ink_float::max(x, y));
 }
 
 fn float_tests(x: f32, y: f32) {
-    print_bool(float::eq(x, y));
-    print_bool(float::ne(x, y));
-    print_bool(float::lt(x, y));
-    print_bool(float::le(x, y));
-    print_bool(float::gt(x, y));
-    print_bool(float::ge(x, y));
+    print_bool(ink_float::eq(x, y));
+    print_bool(ink_float::ne(x, y));
+    print_bool(ink_float::lt(x, y));
+    print_bool(ink_float::le(x, y));
+    print_bool(ink_float::gt(x, y));
+    print_bool(ink_float::ge(x, y));
 }
 
 fn float_pair(x: f32, y: f32) {
@@ -217,7 +215,10 @@ fn print_row(what: Row, a: u32, b: u32) {
         Row::Int => int_value(int::signed_of(b)),
         Row::Ints => int_pair(int::signed_of(a), int::signed_of(b)),
         Row::Pattern => pattern_value(b),
-        Row::Floats => float_pair(convert::float_from_bits(a), convert::float_from_bits(b)),
+        Row::Floats => float_pair(
+            float_conversions::float_from_bits(a),
+            float_conversions::float_from_bits(b),
+        ),
     }
     text(b"\n");
 }
@@ -246,7 +247,7 @@ fn divided_point(name: &[u8], d: Divided) {
 fn float_point(name: &[u8], n: i32) {
     text(b"point ");
     text(name);
-    print_float(convert::int_to_float(n));
+    print_float(float_conversions::int_to_float(n));
     text(b"\n");
 }
 
@@ -262,7 +263,7 @@ fn conversion_points() {
     float_point(b"16777219 to Float:", 16777219);
     divided_point(
         b"Int of 2147483648.0:",
-        Divided::Value(convert::float_to_int(2147483648.0)),
+        Divided::Value(float_conversions::float_to_int(2147483648.0)),
     );
 }
 

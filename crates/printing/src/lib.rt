@@ -69,7 +69,7 @@ fn float(o: Output, out: &mut [u8], x: f32) -> Output {
     pattern(
         o.text(out, b" F "),
         out,
-        ink_float::convert::float_to_bits(x),
+        float_conversions::float_to_bits(x),
     )
 }
 

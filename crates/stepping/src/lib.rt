@@ -174,10 +174,7 @@ pub fn run_step(
         ),
         Instruction::Bool(b) => push_value(Value::Bool(b), n),
         Instruction::Int(z) => push_value(Value::Int(z), n),
-        Instruction::Float(b) => push_value(
-            Value::Float(ink_float::convert::float_from_bits(b)),
-            n,
-        ),
+        Instruction::Float(b) => push_value(Value::Float(float_conversions::float_from_bits(b)), n),
         Instruction::List(l) => push_literal(pack, l as usize, n, format, work_items, work_values),
         Instruction::Slot(_) => push_slot(
             slot,

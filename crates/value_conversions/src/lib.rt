@@ -100,7 +100,7 @@ pub fn coerce_to_bool(v: Value) -> Outcome
 {
     match v {
         Value::Bool(b) => Outcome::Value(Value::Bool(b)),
-        Value::Int(z) => Outcome::Value(Value::Bool(ink_number::int::eq(z, 1))),
+        Value::Int(z) => Outcome::Value(Value::Bool(int_comparisons::eq(z, 1))),
         Value::Float(_) => Outcome::Refused(18),
         Value::List {
             origins: _,
@@ -117,7 +117,7 @@ pub fn coerce_to_int(v: Value) -> Outcome
     match v {
         Value::Bool(b) => Outcome::Value(Value::Int(bit(b))),
         Value::Int(z) => Outcome::Value(Value::Int(z)),
-        Value::Float(x) => Outcome::Value(Value::Int(ink_float::convert::float_to_int(x))),
+        Value::Float(x) => Outcome::Value(Value::Int(float_conversions::float_to_int(x))),
         Value::List {
             origins: _,
             start: _,
@@ -131,8 +131,8 @@ pub fn coerce_to_float(v: Value) -> Outcome
     ensures { λ r. ⌜ ((is : List ℕ) (vs : List ℤ) → r ≡ placed (coerceFloat (valOf is vs v))) ⌝ }
 {
     match v {
-        Value::Bool(b) => Outcome::Value(Value::Float(ink_float::convert::int_to_float(bit(b)))),
-        Value::Int(z) => Outcome::Value(Value::Float(ink_float::convert::int_to_float(z))),
+        Value::Bool(b) => Outcome::Value(Value::Float(float_conversions::int_to_float(bit(b)))),
+        Value::Int(z) => Outcome::Value(Value::Float(float_conversions::int_to_float(z))),
         Value::Float(x) => Outcome::Value(Value::Float(x)),
         Value::List {
             origins: _,

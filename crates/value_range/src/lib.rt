@@ -85,7 +85,7 @@ pub fn range(
     requires { ⌜ Formed (room (now oi) (now ov)) (now items) (now values) c ⌝ }
     ensures { λ r. ⌜ ((limit : ℕ) → Formed limit (now (items .entry)) (now (values .entry)) a
         → Answers (range limit (lowerOf (valIn items values b)) (upperOf (valIn items values c)) (entriesOf (valIn items values a)))
-            r oi ov) ⌝ }
+        r oi ov) ⌝ }
 {
     let i = ink_value::start_of(a);
     let m = ink_value::len_of(a);

@@ -11,7 +11,7 @@ use borrow.Author.Tests.{lt-ltb}
 use mir.Syntax.{w32}
 use mir.Val.{SFits}
 use Rattle.ink_number.specs.Int.{residue, wrap}
-use Rattle.ink_float.specs.Real.{toBits32}
+use Rattle.binary32.specs.Real.{toBits32}
 use Rattle.ink_number.proofs.Residue.{residue-lt}
 use Rattle.ink_number.proofs.Wrap.{wrap-in}
 use Rattle.ink_value.specs.declared.Value.{Value}

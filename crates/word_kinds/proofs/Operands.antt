@@ -10,7 +10,7 @@ use lib.Ieee.{Float}
 use lib.ListN.{getD, take}
 use borrow.Author.Tests.{lt-ltb, eqb-true, ltb-true, ltb-false, le-ltb, eq-eqb, ne-eqb}
 use Rattle.ink_number.specs.Int.{signed}
-use Rattle.ink_float.specs.Real.{ofBits32}
+use Rattle.binary32.specs.Real.{ofBits32}
 use Rattle.ink_number.specs.Answer.{gives, refuses}
 use Rattle.ink_value.specs.Convert.{bitZ}
 use Rattle.ink_value.specs.Val.{Kind, kindOf, kindAt, codeOf}

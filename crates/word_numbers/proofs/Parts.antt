@@ -8,7 +8,7 @@ use lib.IntN.{ℤ}
 use lib.Ieee.{Float}
 use lib.ListN.{getD}
 use Rattle.ink_number.specs.Int.{signed}
-use Rattle.ink_float.specs.Real.{ofBits32}
+use Rattle.binary32.specs.Real.{ofBits32}
 use Rattle.ink_value.specs.Value.{codeOfValue}
 use Rattle.ink_value.proofs.Parts.{Parts, Number}
 use Rattle.ink_value.specs.declared.Value.{Value}

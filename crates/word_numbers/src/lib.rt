@@ -7,7 +7,7 @@ use word_kinds::code_in;
 ghost use mathlib.Core.Path.{_≡_};
 ghost use Prim.Native.Nat.{_%_, _^_};
 ghost use Rattle.ink_number.specs.Int.{signed, divided};
-ghost use Rattle.ink_float.specs.Real.{ofBits32};
+ghost use Rattle.binary32.specs.Real.{ofBits32};
 ghost use Rattle.native_function_call.specs.Apply.{ofInt};
 ghost use Rattle.value_words.specs.Slices.{SaysIn};
 ghost use Rattle.word_kinds.specs.Operands.{OfNumbers};
@@ -26,7 +26,7 @@ pub fn whole_in(w: u64) -> i32
 pub fn real_in(w: u64) -> f32
     ensures { λ r. ⌜ r ≡ ofBits32 (w % 2 ^ 32) ⌝ }
 {
-    ink_float::convert::float_from_bits(words_in::low(w))
+    float_conversions::float_from_bits(words_in::low(w))
 }
 
 // A result that is an Int.

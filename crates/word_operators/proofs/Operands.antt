@@ -7,7 +7,7 @@ use lib.IntN.{ℤ}
 use lib.Ieee.{Float}
 use lib.ListN.{getD}
 use Rattle.ink_number.specs.Int.{signed}
-use Rattle.ink_float.specs.Real.{ofBits32}
+use Rattle.binary32.specs.Real.{ofBits32}
 use Rattle.ink_value.specs.Value.{Formed}
 use Rattle.ink_value.proofs.Parts.{Operand}
 use Rattle.ink_list.specs.Entries.{itemNumbers}

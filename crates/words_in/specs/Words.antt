@@ -5,7 +5,7 @@ use Prim.Native.Nat.{ℕ, _+_, _*_, _-_, _/_, _%_, _^_}
 use lib.Dec.{eqb, ltb}
 use lib.ListN.{getD}
 use Rattle.ink_number.specs.Int.{signed}
-use Rattle.ink_float.specs.Real.{ofBits32}
+use Rattle.binary32.specs.Real.{ofBits32}
 use Rattle.slices.specs.Every.{table}
 use Rattle.ink_value.specs.Val.{boolK, intK, floatK, listK, voidK, codeOf}
 use Rattle.ink_value.specs.declared.Value.{Value}

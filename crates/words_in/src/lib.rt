@@ -51,7 +51,7 @@ fn float_at(w: u64) -> Value
     ensures { λ r. ⌜ r ≡ floatAt w ⌝ }
 {
     if w < HALF {
-        Value::Float(ink_float::convert::float_from_bits(w as u32))
+        Value::Float(float_conversions::float_from_bits(w as u32))
     } else {
         unheld()
     }

@@ -3,7 +3,7 @@ use mathlib.Core.Bool.{Bool}
 use mathlib.Core.List.{List, [], _∷_}
 use Prim.Native.Nat.{ℕ, _+_, _*_, _^_, _<_}
 use Rattle.ink_number.specs.Int.{residue, bitOf}
-use Rattle.ink_float.specs.Real.{toBits32}
+use Rattle.binary32.specs.Real.{toBits32}
 use Rattle.ink_value.specs.Val.{boolK, intK, floatK, listK, voidK, codeOf}
 use Rattle.ink_value.specs.declared.Value.{Value}
 use Rattle.ink_value.specs.declared.Value.the-variants as Is

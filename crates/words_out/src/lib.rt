@@ -34,7 +34,7 @@ pub fn put_value(words: &mut [u64; 3], v: Value)
     match v {
         Value::Bool(b) => put(words, 0, bit(b), 0),
         Value::Int(z) => put(words, 1, ink_number::int::pattern(z) as u64, 0),
-        Value::Float(x) => put(words, 2, ink_float::convert::float_to_bits(x) as u64, 0),
+        Value::Float(x) => put(words, 2, float_conversions::float_to_bits(x) as u64, 0),
         Value::List {
             origins,
             start,

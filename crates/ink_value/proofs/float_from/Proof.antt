@@ -4,7 +4,7 @@ use mathlib.Core.List.{List}
 use native.Mathlib.Omega.{arith}
 use borrow.Author.Tests.{lt-ltb, le-ltb, ne-eqb}
 use lib.IntN.{ℤ}
-use Rattle.ink_float.specs.Real.{ofInt32}
+use Rattle.binary32.specs.Real.{ofInt32}
 use Rattle.ink_number.proofs.Signed.{read, returned}
 use Rattle.ink_list.specs.Ops.{valueOfList}
 use Rattle.ink_value.specs.Convert.{asFloat}

@@ -1,7 +1,7 @@
 -- `ink_value::number_float` meets its contract: the choice by kind is the definition's. Assumes nothing.
 use mathlib.Core.Path.{ap, _∙_}
 use borrow.Author.Tests.{eq-eqb, ne-eqb}
-use Rattle.ink_float.specs.Real.{ofInt32}
+use Rattle.binary32.specs.Real.{ofInt32}
 use Rattle.ink_number.proofs.Signed.{back32}
 use borrow.Author.Needs.{needs}
 use Rattle.ink_value.proofs.number_float.Statement.{statement}

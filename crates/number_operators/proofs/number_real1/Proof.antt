@@ -2,7 +2,7 @@
 use mathlib.Core.Path.{ap, _∙_}
 use lib.IntN.{ℤ}
 use borrow.Author.Tests.{ne-eqb}
-use Rattle.ink_float.specs.Real.{negF}
+use Rattle.binary32.specs.Real.{negF}
 use Rattle.ink_number.proofs.Signed.{read}
 use Rattle.ink_value.specs.Convert.{asFloat}
 use Rattle.ink_value.specs.Value.{numberOf}

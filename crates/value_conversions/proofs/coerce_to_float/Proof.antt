@@ -5,7 +5,7 @@ use lib.Ieee.{Float}
 use Rattle.value_conversions.specs.Convert.{coerceFloat}
 use Rattle.ink_value.specs.Value.{valOf, placed}
 use Rattle.ink_value.specs.declared.Value.{Value}
-use Rattle.ink_float.specs.Real.{ofInt32}
+use Rattle.binary32.specs.Real.{ofInt32}
 use Rattle.ink_number.proofs.Signed.{read, returned}
 use Rattle.ink_value.specs.declared.Value.the-variants as Is
 use Rattle.ink_value.specs.declared.Outcome.the-variants as Out

@@ -1,6 +1,6 @@
 -- `word_numbers::real_in` meets its contract. Assumes nothing.
 use mathlib.Core.Path.{ap, _∙_}
-use Rattle.ink_float.specs.Real.{ofBits32}
+use Rattle.binary32.specs.Real.{ofBits32}
 use borrow.Author.Needs.{needs}
 use Rattle.word_numbers.proofs.real_in.Statement.{statement}
 use Rattle.word_numbers.proofs.real_in.Tie as tie
