@@ -1,2 +1,2 @@
 -- The laws of question 7 of a direct call.
-pub mod Forms
+pub mod UsedOperands

@@ -1,2 +1,2 @@
 -- The laws of the tables of definitions.
-pub mod Reading
+pub mod TablesRead

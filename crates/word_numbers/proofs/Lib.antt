@@ -1,3 +1,3 @@
 -- The laws of operators on numbers that stand in words.
-pub mod Parts
+pub mod NumbersInWords
 pub mod Said

@@ -20,7 +20,7 @@ use Rattle.native_function_call.specs.Apply.{call, compute}
 use Rattle.native_function_call.proofs.Calling.{call-gives, call-refuses, two-of}
 use Rattle.call_memory.specs.Lent.{operandsOk}
 use Rattle.calls.specs.Call.{called}
-use Rattle.call_memory.proofs.Forms.{first-of}
+use Rattle.call_memory.proofs.UsedOperands.{first-of}
 use Rattle.calls.proofs.Forms.{goes-on}
 use Rattle.slices.proofs.Lists.{map-take}
 use Rattle.pack.specs.Read.{PackLists}

@@ -1,3 +1,3 @@
 -- The laws of operators on words.
-pub mod Operands
+pub mod WordParts
 pub mod Called

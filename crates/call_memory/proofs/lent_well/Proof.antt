@@ -2,7 +2,7 @@
 use mathlib.Core.Path.{sym, _∙_}
 use borrow.Author.Tests.{lt-leb}
 use Rattle.slices.proofs.Every.{and-no-left, and-no-right}
-use Rattle.call_memory.proofs.Forms.{rooms}
+use Rattle.call_memory.proofs.UsedOperands.{rooms}
 use borrow.Author.Needs.{needs}
 use Rattle.call_memory.proofs.lent_well.Statement.{statement}
 use Rattle.call_memory.proofs.lent_well.Tie as tie

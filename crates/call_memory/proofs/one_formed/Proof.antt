@@ -1,7 +1,7 @@
 -- `call_memory::one_formed` meets its contract. Assumes nothing.
 use mathlib.Core.Path.{sym, _∙_}
 use mathlib.Core.List.{[], _∷_}
-use Rattle.call_memory.proofs.Forms.{unlike-long, all-one}
+use Rattle.call_memory.proofs.UsedOperands.{unlike-long, all-one}
 use borrow.Author.Needs.{needs}
 use Rattle.call_memory.proofs.one_formed.Statement.{statement}
 use Rattle.call_memory.proofs.one_formed.Tie as tie

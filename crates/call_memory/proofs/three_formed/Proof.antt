@@ -3,7 +3,7 @@ use mathlib.Core.Path.{sym, _∙_}
 use mathlib.Core.List.{[], _∷_}
 use borrow.Author.Tests.{not-true, not-false}
 use Rattle.slices.proofs.Every.{and-no-left, and-no-right}
-use Rattle.call_memory.proofs.Forms.{unlike-long, all-three, third}
+use Rattle.call_memory.proofs.UsedOperands.{unlike-long, all-three, third}
 use borrow.Author.Needs.{needs}
 use Rattle.call_memory.proofs.three_formed.Statement.{statement}
 use Rattle.call_memory.proofs.three_formed.Tie as tie

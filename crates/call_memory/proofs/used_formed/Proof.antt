@@ -4,7 +4,7 @@ use mathlib.Core.List.{[], _∷_}
 use Rattle.ink_value.specs.Value.{allFormed}
 use Rattle.ink_value.specs.declared.Value.{Value}
 use Rattle.slices.proofs.Lists.{ap3}
-use Rattle.call_memory.proofs.Forms.{kept, kept-all}
+use Rattle.call_memory.proofs.UsedOperands.{kept, kept-all}
 use borrow.Author.Needs.{needs}
 use Rattle.call_memory.proofs.used_formed.Statement.{statement}
 use Rattle.call_memory.proofs.used_formed.Tie as tie

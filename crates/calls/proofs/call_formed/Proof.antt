@@ -7,7 +7,7 @@ use Rattle.slices.proofs.Every.{and-both}
 use Rattle.ink_value.specs.Value.{valOf}
 use Rattle.ink_value.proofs.Given.{gave-is}
 use Rattle.native_function_call.specs.Apply.{call}
-use Rattle.call_memory.proofs.Forms.{first-of}
+use Rattle.call_memory.proofs.UsedOperands.{first-of}
 use Rattle.calls.proofs.Forms.{goes-on}
 use Rattle.slices.proofs.Lists.{map-take}
 use Rattle.list_operators.specs.Lists.{definitions}

@@ -4,7 +4,7 @@ use mathlib.Core.Path.{refl}
 use native.Mathlib.Omega.{arith}
 use Rattle.pack.proofs.Judged.{judged}
 use Rattle.pack.proofs.Values.{pack-tables}
-use Rattle.definition_tables.proofs.Reading.{reads-no-ends, reads-no-defined, reads-tables}
+use Rattle.definition_tables.proofs.TablesRead.{reads-no-ends, reads-no-defined, reads-tables}
 use borrow.Author.Needs.{needs}
 use Rattle.definition_tables.proofs.read_tables.Statement.{statement}
 use Rattle.definition_tables.proofs.read_tables.Tie as tie

@@ -12,7 +12,7 @@ use Rattle.ink_value.specs.declared.Value.the-variants as Is
 use Rattle.number_operators.specs.Numbers.{wholeUnary}
 use Rattle.words_in.specs.Words.{valueAt}
 use Rattle.words_out.specs.Words.{wordsOf}
-use Rattle.word_numbers.proofs.Parts.{number-is, number-at}
+use Rattle.word_numbers.proofs.NumbersInWords.{number-is, number-at}
 use Rattle.word_numbers.proofs.Said.{said-bool, said-int, said-float}
 use Rattle.native_function_call.proofs.InParts.{truth-number, whole-number, real-number}
 use borrow.Author.Needs.{needs}

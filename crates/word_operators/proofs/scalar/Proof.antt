@@ -5,7 +5,7 @@ use Rattle.ink_number.proofs.Signed.{returned}
 use Rattle.ink_value.proofs.Reading.{few-in}
 use Rattle.ink_list.specs.Entries.{itemNumbers}
 use Rattle.words_in.specs.Words.{valueAt}
-use Rattle.word_operators.proofs.Operands.{first-at, second-at}
+use Rattle.word_operators.proofs.WordParts.{first-at, second-at}
 use Rattle.ink_value.proofs.Parts.{operand-spans}
 use Rattle.word_numbers.proofs.Said.{said-bool, said-int, said-float, said-void}
 use Rattle.native_function_call.proofs.InParts.{test-read, whole-read, real-read}
