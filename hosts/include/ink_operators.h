@@ -52,13 +52,13 @@ uint32_t ink_check(const uint8_t *pack, size_t pack_len);
 /* Vets sheet `sheet` of any bytes for slots of sixteen kind codes: questions 1 to 14 and 17.
  * Passed: returns 0, writes two bytes for each instruction to the start of `forecast` (how many values are stacked after it, and the kind
  * code of the topmost) and the count of instructions to `*index`. Every run on slots of those kinds then ends in one value of the kind
- * forecast last, or stops with 15 or 16. Refused: returns the number, writes the instruction's index to `*index` and leaves `forecast`
- * unchanged; every run on slots of those kinds stops there with that number, or before it with 15 or 16. */
+ * forecast last, or stops with 15. Refused: returns the number, writes the instruction's index to `*index` and leaves `forecast`
+ * unchanged; every run on slots of those kinds stops there with that number, or before it with 15. */
 uint32_t ink_vet(const uint8_t *pack, size_t pack_len, size_t sheet, const uint8_t kinds[16],
                  uint8_t *forecast, size_t forecast_len, uint64_t *index);
 
 /* Runs sheet `sheet` of any bytes with sixteen slots (three words each), whose Lists' entries stand in `slot_items` and `slot_values`:
- * questions 1 to 17. A List that it ends in is written to the start of the result slices; other places of them, and all of them after
+ * questions 1 to 15 and 17. A List that it ends in is written to the start of the result slices; other places of them, and all of them after
  * another end or a refusal, are left as they were. The work slices are scratch: after questions 1 to 7 said yes, the first 16,384 places
  * of each are left zero and the later ones as they were; before that all are untouched. `answer` is always written. */
 uint32_t ink_run(const uint8_t *pack, size_t pack_len, size_t sheet, const uint64_t slots[48],
@@ -68,7 +68,7 @@ uint32_t ink_run(const uint8_t *pack, size_t pack_len, size_t sheet, const uint6
                  uint64_t answer[3]);
 
 /* Calls operator `op` (0 to 31; 31 is range) on the first `count` of three operands, whose Lists' entries stand in `items` and `values`:
- * questions 1 to 5, 7, 8, 10 to 16. The words of operands from `count` on are not looked at. A List is written to the result slices as by
+ * questions 1 to 5, 7, 8, 10 to 15. The words of operands from `count` on are not looked at. A List is written to the result slices as by
  * ink_run. `answer` is always written. */
 uint32_t ink_call(const uint8_t *pack, size_t pack_len, uint8_t op, size_t count, const uint64_t operands[9],
                   const uint16_t *items, size_t items_len, const int32_t *values, size_t values_len,

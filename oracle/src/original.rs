@@ -232,7 +232,10 @@ impl World {
                     _ => Val::Float(b),
                 })
             }
-            Answer::Val(Val::List(l)) => Answer::Val(Val::List(self.settle_ties(op, operands, l))),
+            Answer::Val(Val::List(l)) => {
+                assert!(l.entries.len() <= self.defs.items(), "more entries than items");
+                Answer::Val(Val::List(self.settle_ties(op, operands, l)))
+            }
             other => other,
         }
     }

@@ -114,7 +114,7 @@ fn parse_sheet(body: &[u8], literals: usize) -> Option<Vec<Ins>> {
 }
 
 impl Pack {
-    /// Questions 8 to 17: the value left, or (number, index).
+    /// Questions 8 to 15 and 17: the value left, or (number, index).
     pub fn run(&self, sheet: usize, slots: &[Val; 16]) -> Result<Val, (u8, usize)> {
         let mut stack: Vec<Val> = Vec::new();
         for (index, ins) in self.sheets[sheet].iter().enumerate() {
@@ -129,7 +129,6 @@ impl Pack {
                     }
                     let operands = stack.split_off(stack.len() - n);
                     match self.world.call(*op, &operands) {
-                        Answer::Val(Val::List(l)) if l.entries.len() > 256 => return Err((16, index)),
                         Answer::Val(v) => v,
                         Answer::Refused(n) => return Err((n, index)),
                         _ => unreachable!(),

@@ -21,7 +21,7 @@ use Rattle.pack.specs.declared.format.Format.{Format}
 use Rattle.call_memory.specs.Lent.{operandsOk, resultsOk}
 
 module _ (is : List ℕ) (vs : List ℤ) where
-  -- operator o on the first n of three operands: 7, then 8 and 10 to 16
+  -- operator o on the first n of three operands: 7, then 8 and 10 to 15
   unfoldable pub called : List ℕ → List ℤ → ℕ → ℕ → List Value → ListDefinitions → Answer Val
   called oi ov o n l u = ask 7 (operandsOk u is vs (take n l) and resultsOk u oi ov) (call u o n (map (valOf is vs) (take n l)))
 
@@ -33,7 +33,7 @@ module _ (is : List ℕ) (vs : List ℤ) where
   unfoldable pub coerced : (Val → Answer Val) → Value → ListDefinitions → Answer Val
   coerced f v u = ask 7 (operandsOk u is vs (v ∷ [])) (f (valOf is vs v))
 
--- questions 1 to 5 first: "a direct call 1 to 5, 7, 8, 10 to 16; a conversion 1 to 5, 7, 18"
+-- questions 1 to 5 first: "a direct call 1 to 5, 7, 8, 10 to" 15; "a conversion 1 to 5, 7, 18"
 abbrev pub onPack : Format → List ℕ → (ListDefinitions → Answer Val) → Answer Val
 onPack F p f = andThen (judge F p) (λ d. f (definitionsOf d F))
 

@@ -1,10 +1,15 @@
 -- What a call answers: a result, or the number of the question that was answered no. Assumes nothing.
-use mathlib.Core.Bool.{Bool, true, false}
+use mathlib.Core.Bool.{Bool, true, false, not, _&&_}
 use Prim.Native.Nat.{ℕ}
+use lib.Dec.{eqb, ltb}
 
 pub data Answer {ℓ} (X : Type ℓ) : Type ℓ where
   gives : X → Answer X
   refuses : ℕ → Answer X
+
+-- the numbers of the questions: 1 to 18, but for 16, which is retired
+abbrev pub inUse : ℕ → Bool
+inUse n = ltb 0 n && ltb n 19 && not (eqb n 16)
 
 -- question n, and what comes after a yes: "the first "no" ends the call with its number"
 abbrev pub ask {ℓ} : {X : Type ℓ} → ℕ → Bool → Answer X → Answer X

@@ -2,7 +2,7 @@
 use mathlib.Core.Path.{_≡_, refl, sym, ap, _∙_, subst}
 use mathlib.Core.Bool.{Bool, true, false}
 use mathlib.Core.List.{List, [], _∷_, map}
-use Prim.Native.Nat.{ℕ, _+_}
+use Prim.Native.Nat.{ℕ, _+_, _≤_}
 use native.Mathlib.Omega.{arith}
 use lib.Dec.{ltb}
 use lib.IntN.{ℤ}
@@ -13,8 +13,10 @@ use Rattle.ink_list.specs.Entries.{Rising}
 use Rattle.slices.proofs.Every.{and-left, and-right}
 use Rattle.ink_list.proofs.Laws.{rising-length, rising-limit}
 use Rattle.ink_value.specs.Val.{Val, bool, int, float, list, void}
+use Rattle.ink_value.specs.Convert.{entriesOf}
 use Rattle.ink_value.specs.Value.{valOf, Wf, AllWf}
 use Rattle.ink_value.specs.declared.Value.{Value}
+use Rattle.ink_value.proofs.ReadBack.{entries-wf, each-wf}
 use Rattle.native_function_call.specs.Apply.{applyOp}
 use Rattle.pack.specs.Bodies.{Literal, Pack, decoded}
 use Rattle.pack.specs.Contents.{literalCount}
@@ -29,9 +31,9 @@ use Rattle.pack.proofs.Values.{pack-tables}
 use Rattle.machine.specs.Machine.{End, ended, stopped, Run, finish, onward, step, runFrom, valuePushed}
 use Rattle.machine.specs.Whole.{opened}
 use Rattle.machine.proofs.Wellformed.{WfStep, step-wf}
-use Rattle.running.specs.Run.{runMemory, endAfter, ranTo, Runs}
+use Rattle.running.specs.Run.{runMemory, endEntries, endAfter, ranTo, Runs}
 use Rattle.running.specs.declared.Ran.{Ran}
-use Rattle.value_words.proofs.Few.{all-wf, few-items}
+use Rattle.value_words.proofs.Few.{few-items}
 use Rattle.answer_words.specs.Answers.{SmallRan, ranNumber, ranWords, RunSays}
 
 abbrev pub WfEnd : Format → End Val → Type 0
@@ -67,7 +69,7 @@ module _ (F : Format) (f : Runnable F) (p : List ℕ) (s : Sound F p) (slots : L
   from-wf i (x ∷ xs) st h =
       onward-wf F i (step (valuePushed (literalOf (decoded F p)) slots) (applyOp (definitionsOf (decoded F p) F)) x st)
       (runFrom (valuePushed (literalOf (decoded F p)) slots) (applyOp (definitionsOf (decoded F p) F)) (i + 1) xs)
-      (step-wf (definitionsOf (decoded F p) F) (f .some) (few-items F p (f .narrow) s) (literalOf (decoded F p)) slots literal-rises hs x st h)
+      (step-wf (definitionsOf (decoded F p) F) (few-items F p (f .narrow) s) (literalOf (decoded F p)) slots literal-rises hs x st h)
       (λ st′ h′. from-wf (i + 1) xs st′ h′)
 
 -- a run ends in a value that is well formed
@@ -82,7 +84,7 @@ end-wf F f p s l si sv wi wv ri rv = first (judge F p) refl
     seventh : (d : Pack) → Sound F p → d ≡ decoded F p → (t : Bool) → runMemory F l si sv wi wv ri rv d ≡ t → WfEnd F (endAfter F s vals (ask 7 t (gives d)))
     seventh d k q true m =
         subst (λ (x : Pack). WfEnd F (endAfter F s vals (gives x))) (sym q)
-        (from-wf F f p k vals (all-wf (F .limit) si sv (length (definedOf (decoded F p))) (length (endsOf (decoded F p))) (few-items F p (f .narrow) k) l
+        (from-wf F f p k vals (each-wf (F .limit) si sv (length (definedOf (decoded F p))) (length (endsOf (decoded F p))) (few-items F p (f .narrow) k) l
         (and-right _ _ (and-left _ _ (rw q at m)))) 0 (sheetOf (decoded F p) s) [] tt)
     seventh d k q false m = tt
 
@@ -95,6 +97,16 @@ end-wf F f p s l si sv wi wv ri rv = first (judge F p) refl
     first (gives d) e = let j = judged F p d e in sixth d (j .0) (j .1) (ltb s (length (d .sheets)))
     first (refuses r) e = tt
 
+end-few : (F : Format) (e : End Val) → WfEnd F e → length (endEntries e) ≤ F .limit
+end-few F (ended v) h = rising-length (F .limit) (entriesOf v) (entries-wf (F .limit) v h)
+end-few F (stopped r k) h = omega arith
+
+-- so that it writes at most as many entries as the item limit, in every format
+pub run-few : (F : Format) → Runnable F → (p : List ℕ) (s : ℕ) (l : List Value) (si : List ℕ) (sv : List ℤ) (wi : List ℕ) (wv : List ℤ) (ri : List ℕ) (rv : List ℤ)
+    → length (endEntries (endAfter F s (map (valOf si sv) l) (opened F p s (runMemory F l si sv wi wv ri rv)))) ≤ F .limit
+run-few F f p s l si sv wi wv ri rv =
+    end-few F (endAfter F s (map (valOf si sv) l) (opened F p s (runMemory F l si sv wi wv ri rv))) (end-wf F f p s l si sv wi wv ri rv)
+
 few-end : {F : Format} → Runnable F → (e : End Val) → WfEnd F e → SmallRan (ranTo e)
 few-end f (ended (bool b)) h = tt
 few-end f (ended (int z)) h = tt
@@ -103,7 +115,7 @@ few-end {F} f (ended (list o es)) h = (omega arith, omega (arith, rising-length 
 few-end f (ended void) h = tt
 few-end f (stopped r k) h = tt
 
--- so that it stands whole in its words
+-- and that it stands whole in its words
 pub runs-small : {F : Format} → Runnable F → (p : List ℕ) (s : ℕ) (l : List Value) (si : List ℕ) (sv : List ℤ) (r : Ran) (wi wi′ : List ℕ) (wv wv′ : List ℤ)
     (ri ri′ : List ℕ) (rv rv′ : List ℤ)
     → Runs F (opened F p s (runMemory F l si sv wi wv ri rv)) s (map (valOf si sv) l) r wi wi′ wv wv′ ri ri′ rv rv′ → SmallRan r

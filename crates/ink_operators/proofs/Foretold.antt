@@ -2,10 +2,12 @@
 -- that are all Void and slices that are long enough, for every pack of every format. Assumes nothing.
 use mathlib.Core.Path.{_≡_, refl, sym, ap, _∙_, subst}
 use mathlib.Core.Logic.{inl, inr}
+use mathlib.Core.Bool.{true}
 use mathlib.Core.List.{List, [], _∷_, map}
 use Prim.Native.Nat.{ℕ, zero, suc, _≤_, _<_}
 use native.Mathlib.Omega.{arith}
 use lib.IntN.{ℤ}
+use Rattle.ink_number.specs.Answer.{inUse}
 use lib.ListN.{length, getD}
 use Rattle.ink_value.specs.Val.{kindOf, kindAt}
 use Rattle.ink_value.specs.Value.{valOf, codeOfValue}
@@ -13,10 +15,9 @@ use Rattle.ink_value.specs.declared.Value.{Value}
 use Rattle.ink_value.specs.declared.Value.the-variants as Is
 use Rattle.slices.specs.Every.{table}
 use Rattle.pack.specs.declared.format.Format.{Format}
-use Rattle.machine.specs.Foretold.{ByValue, turned, verdict}
-use Rattle.machine.specs.Machine.{End, ended, stopped}
+use Rattle.machine.specs.Foretold.{ByValue}
 use Rattle.machine.specs.Whole.{opened, Suffices, sheetVet}
-use Rattle.machine.proofs.Numbers.{NumberedEnd, vet-numbered}
+use Rattle.machine.proofs.Numbers.{vet-numbered}
 use Rattle.vetting.specs.Vet.{Vets, forecastLimit, vetMemory}
 use Rattle.vet_program.specs.declared.Vetted.{Vetted}
 use Rattle.vet_program.specs.declared.Vetted.the-variants as Vet
@@ -30,6 +31,7 @@ use Rattle.words_in.specs.Words.{valueOf, plainAt, voidAt, slotsIn}
 use Rattle.words_out.specs.Words.{wordsOf}
 use Rattle.answer_words.specs.Answers.{ranNumber, ranWords, vettedNumber, vettedIndex, VetSays, RunSays}
 use Rattle.ink_operators.specs.Foretold.{Said, refusal, ForetoldWords}
+use Rattle.ink_operators.proofs.InUse.{turned-numbered}
 
 -- what a run's answer is at the boundary
 abbrev said : Ran → Said
@@ -43,28 +45,22 @@ kind-word (Is.List o s n) = refl
 kind-word Is.Void = refl
 
 by-value : (P : ℕ → Type 0) (r : Ran) → StoppedByValue P r → ByValue refusal P (said r)
-by-value P r (i, h, inl e) = (i, h, inl (ap said e))
-by-value P r (i, h, inr e) = (i, h, inr (ap said e))
+by-value P r (i, h, e) = (i, h, ap said e)
 
 passes : (n : ℕ) (f : List ℕ) (r : Ran) → ForetoldAnswer (Vet.Passed n) f r → ForetoldWords 0 n f (said r)
 passes n f r (inl w) = inl (ap ranNumber (w .1), ap (λ (x : Ran). getD (ranWords x) 0 0) (w .1) ∙ kind-word (w .0) ∙ w .2)
 passes n f r (inr w) = inr (by-value (λ i. i < n) r w)
 
-turns : (q k : ℕ) (f : List ℕ) (r : Ran) → 0 < q → ForetoldAnswer (Vet.Refused q k) f r → ForetoldWords q k f (said r)
-turns zero k f r h w = absurd (omega arith)
+turns : (q k : ℕ) (f : List ℕ) (r : Ran) → inUse q ≡ true → ForetoldAnswer (Vet.Refused q k) f r → ForetoldWords q k f (said r)
+turns zero k f r h w = let z : _≡_ {A = ℕ} 0 1 = cc in absurd (omega arith)
 turns (suc q) k f r h (inl w) = inl (by-value (λ i. i < k) r w)
 turns (suc q) k f r h (inr w) = inr (ap said w)
-
--- a refusal of vetting has a number
-numbered : (e : End _) (q k : ℕ) → turned q k ≡ verdict e → NumberedEnd e → 0 < q
-numbered (ended x) q k h n = let z : _≡_ {A = ℕ} 0 1 = cc in absurd (omega arith)
-numbered (stopped r i) q k h n = let e : q ≡ r = cc in subst (λ (m : ℕ). 0 < m) (sym e) n
 
 module _ (F : Format) (p : List ℕ) (s : ℕ) (codes f f′ : List ℕ) where
   words-of : (v : Vetted) (r : Ran) → Vets F p s codes v f f′ → ForetoldAnswer v f′ r → ForetoldWords (vettedNumber v) (vettedIndex v) f′ (said r)
   words-of (Vet.Passed n) r a w = passes n f′ r w
   words-of (Vet.Refused q k) r a w =
-      turns q k f′ r (numbered (sheetVet F p s (vetMemory codes f) (map kindAt codes) .end) q k (a .right) (vet-numbered F p s (vetMemory codes f) (map kindAt codes))) w
+      turns q k f′ r (turned-numbered (sheetVet F p s (vetMemory codes f) (map kindAt codes) .end) q k (a .right) (vet-numbered F p s (vetMemory codes f) (map kindAt codes))) w
 
   -- the contracts of `ink_vet` and of `ink_run`, with memory that suffices for both and slots of the kinds that were vetted
   module _ (ws si : List ℕ) (sv : List ℤ) (n index m : ℕ) (answer wi wi′ : List ℕ) (wv wv′ : List ℤ) (ri ri′ : List ℕ) (rv rv′ : List ℤ) where

@@ -15,8 +15,8 @@ Said = ℕ × List ℕ
 abbrev pub refusal : ℕ → ℕ → Said
 refusal r k = (r, indexWords k)
 
--- of 0 and a count of instructions, with the forecast's bytes f: the run returns 0 and a value of the kind forecast last, or stops with 15 or
--- 16. Of another number and an index: the run stops before that index with 15 or 16, or exactly there with that number
+-- of 0 and a count of instructions, with the forecast's bytes f: the run returns 0 and a value of the kind forecast last, or stops with 15. Of
+-- another number and an index: the run stops before that index with 15, or exactly there with that number
 abbrev pub ForetoldWords : ℕ → ℕ → List ℕ → Said → Type 0
 ForetoldWords zero count f r = ((r .0 ≡ 0) × (getD (r .1) 0 0 ≡ getD f (2 * count - 1) 0)) ⊎ ByValue refusal (λ i. i < count) r
 ForetoldWords (suc q) k f r = ByValue refusal (λ i. i < k) r ⊎ (r ≡ refusal (suc q) k)

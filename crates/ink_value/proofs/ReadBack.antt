@@ -1,20 +1,23 @@
 -- A result read back from the result slices, and that it is formed as an operand is. Assumes nothing.
 use mathlib.Core.Path.{_≡_, refl, ap, _∙_}
-use mathlib.Core.List.{List, [], _∷_}
+use mathlib.Core.Bool.{true}
+use mathlib.Core.List.{List, [], _∷_, map}
 use Prim.Native.Nat.{ℕ, zero, suc, _≤_}
 use native.Mathlib.Omega.{arith}
 use lib.IntN.{ℤ}
 use lib.ListN.{length, take}
 use Rattle.ink_list.specs.Entries.{Entry, entries, items, values, Rising, Wrote}
+use Rattle.slices.proofs.Every.{and-left, and-right}
 use Rattle.slices.proofs.Filled.{length-over}
 use Rattle.ink_value.specs.Val.{Val, bool, int, float, list, void}
 use Rattle.ink_number.specs.Answer.{Answer, gives, refuses}
 use Rattle.ink_value.specs.Convert.{entriesOf}
-use Rattle.ink_value.specs.Value.{valOf, placedVal, placed, written, Gave, Formed, outcomeOf, Wf, AllWf, FirstFormed}
+use Rattle.ink_value.specs.Value.{valOf, placedVal, placed, written, Gave, Formed, outcomeOf, Wf, AllWf, FirstFormed, eachFormed}
 use Rattle.ink_value.specs.declared.Outcome.{Outcome}
 use Rattle.ink_value.specs.declared.Value.{Value}
 use Rattle.ink_value.specs.declared.Value.the-variants as Is
 use Rattle.ink_value.proofs.Reading.{rising-in}
+use Rattle.ink_value.proofs.Forming.{formed-yes}
 use Rattle.ink_list.proofs.Output.{length-items, length-values}
 use Rattle.ink_list.proofs.Wrote.{read-entries, read-lent}
 use Rattle.ink_list.proofs.Laws.{rising-length}
@@ -65,7 +68,14 @@ wf-of limit is vs (Is.Float x) f = tt
 wf-of limit is vs (Is.List o s n) f = rising-in limit is vs (Is.List o s n) f
 wf-of limit is vs Is.Void f = tt
 
--- and so are the first n of three
+-- and so are values to which question 7 says yes, in a pack of at most as many items as the limit
+pub each-wf : (limit : ℕ) (is : List ℕ) (vs : List ℤ) (total d : ℕ) → total ≤ limit → (l : List Value) → eachFormed total d is vs l ≡ true
+    → AllWf limit (map (valOf is vs) l)
+each-wf limit is vs total d h [] e = tt
+each-wf limit is vs total d h (v ∷ l) e =
+    (wf-of limit is vs v (formed-yes total d is vs v limit h (and-left _ _ e)), each-wf limit is vs total d h l (and-right _ _ e))
+
+-- the first n of three
 pub first-wf : (limit : ℕ) (is : List ℕ) (vs : List ℤ) (n : ℕ) (a b c : Value) → FirstFormed limit is vs n a b c
     → AllWf limit (take n (valOf is vs a ∷ valOf is vs b ∷ valOf is vs c ∷ []))
 first-wf limit is vs zero a b c f = tt

@@ -5,13 +5,14 @@ use denote.Ref.{now}
 use lib.IntN.{ℤ}
 use lib.Ieee.{Float}
 use lib.ListN.{take}
-use Rattle.ink_number.specs.Answer.{Answer}
+use Rattle.ink_number.specs.Answer.{Answer, gives}
 use Rattle.slices.specs.Slices.{Slice}
 use Rattle.ink_list.specs.Entries.{Entry}
 use Rattle.ink_value.specs.Val.{Val}
 use Rattle.ink_value.specs.Value.{valOf, entriesAt, ofParts, Gave}
 use Rattle.ink_value.specs.declared.Value.{Value}
 use Rattle.ink_value.specs.declared.Outcome.{Outcome}
+use Rattle.ink_value.specs.declared.Outcome.the-variants as Out
 
 -- the value, its entries as the slices hold them at entry
 abbrev pub valIn : Slice ℕ → Slice ℤ → Value → Val
@@ -36,3 +37,7 @@ partsWith is values k z x s n = ofParts is (now (values .entry)) k z x s n
 -- the answer is returned, and its entries are written from the start of two slices, which are else as they were
 abbrev pub Gives : Answer Val → Outcome → Slice ℕ → Slice ℤ → Type 0
 Gives answer r oi ov = Gave answer r (now (oi .entry)) (now (oi .exit)) (now (ov .entry)) (now (ov .exit))
+
+-- the same of a call that refuses nothing: it returns the value
+abbrev pub Makes : Val → Value → Slice ℕ → Slice ℤ → Type 0
+Makes v r oi ov = Gives (gives v) (Out.Value r) oi ov

@@ -4,12 +4,11 @@ use mathlib.Core.Bool.{cond}
 use mathlib.Core.List.{List, [], _∷_}
 use Prim.Native.Nat.{ℕ, _≤_, _<_}
 use denote.Ref.{now}
-use lib.Dec.{eqb, leb}
+use lib.Dec.{eqb}
 use lib.IntN.{ℤ}
 use lib.ListN.{length}
 use Rattle.op.specs.Op.{opAdd, opSubtract, opListMin, opListMax, opAll, opInvert}
 use Rattle.operator_kinds.specs.Kinds.{isList}
-use Rattle.ink_number.specs.Answer.{Answer, gives, refuses}
 use Rattle.slices.specs.Slices.{Slice}
 use Rattle.ink_list.specs.Entries.{Entry, items, itemNumbers}
 use Rattle.ink_list.specs.Ops.{range, listMin, listMax}
@@ -55,13 +54,13 @@ entriesFor u o (a ∷ b ∷ c ∷ d ∷ vs) = []
 unfoldable pub originsAfter : ListDefinitions → List Entry → ℕ
 originsAfter u es = originsOf (u .ends) (items es)
 
--- question 16
-unfoldable pub listed : ListDefinitions → List Entry → Answer Val
-listed u es = cond (leb (length es) (u .limit)) (gives (list (originsAfter u es) es)) (refuses 16)
+-- a List of these entries
+abbrev pub listed : ListDefinitions → List Entry → Val
+listed u es = list (originsAfter u es) es
 
--- an operator's List, or 16
-abbrev pub listAnswer : ListDefinitions → ℕ → List Val → Answer Val
-listAnswer u o vs = listed u (entriesFor u o vs)
+-- an operator's List
+abbrev pub listResult : ListDefinitions → ℕ → List Val → Val
+listResult u o vs = listed u (entriesFor u o vs)
 
 -- ---- the definitions
 

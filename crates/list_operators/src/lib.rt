@@ -1,5 +1,4 @@
 // The operators on lists: tests, and results that are Lists, written from the start of two output slices.
-use ink_value::Outcome;
 use ink_value::Value;
 use ink_value::kind_code;
 ghost use mathlib.Core.Path.{_≡_};
@@ -11,11 +10,10 @@ ghost use Rattle.ink_list.specs.Slices.{list, Answers};
 ghost use Rattle.list_definitions.specs.Defs.{Tables, originsOf};
 ghost use Rattle.ink_value.specs.Val.{listK, codeOf};
 ghost use Rattle.ink_value.specs.Value.{codeOfValue, Spans, Formed, FirstFormed};
-ghost use Rattle.ink_value.specs.Slices.{valIn, firstIn, entriesIn, Gives};
+ghost use Rattle.ink_value.specs.Slices.{valIn, firstIn, entriesIn, Makes};
 ghost use Rattle.ink_value.specs.declared.Value.the-variants as Is;
-ghost use Rattle.ink_value.specs.declared.Outcome.the-variants as Out;
 ghost use Rattle.list_pairs.specs.Pairs.{testL};
-ghost use Rattle.list_operators.specs.Lists.{unaryL, shiftL, listAnswer, Room, definitions, definitionsIn};
+ghost use Rattle.list_operators.specs.Lists.{unaryL, shiftL, listResult, Room, definitions, definitionsIn};
 
 fn unary(
     op: u8,
@@ -81,16 +79,16 @@ pub fn test_held(
 }
 
 // The list of the first n entries of the output, with its items' origins.
-fn located(n: usize, items: &[u16], ends: &[u16]) -> Outcome
+fn located(n: usize, items: &[u16], ends: &[u16]) -> Value
     requires { ⌜ (n ≤ length (now items)) × Ascends 0 itemNumbers (take n (now items)) × (length (now ends) ≤ 64) ⌝ }
-    ensures { λ r. ⌜ r ≡ Out.Value (Is.List (originsOf (now (ends .entry)) (take n (now (items .entry)))) 0 n) ⌝ }
+    ensures { λ r. ⌜ r ≡ Is.List (originsOf (now (ends .entry)) (take n (now (items .entry)))) 0 n ⌝ }
 {
     let origins = list_definitions::origins_of(&items[..n], ends);
-    Outcome::Value(Value::List {
+    Value::List {
         origins,
         start: 0,
         len: n,
-    })
+    }
 }
 
 // ListMin, ListMax, All, Invert.
@@ -104,10 +102,10 @@ fn list1(
     limit: usize,
     oi: &mut [u16],
     ov: &mut [i32],
-) -> Outcome
+) -> Value
     requires { ⌜ Room (definitions (now ends) (now defined) limit) (now oi) (now ov) ⌝ }
     requires { ⌜ Formed limit (now items) (now values) a ⌝ }
-    ensures { λ r. ⌜ Gives (listAnswer (definitionsIn ends defined limit) op (valIn items values a ∷ [])) r oi ov ⌝ }
+    ensures { λ r. ⌜ Makes (listResult (definitionsIn ends defined limit) op (valIn items values a ∷ [])) r oi ov ⌝ }
 {
     let i = ink_value::start_of(a);
     let m = ink_value::len_of(a);
@@ -129,11 +127,11 @@ fn list_list(
     limit: usize,
     oi: &mut [u16],
     ov: &mut [i32],
-) -> Outcome
+) -> Value
     requires { ⌜ Room (definitions (now ends) (now defined) limit) (now oi) (now ov) ⌝ }
     requires { ⌜ Formed limit (now items) (now values) a × Formed limit (now items) (now values) b ⌝ }
     requires { ⌜ codeOfValue b ≡ codeOf listK ⌝ }
-    ensures { λ r. ⌜ Gives (listAnswer (definitionsIn ends defined limit) op (valIn items values a ∷ valIn items values b ∷ [])) r oi ov ⌝ }
+    ensures { λ r. ⌜ Makes (listResult (definitionsIn ends defined limit) op (valIn items values a ∷ valIn items values b ∷ [])) r oi ov ⌝ }
 {
     let i = ink_value::start_of(a);
     let m = ink_value::len_of(a);
@@ -165,11 +163,11 @@ fn list_int(
     limit: usize,
     oi: &mut [u16],
     ov: &mut [i32],
-) -> Outcome
+) -> Value
     requires { ⌜ Room (definitions (now ends) (now defined) limit) (now oi) (now ov) ⌝ }
     requires { ⌜ Formed limit (now items) (now values) a × Formed limit (now items) (now values) b ⌝ }
     requires { ⌜ (codeOfValue b ≡ codeOf listK → ⊥) ⌝ }
-    ensures { λ r. ⌜ Gives (listAnswer (definitionsIn ends defined limit) op (valIn items values a ∷ valIn items values b ∷ [])) r oi ov ⌝ }
+    ensures { λ r. ⌜ Makes (listResult (definitionsIn ends defined limit) op (valIn items values a ∷ valIn items values b ∷ [])) r oi ov ⌝ }
 {
     let i = ink_value::start_of(a);
     let m = ink_value::len_of(a);
@@ -201,10 +199,10 @@ fn list2(
     limit: usize,
     oi: &mut [u16],
     ov: &mut [i32],
-) -> Outcome
+) -> Value
     requires { ⌜ Room (definitions (now ends) (now defined) limit) (now oi) (now ov) ⌝ }
     requires { ⌜ Formed limit (now items) (now values) a × Formed limit (now items) (now values) b ⌝ }
-    ensures { λ r. ⌜ Gives (listAnswer (definitionsIn ends defined limit) op (valIn items values a ∷ valIn items values b ∷ [])) r oi ov ⌝ }
+    ensures { λ r. ⌜ Makes (listResult (definitionsIn ends defined limit) op (valIn items values a ∷ valIn items values b ∷ [])) r oi ov ⌝ }
 {
     if ink_value::kind(b) == kind_code::LIST {
         return list_list(op, a, b, items, values, ends, defined, limit, oi, ov);
@@ -225,11 +223,11 @@ fn list3(
     limit: usize,
     oi: &mut [u16],
     ov: &mut [i32],
-) -> Outcome
+) -> Value
     requires { ⌜ Room (definitions (now ends) (now defined) limit) (now oi) (now ov) ⌝ }
     requires { ⌜ Formed limit (now items) (now values) a × Formed limit (now items) (now values) b ⌝ }
     requires { ⌜ Formed limit (now items) (now values) c ⌝ }
-    ensures { λ r. ⌜ Gives (listAnswer (definitionsIn ends defined limit) op (firstIn items values 3 a b c)) r oi ov ⌝ }
+    ensures { λ r. ⌜ Makes (listResult (definitionsIn ends defined limit) op (firstIn items values 3 a b c)) r oi ov ⌝ }
 {
     let n = value_range::range(a, b, c, items, values, oi, ov);
     located(n, oi, ends)
@@ -249,11 +247,11 @@ pub fn list(
     limit: usize,
     oi: &mut [u16],
     ov: &mut [i32],
-) -> Outcome
+) -> Value
     requires { ⌜ Room (definitions (now ends) (now defined) limit) (now oi) (now ov) ⌝ }
     requires { ⌜ FirstFormed limit (now items) (now values) count a b c ⌝ }
     requires { ⌜ (1 ≤ count) × (count ≤ 3) ⌝ }
-    ensures { λ r. ⌜ Gives (listAnswer (definitionsIn ends defined limit) op (firstIn items values count a b c)) r oi ov ⌝ }
+    ensures { λ r. ⌜ Makes (listResult (definitionsIn ends defined limit) op (firstIn items values count a b c)) r oi ov ⌝ }
 {
     if count == 1 {
         return list1(op, a, items, values, ends, defined, limit, oi, ov);

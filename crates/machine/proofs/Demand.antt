@@ -10,6 +10,7 @@ use native.Mathlib.Nat.{le-of-suc-le-suc, not-suc-le-zero}
 use lib.Dec.{ltb}
 use lib.ListN.{length, getD, length-map, List·getD-map}
 use Rattle.ink_number.specs.Answer.{Answer, gives, refuses, ask}
+use Rattle.ink_number.specs.Int.{divisorQuestion}
 use Rattle.ink_value.specs.Val.{Val, void, Kind, kindOf, codeOf}
 use Rattle.operator_kinds.specs.Kinds.{known, arity, kindApply}
 use Rattle.native_function_call.specs.Apply.{applyOp, Agree}
@@ -22,12 +23,9 @@ use Rattle.machine.specs.Foretold.{verdict, topCode, forecast, Begins, S
 
 -- ---- one instruction
 
-OfValues : ℕ → Type 0
-OfValues r = (r ≡ 15) ⊎ (r ≡ 16)
-
 abbrev StepAgree : Answer (List Kind) → Answer (List Val) → Type 0
 StepAgree (gives ks) (gives st) = ks ≡ map kindOf st
-StepAgree (gives ks) (refuses r) = OfValues r
+StepAgree (gives ks) (refuses r) = r ≡ divisorQuestion
 StepAgree (refuses q) (gives st) = ⊥
 StepAgree (refuses q) (refuses r) = r ≡ q
 
@@ -44,7 +42,6 @@ popped-kinds (suc n) xs [] = refl
 popped-kinds (suc n) xs (x ∷ st) = popped-kinds n (x ∷ xs) st
 
 topped-agree : (st : List Val) (a : Answer Kind) (b : Answer Val) → Agree a b → StepAgree (topped (map kindOf st) a) (topped st b)
-unfolding OfValues
 topped-agree st (gives k) (gives v) h = rw (← h)
 topped-agree st (gives k) (refuses r) h = h
 topped-agree st (refuses q) (gives v) h = h
@@ -92,9 +89,9 @@ Follows (k ∷ ks) (st ∷ sts) = (k ≡ map kindOf st) × Follows ks sts
 -- the two ends, of instructions that end before index lim
 abbrev EndAgree : ℕ → End Kind → End Val → Type 0
 EndAgree lim (ended k) (ended v) = kindOf v ≡ k
-EndAgree lim (ended k) (stopped r j) = OfValues r × (j < lim)
+EndAgree lim (ended k) (stopped r j) = (r ≡ divisorQuestion) × (j < lim)
 EndAgree lim (stopped q k) (ended v) = ⊥
-EndAgree lim (stopped q k) (stopped r j) = (OfValues r × (j < k)) ⊎ ((r ≡ q) × (j ≡ k))
+EndAgree lim (stopped q k) (stopped r j) = ((r ≡ divisorQuestion) × (j < k)) ⊎ ((r ≡ q) × (j ≡ k))
 
 abbrev Sim : ℕ → Run Kind → Run Val → Type 0
 Sim lim a b = Follows (a .stacks) (b .stacks) × EndAgree lim (a .end) (b .end)
@@ -130,7 +127,7 @@ finish-agree lim i (v ∷ []) = refl
 finish-agree lim i (v ∷ w ∷ st) = inr (refl, refl)
 
 -- the run stops by a value at i, where vetting goes on and ends later
-stops : (lim i r : ℕ) (e : End Kind) → i < lim → OfValues r → NotBefore (i + 1) e → EndAgree lim e (stopped r i)
+stops : (lim i r : ℕ) (e : End Kind) → i < lim → r ≡ divisorQuestion → NotBefore (i + 1) e → EndAgree lim e (stopped r i)
 stops lim i r (ended k) l h n = (h, l)
 stops lim i r (stopped q k) l h n = inl (h, omega arith)
 
@@ -235,10 +232,8 @@ follows-count ks sts f j h =
 
 -- ---- demand 3
 
-by-value : (P : ℕ → Type 0) (r j : ℕ) (e : End Val) → e ≡ stopped r j → OfValues r → P j → StopsByValue P e
-unfolding OfValues
-by-value P r j e q (inl h) p = (j, p, inl (q ∙ ap (λ (x : ℕ). stopped x j) h))
-by-value P r j e q (inr h) p = (j, p, inr (q ∙ ap (λ (x : ℕ). stopped x j) h))
+by-value : (P : ℕ → Type 0) (r j : ℕ) (e : End Val) → e ≡ stopped r j → r ≡ divisorQuestion → P j → StopsByValue P e
+by-value P r j e q h p = (j, p, q ∙ ap (λ (x : ℕ). stopped x j) h)
 
 module _ (n : ℕ) (f : List ℕ) (a : Run Kind) (b : Run Val) (fol : Follows (a .stacks) (b .stacks)) where
   counts : Begins f (a .stacks) → (j : ℕ) → j < length (b .stacks)

@@ -15,8 +15,7 @@ use Rattle.ink_value.specs.Value.{written, Wf, AllWf}
 use Rattle.operator_kinds.specs.Kinds.{known, arity}
 use Rattle.list_definitions.specs.Defs.{ListDefinitions}
 use Rattle.native_function_call.specs.Apply.{applyOp}
-use Rattle.list_operators.proofs.Listing.{Fine}
-use Rattle.native_function_call.proofs.Results.{apply-fine}
+use Rattle.native_function_call.proofs.Results.{apply-rises}
 use Rattle.pack.specs.Bodies.{Literal}
 use Rattle.pack.specs.Instruction.{Push, pushBool, pushInt, pushFloat, pushList, pushSlot, pushVoid, Instr, op, push}
 use Rattle.machine.specs.Stack.{stackOf}
@@ -35,11 +34,11 @@ module _ (limit : ℕ) where
   WfAnswer (gives v) = Wf limit v
   WfAnswer (refuses r) = Unit {0}
 
-  answer-wf : (a : Answer Val) → Fine limit (written a) → WfAnswer a
+  answer-wf : (a : Answer Val) → Rising limit (written a) → WfAnswer a
   answer-wf (gives (bool b)) f = tt
   answer-wf (gives (int z)) f = tt
   answer-wf (gives (float x)) f = tt
-  answer-wf (gives (list o es)) f = f .rising
+  answer-wf (gives (list o es)) f = f
   answer-wf (gives void) f = tt
   answer-wf (refuses r) f = tt
 
@@ -70,12 +69,12 @@ module _ (limit : ℕ) where
       go (yes e) r = subst (λ (k : ℕ). Wf limit (f k)) (sym e) (h .0)
       go (no ne) r = r (omega arith)
 
-module _ (u : ListDefinitions) (some-item : 1 ≤ u .limit) (within : length (u .defined) ≤ u .limit)
+module _ (u : ListDefinitions) (within : length (u .defined) ≤ u .limit)
     (literals : ℕ → Literal) (slots : List Val) (hl : (k : ℕ) → Rising (u .limit) (literals k .entries)) (hs : AllWf (u .limit) slots) where
   worked-wf : (o : ℕ) (p : Option (List Val × List Val)) → WfPopped (u .limit) p → WfStep (u .limit) (worked (applyOp u o) p)
   worked-wf o none h = tt
   worked-wf o (some p) h =
-      topped-wf (u .limit) (p .1) (applyOp u o (p .0)) (h .1) (answer-wf (u .limit) (applyOp u o (p .0)) (apply-fine u some-item within o (p .0) (h .0)))
+      topped-wf (u .limit) (p .1) (applyOp u o (p .0)) (h .1) (answer-wf (u .limit) (applyOp u o (p .0)) (apply-rises u within o (p .0) (h .0)))
 
   pushed-wf : (p : Push) → Wf (u .limit) (valuePushed literals slots p)
   pushed-wf (pushBool b) = tt

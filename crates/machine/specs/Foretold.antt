@@ -4,6 +4,7 @@ use mathlib.Core.Logic.{_⊎_}
 use mathlib.Core.List.{List, [], _∷_, map}
 use Prim.Native.Nat.{ℕ, _+_, _*_, _-_, _<_}
 use lib.ListN.{length, getD}
+use Rattle.ink_number.specs.Int.{divisorQuestion}
 use Rattle.ink_value.specs.Val.{Val, kindOf, Kind, codeOf}
 use Rattle.machine.specs.Machine.{End, ended, stopped, Run}
 
@@ -30,17 +31,17 @@ forecast (st ∷ sts) = length st ∷ topCode st ∷ forecast sts
 abbrev pub Begins : List ℕ → List (List Kind) → Type 0
 Begins f ks = (i : ℕ) → i < 2 * length ks → getD f i 0 ≡ getD (forecast ks) i 0
 
--- "15 or 16", which depend on values: x is the end, or the answer, that f gives for one of them at an index of which P holds
+-- 15, the one question that depends on values: x is the end, or the answer, that f gives for it at an index of which P holds
 abbrev pub ByValue : {X : Type 0} → (ℕ → ℕ → X) → (ℕ → Type 0) → X → Type 0
-ByValue f P x = (i : ℕ) × P i × ((x ≡ f 15 i) ⊎ (x ≡ f 16 i))
+ByValue f P x = (i : ℕ) × P i × (x ≡ f divisorQuestion i)
 
--- a run stops with one of them
+-- a run stops with it
 abbrev pub StopsByValue : (ℕ → Type 0) → End Val → Type 0
 StopsByValue = ByValue stopped
 
 -- what an answer, with the forecast's bytes f, says of the run of a sheet of n instructions. Passed: after every instruction that the run
--- completes, count and top kind are those forecast for it; and the run ends in one value of the kind forecast last, or stops with 15 or 16.
--- Turned back with q at k: the run stops before k with 15 or 16, or exactly at k with q
+-- completes, count and top kind are those forecast for it; and the run ends in one value of the kind forecast last, or stops with 15.
+-- Turned back with q at k: the run stops before k with 15, or exactly at k with q
 abbrev pub Foretold : ℕ → Verdict → List ℕ → Run Val → Type 0
 Foretold n passed f r =
     ((j : ℕ) → j < length (r .stacks)

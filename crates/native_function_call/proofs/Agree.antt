@@ -1,32 +1,24 @@
 -- The operators agree with their answers on kinds. Assumes nothing.
 use mathlib.Core.Path.{_≡_, refl}
-use mathlib.Core.Logic.{inl, inr}
 use mathlib.Core.Bool.{Bool, true, false, cond}
 use mathlib.Core.List.{List, [], _∷_, map}
 use Prim.Native.Nat.{ℕ}
-use lib.Dec.{eqb, leb}
+use lib.Dec.{eqb}
 use lib.IntN.{ℤ}
-use lib.ListN.{length}
 use Rattle.ink_value.specs.Val.{Val, Kind, boolK, intK, floatK, listK, voidK, kindOf}
-use Rattle.ink_list.specs.Entries.{Entry}
 use Rattle.ink_number.specs.Answer.{Answer, gives, refuses}
 use Rattle.operator_kinds.specs.Kinds.{kindApply}
 use Rattle.ink_value.specs.Convert.{asInt}
 use Rattle.number_operators.specs.Numbers.{arithZ}
-use Rattle.ink_number.specs.Int.{canDivide, quotient, remainder}
+use Rattle.ink_number.specs.Int.{divisorQuestion, canDivide, quotient, remainder}
 use Rattle.op.specs.Op.{opAdd, opSubtract, opDivide, opMultiply, opMod, opMin, opMax}
 use Rattle.list_definitions.specs.Defs.{ListDefinitions}
 use Rattle.native_function_call.specs.Apply.{ofInt, whole, compute, guarded, applyOp, Agree}
-use Rattle.list_operators.specs.Lists.{entriesFor, listed}
-
-either : (k : Kind) (t : Bool) (a b : Answer Val) → Agree (gives k) a → Agree (gives k) b → Agree (gives k) (cond t a b)
-either k true a b p q = p
-either k false a b p q = q
 
 -- question 15 is the one refusal of Int arithmetic
 abbrev Fifteen : Answer ℤ → Type 0
 Fifteen (gives z) = Unit {0}
-Fifteen (refuses r) = r ≡ 15
+Fifteen (refuses r) = r ≡ divisorQuestion
 
 both-ways : (t : Bool) (a b : Answer ℤ) → Fifteen a → Fifteen b → Fifteen (cond t a b)
 both-ways true a b p q = p
@@ -43,7 +35,7 @@ arith-fifteen o x y =
 
 int-agrees : (a : Answer ℤ) → Fifteen a → Agree (gives intK) (ofInt a)
 int-agrees (gives z) h = refl
-int-agrees (refuses r) h = inl h
+int-agrees (refuses r) h = h
 
 whole-agrees : (o : ℕ) (vs : List Val) → Agree (gives intK) (whole o vs)
 whole-agrees o [] = refl
@@ -51,16 +43,12 @@ whole-agrees o (a ∷ []) = refl
 whole-agrees o (a ∷ b ∷ []) = int-agrees (arithZ o (asInt a) (asInt b)) (arith-fifteen o (asInt a) (asInt b))
 whole-agrees o (a ∷ b ∷ c ∷ vs) = refl
 
-listed-agrees : (u : ListDefinitions) (es : List Entry) → Agree (gives listK) (listed u es)
-unfolding listed
-listed-agrees u es = either listK (leb (length es) (u .limit)) _ _ refl (inr refl)
-
 compute-agrees : (u : ListDefinitions) (o : ℕ) (vs : List Val) (k : Kind) → Agree (gives k) (compute u o vs k)
 unfolding compute
 compute-agrees u o vs boolK = refl
 compute-agrees u o vs intK = whole-agrees o vs
 compute-agrees u o vs floatK = refl
-compute-agrees u o vs listK = listed-agrees u (entriesFor u o vs)
+compute-agrees u o vs listK = refl
 compute-agrees u o vs voidK = refl
 
 guarded-agrees : (u : ListDefinitions) (o : ℕ) (vs : List Val) (q : Answer Kind) → Agree q (guarded q (compute u o vs))

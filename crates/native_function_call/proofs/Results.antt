@@ -1,72 +1,46 @@
--- Results are well formed, and so question 16 always says yes of them. Assumes nothing.
+-- Results are well formed: a List's items rise below the item limit, so that it has at most as many entries. Assumes nothing.
 use mathlib.Core.Path.{_≡_, sym, subst}
-use mathlib.Core.Bool.{Bool, true, false, cond}
-use mathlib.Core.List.{List, [], _∷_, map}
+use mathlib.Core.Bool.{true}
+use mathlib.Core.List.{List, map}
 use Prim.Native.Nat.{ℕ, _≤_}
-use borrow.Author.Tests.{le-leb}
-use lib.Dec.{leb}
+use lib.IntN.{ℤ}
 use lib.ListN.{length}
-use Rattle.ink_list.specs.Entries.{Entry}
-use Rattle.ink_value.specs.Val.{Val, list, Kind, boolK, intK, floatK, listK, voidK, kindOf}
+use Rattle.slices.proofs.Every.{and-right}
+use Rattle.ink_list.specs.Entries.{Rising}
+use Rattle.ink_list.proofs.Laws.{rising-length}
+use Rattle.ink_value.specs.Val.{Val, Kind, boolK, intK, floatK, listK, voidK, kindOf}
 use Rattle.ink_number.specs.Answer.{Answer, gives, refuses}
-use Rattle.operator_kinds.specs.Kinds.{kindApply, isList}
-use Rattle.ink_value.specs.Convert.{asInt, entriesOf, originsIn}
-use Rattle.value_range.specs.Bounds.{lowerOf, upperOf}
+use Rattle.operator_kinds.specs.Kinds.{kindApply}
 use Rattle.list_definitions.specs.Defs.{ListDefinitions}
-use Rattle.list_pairs.specs.Pairs.{mergeL}
-use Rattle.list_operators.specs.Lists.{shiftL, listBinary, entriesFor, originsAfter, listed, listAnswer}
 use Rattle.native_function_call.specs.Apply.{compute, guarded, applyOp}
-use Rattle.ink_value.specs.Value.{written, AllWf}
-use Rattle.list_operators.proofs.Listing.{Fine, none-fine, merge-fine, shift-fine, range-fine, unary-fine}
-use Rattle.ink_value.proofs.ReadBack.{entries-wf}
+use Rattle.ink_value.specs.Value.{valOf, written, allFormed, AllWf}
+use Rattle.ink_value.specs.declared.Value.{Value}
+use Rattle.list_operators.proofs.Listing.{entries-rise}
+use Rattle.ink_value.proofs.ReadBack.{each-wf}
 use Rattle.native_function_call.proofs.Calling.{whole-none}
 
--- ---- well formed
-
-module _ (u : ListDefinitions) (some : 1 ≤ u .limit) (within : length (u .defined) ≤ u .limit) where
-  binary-fine : (o : ℕ) (a b : Val) → Fine (u .limit) (listBinary u o a b)
-  unfolding listBinary
-  binary-fine o a b = go (isList (kindOf b))
-    where
-      go : (t : Bool) → Fine (u .limit) (cond t (mergeL (u .limit) o (entriesOf a) (entriesOf b)) (shiftL (u .ends) (u .defined) o (originsIn a) (asInt b) (entriesOf a)))
-      go true = merge-fine (u .limit) o (entriesOf a) (entriesOf b)
-      go false = shift-fine (u .limit) (u .ends) (u .defined) o (originsIn a) (asInt b) (entriesOf a) within
-
-  entries-fine : (o : ℕ) (vs : List Val) → AllWf (u .limit) vs → Fine (u .limit) (entriesFor u o vs)
-  entries-fine o [] h = none-fine (u .limit)
-  entries-fine o (a ∷ []) h = unary-fine (u .limit) (u .ends) (u .defined) o (originsIn a) (entriesOf a) some within (entries-wf (u .limit) a (h .0))
-  entries-fine o (a ∷ b ∷ []) h = binary-fine o a b
-  entries-fine o (a ∷ b ∷ c ∷ []) h = range-fine (u .limit) (lowerOf b) (upperOf c) (entriesOf a)
-  entries-fine o (a ∷ b ∷ c ∷ d ∷ vs) h = none-fine (u .limit)
-
-  listed-fine : (es : List Entry) → Fine (u .limit) es → Fine (u .limit) (written (listed u es))
-  unfolding listed
-  listed-fine es f = go (leb (length es) (u .limit))
-    where
-      go : (t : Bool) → Fine (u .limit) (written (cond t (gives (list (originsAfter u es) es)) (refuses 16)))
-      go true = f
-      go false = none-fine (u .limit)
-
-  pub compute-fine : (o : ℕ) (vs : List Val) (k : Kind) → AllWf (u .limit) vs → Fine (u .limit) (written (compute u o vs k))
+module _ (u : ListDefinitions) (within : length (u .defined) ≤ u .limit) where
+  compute-rises : (o : ℕ) (vs : List Val) (k : Kind) → AllWf (u .limit) vs → Rising (u .limit) (written (compute u o vs k))
   unfolding compute
-  compute-fine o vs boolK h = none-fine (u .limit)
-  compute-fine o vs intK h = subst (Fine (u .limit)) (sym (whole-none o vs)) (none-fine (u .limit))
-  compute-fine o vs floatK h = none-fine (u .limit)
-  compute-fine o vs listK h = listed-fine (entriesFor u o vs) (entries-fine o vs h)
-  compute-fine o vs voidK h = none-fine (u .limit)
+  compute-rises o vs boolK h = tt
+  compute-rises o vs intK h = subst (Rising (u .limit)) (sym (whole-none o vs)) tt
+  compute-rises o vs floatK h = tt
+  compute-rises o vs listK h = entries-rise u within o vs h
+  compute-rises o vs voidK h = tt
 
-  guarded-fine : (o : ℕ) (vs : List Val) (q : Answer Kind) → AllWf (u .limit) vs → Fine (u .limit) (written (guarded q (compute u o vs)))
-  guarded-fine o vs (gives k) h = compute-fine o vs k h
-  guarded-fine o vs (refuses r) h = none-fine (u .limit)
+  guarded-rises : (o : ℕ) (vs : List Val) (q : Answer Kind) → AllWf (u .limit) vs → Rising (u .limit) (written (guarded q (compute u o vs)))
+  guarded-rises o vs (gives k) h = compute-rises o vs k h
+  guarded-rises o vs (refuses r) h = tt
 
-  -- an operator on well-formed operands: its entries are at most as many as the limit, and rise below it
-  pub apply-fine : (o : ℕ) (vs : List Val) → AllWf (u .limit) vs → Fine (u .limit) (written (applyOp u o vs))
+  -- an operator on well-formed operands
+  pub apply-rises : (o : ℕ) (vs : List Val) → AllWf (u .limit) vs → Rising (u .limit) (written (applyOp u o vs))
   unfolding applyOp
-  apply-fine o vs h = guarded-fine o vs (kindApply o (map kindOf vs)) h
+  apply-rises o vs h = guarded-rises o vs (kindApply o (map kindOf vs)) h
 
--- question 16 always says yes of well-formed operands (change request 9)
-module _ (u : ListDefinitions) (some : 1 ≤ u .limit) (within : length (u .defined) ≤ u .limit) where
-  pub listed-gives : (o : ℕ) (vs : List Val) → AllWf (u .limit) vs
-      → listAnswer u o vs ≡ gives (list (originsAfter u (entriesFor u o vs)) (entriesFor u o vs))
-  unfolding listed
-  listed-gives o vs h = rw (le-leb (length (entriesFor u o vs)) (u .limit) (entries-fine u some within o vs h .few))
+  -- "Items in a pack are at most 256 and a list holds an item once, so a result cannot be longer": of operands to which question 7 says yes,
+  -- for any item limit
+  pub result-few : (o : ℕ) (is : List ℕ) (vs : List ℤ) (operands : List Value) → allFormed (length (u .defined)) (length (u .ends)) is vs operands ≡ true
+      → length (written (applyOp u o (map (valOf is vs) operands))) ≤ u .limit
+  result-few o is vs operands e =
+      rising-length (u .limit) (written (applyOp u o (map (valOf is vs) operands)))
+      (apply-rises o (map (valOf is vs) operands) (each-wf (u .limit) is vs (length (u .defined)) (length (u .ends)) within operands (and-right _ _ e)))

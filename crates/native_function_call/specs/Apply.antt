@@ -1,6 +1,5 @@
 -- The operators on values: what document 01 has under "Down the call".
 use mathlib.Core.Path.{_≡_}
-use mathlib.Core.Logic.{_⊎_}
 use mathlib.Core.Bool.{Bool, false, cond, not, _&&_, _||_}
 use mathlib.Core.List.{List, [], _∷_, map}
 use Prim.Native.Nat.{ℕ}
@@ -10,13 +9,14 @@ use lib.Dec.{eqb}
 use Rattle.op.specs.Op.{opAnd, opOr}
 use Rattle.operator_kinds.specs.Kinds.{known, arity, kindApply, common, isList}
 use Rattle.ink_number.specs.Answer.{Answer, gives, refuses, ask}
+use Rattle.ink_number.specs.Int.{divisorQuestion}
 use Rattle.binary32.specs.Real.{ofInt32}
 use Rattle.ink_value.specs.Val.{Val, bool, int, float, void, Kind, boolK, intK, floatK, listK, voidK, kindOf}
 use Rattle.ink_value.specs.Convert.{asInt, asFloat, truthy, entriesOf}
 use Rattle.list_definitions.specs.Defs.{ListDefinitions}
 use Rattle.number_operators.specs.Numbers.{arithZ, arithF, testNumbers, wholeUnary, realUnary}
 use Rattle.list_pairs.specs.Pairs.{testL}
-use Rattle.list_operators.specs.Lists.{listAnswer}
+use Rattle.list_operators.specs.Lists.{listResult}
 
 -- ---- results that are Bools
 
@@ -66,14 +66,14 @@ unfoldable pub compute : ListDefinitions → ℕ → List Val → Kind → Answe
 compute u o vs boolK = gives (bool (test o vs))
 compute u o vs intK = whole o vs
 compute u o vs floatK = gives (float (real o vs))
-compute u o vs listK = listAnswer u o vs
+compute u o vs listK = gives (listResult u o vs)
 compute u o vs voidK = gives void
 
 abbrev pub guarded : Answer Kind → (Kind → Answer Val) → Answer Val
 guarded (gives k) f = f k
 guarded (refuses r) f = refuses r
 
--- the questions that ask for kinds first; then 15, 16 and the result
+-- the questions that ask for kinds first; then 15 and the result
 unfoldable pub applyOp : ListDefinitions → ℕ → List Val → Answer Val
 applyOp u o vs = guarded (kindApply o (map kindOf vs)) (compute u o vs)
 
@@ -81,9 +81,9 @@ applyOp u o vs = guarded (kindApply o (map kindOf vs)) (compute u o vs)
 unfoldable pub call : ListDefinitions → ℕ → ℕ → List Val → Answer Val
 call u o n vs = ask 8 (known o) (ask 10 (eqb n (arity o)) (applyOp u o vs))
 
--- how an operator's answer on values goes with its answer on kinds: the same refusal; or a result of that kind, or 15 or 16
+-- how an operator's answer on values goes with its answer on kinds: the same refusal; or a result of that kind, or 15
 abbrev pub Agree : Answer Kind → Answer Val → Type 0
 Agree (gives k) (gives v) = kindOf v ≡ k
-Agree (gives k) (refuses r) = (r ≡ 15) ⊎ (r ≡ 16)
+Agree (gives k) (refuses r) = r ≡ divisorQuestion
 Agree (refuses r) (gives v) = ⊥
 Agree (refuses r) (refuses q) = q ≡ r

@@ -288,7 +288,7 @@ fn computed(
     ensures { λ r. ⌜ Gives (compute (definitionsIn ends defined limit) op (firstIn items values count a b c) (kindAt kind)) r oi ov ⌝ }
 {
     if kind == kind_code::LIST {
-        return list_operators::list(
+        return Outcome::Value(list_operators::list(
             op,
             count,
             a,
@@ -301,12 +301,12 @@ fn computed(
             limit,
             oi,
             ov,
-        );
+        ));
     }
     scalar(op, kind, count, a, b, items, values)
 }
 
-// An operator on the first `count` of three operands: questions 8 and 10 to 16, and the result.
+// An operator on the first `count` of three operands: questions 8 and 10 to 15, and the result.
 pub fn apply(
     op: u8,
     count: usize,

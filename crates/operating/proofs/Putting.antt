@@ -6,16 +6,15 @@ use native.Mathlib.Omega.{arith}
 use native.Mathlib.Nat.{suc-mul, mul-le-mul-right}
 use lib.IntN.{ℤ}
 use lib.ListN.{length, take, drop}
-use Rattle.ink_number.specs.Answer.{Answer, gives, refuses}
+use Rattle.ink_number.specs.Answer.{Answer, gives}
 use Rattle.ink_list.specs.Entries.{Entry, entries, items, values, Rising, Stored}
 use Rattle.slices.specs.Filled.{fill}
 use Rattle.slices.proofs.Filled.{fill-nothing}
 use Rattle.ink_value.specs.Val.{Val, bool, int, float, list, void}
 use Rattle.ink_value.specs.Convert.{entriesOf}
-use Rattle.ink_value.specs.Value.{valOf, codeOfValue, startOf, lenOf, setIn, placed, placedVal, written, outcomeOf, Formed, Gave}
+use Rattle.ink_value.specs.Value.{valOf, codeOfValue, startOf, lenOf, setIn, placedVal, Formed, Gave}
 use Rattle.ink_value.specs.declared.Value.{Value}
 use Rattle.ink_value.specs.declared.Value.the-variants as Is
-use Rattle.ink_value.specs.declared.Outcome.{Outcome}
 use Rattle.ink_value.specs.declared.Outcome.the-variants as Out
 use Rattle.ink_value.proofs.Reading.{lends-held, list-in, len-in, entries-in, rising-in}
 use Rattle.ink_value.proofs.ReadBack.{read-back, formed-back}
@@ -68,32 +67,17 @@ module _ (F : Format) (is : List ℕ) (vs : List ℤ) (v : Value) (f : Formed (F
 
 -- ---- results
 
-pub refusal : {F : Format} (a : Answer Val) (r : Outcome) (place : ℕ) (wi : List ℕ) (wv : List ℤ) → r ≡ placed a → (q : ℕ) → r ≡ Out.Refused q
-    → Answered F a place (St.No q) wi wi wv wv
-refusal (gives x) r place wi wv e q s = let z : _≡_ {A = ℕ} 0 1 = cc in absurd (omega arith)
-refusal (refuses n) r place wi wv e q s = record { by = record { refused = cc; items-same = refl; values-same = refl } }
+-- a List that was made in lent slices stands there well formed, and is read back
+module _ (F : Format) (o : ℕ) (es : List Entry) (v : Value) (oi oi′ : List ℕ) (ov ov′ : List ℤ) (g : Gave (gives (list o es)) (Out.Value v) oi oi′ ov ov′) where
+  pub made-formed : Rising (F .limit) es → F .limit ≤ length oi → F .limit ≤ length ov → Formed (F .limit) oi′ ov′ v
+  made-formed up hi hv =
+      let s : v ≡ placedVal (list o es) = cc in
+      subst (Formed (F .limit) oi′ ov′) (sym s) (formed-back (F .limit) o es (Out.Value v) oi oi′ ov ov′ g up hi hv)
 
--- ---- a List's result, in the slices lent for it
-
-pub formed-none : {L : ℕ} (is : List ℕ) (vs : List ℤ) (v : Value) → startOf v ≡ 0 → lenOf v ≡ 0 → Formed L is vs v
-formed-none is vs v s n = record { items-in = omega arith; values-in = omega arith; lent = rw (s, n) (record { long = refl; rising = tt }) }
-
-module _ (F : Format) (oi oi′ : List ℕ) (ov ov′ : List ℤ) (hi : F .limit ≤ length oi) (hv : F .limit ≤ length ov) (r : Outcome) where
-  formed-val : (x : Val) → Gave (gives x) r oi oi′ ov ov′ → Rising (F .limit) (entriesOf x) → Formed (F .limit) oi′ ov′ (placedVal x)
-  formed-val (bool b) g up = formed-none oi′ ov′ (Is.Bool b) refl refl
-  formed-val (int z) g up = formed-none oi′ ov′ (Is.Int z) refl refl
-  formed-val (float x) g up = formed-none oi′ ov′ (Is.Float x) refl refl
-  formed-val (list o es) g up = formed-back (F .limit) o es r oi oi′ ov ov′ g up hi hv
-  formed-val void g up = formed-none oi′ ov′ Is.Void refl refl
-
-  pub formed-result : (a : Answer Val) → Gave a r oi oi′ ov ov′ → Rising (F .limit) (written a) → (v : Value) → r ≡ Out.Value v → Formed (F .limit) oi′ ov′ v
-  formed-result (gives x) g up v q =
-      let s : placedVal x ≡ v = cc in
-      subst (Formed (F .limit) oi′ ov′) s (formed-val x g up)
-  formed-result (refuses n) g up v q = let z : _≡_ {A = ℕ} 0 1 = cc in absurd (omega arith)
-
-  pub result-read : (a : Answer Val) → Gave a r oi oi′ ov ov′ → (v : Value) → r ≡ Out.Value v → a ≡ gives (valOf oi′ ov′ v)
-  result-read a g v q = sym (read-back a r oi oi′ ov ov′ g) ∙ ap (outcomeOf oi′ ov′) q
+  pub made-put : {at : ℕ} {r : Value} {wi wi′ : List ℕ} {wv wv′ : List ℤ} → Put F (valOf oi′ ov′ v) at r wi wi′ wv wv′ → Put F (list o es) at r wi wi′ wv wv′
+  made-put {at} {r} {wi} {wi′} {wv} {wv′} w =
+      let e : valOf oi′ ov′ v ≡ list o es = let b = read-back (gives (list o es)) (Out.Value v) oi oi′ ov ov′ g in cc in
+      subst (λ (x : Val). Put F x at r wi wi′ wv wv′) e w
 
 pub result-put : {F : Format} (a : Answer Val) (x : Val) (place : ℕ) (v : Value) (wi wi′ : List ℕ) (wv wv′ : List ℤ) → place < stackLimit → a ≡ gives x
     → Put F x (startAt F place) v wi wi′ wv wv′ → Answered F a place (St.Put place v) wi wi′ wv wv′

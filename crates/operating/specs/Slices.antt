@@ -12,7 +12,7 @@ use Rattle.ink_value.specs.Val.{Val}
 use Rattle.ink_value.specs.Value.{Formed}
 use Rattle.ink_value.specs.declared.Value.{Value}
 use Rattle.pack.specs.declared.format.Format.{Format}
-use Rattle.operating.specs.Stacked.{Put, Answered, taken}
+use Rattle.operating.specs.Stacked.{startAt, Put, Answered, taken}
 use Rattle.operating.specs.declared.Step.{Step}
 
 -- a value that two slices hold well formed is put into two others, from `to` on, in every format
@@ -20,6 +20,10 @@ abbrev pub StoredIn : Slice ℕ → Slice ℤ → Value → ℕ → Value → Sl
 StoredIn items values v to r oi ov =
     (F : Format) → Formed (F .limit) (now (items .entry)) (now (values .entry)) v
     → Put F (valIn items values v) to r (now (oi .entry)) (now (oi .exit)) (now (ov .entry)) (now (ov .exit))
+
+-- a value is put at a place of the stack, its entries in the work slices
+abbrev pub PutIn : Format → Val → ℕ → Value → Slice ℕ → Slice ℤ → Type 0
+PutIn F x place r wi wv = Put F x (startAt F place) r (now (wi .entry)) (now (wi .exit)) (now (wv .entry)) (now (wv .exit))
 
 -- the answer is put at a place of the stack, its entries in the work slices; or it is a no, and nothing is written
 abbrev pub AnsweredIn : Format → Answer Val → ℕ → Step → Slice ℕ → Slice ℤ → Type 0

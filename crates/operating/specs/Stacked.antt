@@ -7,15 +7,13 @@ use Prim.Native.Nat.{ℕ, _*_, _≤_, _<_}
 use lib.IntN.{ℤ}
 use lib.ListN.{length, take}
 use Rattle.ink_number.specs.Answer.{Answer, gives, refuses}
-use Rattle.list_definitions.specs.Defs.{ListDefinitions}
 use Rattle.ink_list.specs.Entries.{items, values, Rising}
 use Rattle.slices.specs.Filled.{fill}
-use Rattle.ink_value.specs.Val.{Val, bool, int, float, list, void, listK}
+use Rattle.ink_value.specs.Val.{Val, bool, int, float, list, void}
 use Rattle.ink_value.specs.Convert.{entriesOf}
 use Rattle.ink_value.specs.Value.{valOf}
 use Rattle.ink_value.specs.declared.Value.{Value}
 use Rattle.ink_value.specs.declared.Value.the-variants as Is
-use Rattle.native_function_call.specs.Apply.{compute}
 use Rattle.pack.specs.Format.{Runnable}
 use Rattle.pack.specs.declared.format.Format.{Format}
 use Rattle.machine.specs.Machine.{stackLimit}
@@ -60,10 +58,6 @@ pub record Put (F : Format) (x : Val) (at : ℕ) (r : Value) (oi oi′ : List �
 -- the first n of three operands, their entries in two slices
 abbrev pub taken : List ℕ → List ℤ → Value → Value → Value → ℕ → List Val
 taken wi wv a b c n = take n (valOf wi wv a ∷ valOf wi wv b ∷ valOf wi wv c ∷ [])
-
--- the answer of an operator whose result is a List
-abbrev pub listGiven : ListDefinitions → ℕ → List Val → Answer Val
-listGiven u o vs = compute u o vs listK
 
 -- a no: the question's number, and nothing is written
 pub record Refuses {X : Type 0} (a : Answer X) (q : ℕ) (wi wi′ : List ℕ) (wv wv′ : List ℤ) : Type 0 where

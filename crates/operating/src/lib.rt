@@ -3,7 +3,6 @@
 
 use ink_number::int::DIVISOR_QUESTION;
 use ink_number::int::Divided;
-use ink_value::Outcome;
 use ink_value::Value;
 use ink_value::kind_code;
 use native_function_call::real;
@@ -14,17 +13,17 @@ ghost use mathlib.Core.Path.{_≡_};
 ghost use Prim.Native.Nat.{_<_, _≤_, _+_};
 ghost use lib.ListN.{length};
 ghost use Rattle.ink_number.specs.Int.{divided};
-ghost use Rattle.ink_list.specs.Entries.{Rising, itemNumbers};
+ghost use Rattle.ink_list.specs.Entries.{itemNumbers};
 ghost use Rattle.ink_value.specs.Val.{kindAt};
-ghost use Rattle.ink_value.specs.Value.{lenOf, written, Formed, FirstFormed};
+ghost use Rattle.ink_value.specs.Value.{lenOf, Formed, FirstFormed};
 ghost use Rattle.operator_kinds.specs.Kinds.{operandCount};
 ghost use Rattle.native_function_call.specs.Apply.{ofInt, call, compute};
 ghost use Rattle.list_definitions.specs.Defs.{ListDefinitions};
-ghost use Rattle.list_operators.specs.Lists.{definitions, definitionsIn};
+ghost use Rattle.list_operators.specs.Lists.{listResult, definitionsIn};
 ghost use Rattle.machine.specs.Machine.{stackLimit};
-ghost use Rattle.operating.specs.Stacked.{Bare, taken, listGiven, Roomy};
+ghost use Rattle.operating.specs.Stacked.{Bare, Roomy};
 ghost use Rattle.pack.specs.Read.{PackLists};
-ghost use Rattle.operating.specs.Slices.{StoredIn, AnsweredIn, takenIn};
+ghost use Rattle.operating.specs.Slices.{StoredIn, PutIn, AnsweredIn, takenIn};
 
 // What an instruction does to the stack: a value is put at a place, which is then the top; or a question says no.
 pub enum Step {
@@ -145,17 +144,15 @@ fn list_through(
     values: &mut [i32],
     work_items: &mut [u16],
     work_values: &mut [i32],
-) -> Step
+) -> Value
     requires { ⌜ PackLists (format .limit) (now ends) (now defined) × Roomy format (now «work_items») (now «work_values»)
         × (1 ≤ count) × (count ≤ 3) × (place < stackLimit) ⌝ }
     requires { ⌜ FirstFormed (format .limit) (now «work_items») (now «work_values») count a b c ⌝ }
-    requires { ⌜ Rising (format .limit) (written (listGiven (definitions (now ends) (now defined) (format .limit)) op
-        (taken (now «work_items») (now «work_values») a b c count))) ⌝ }
     requires { ⌜ (format .limit ≤ length (now items)) × (format .limit ≤ length (now values)) ⌝ }
-    ensures { λ r. ⌜ AnsweredIn format (listGiven (definitionsIn ends defined (format .limit)) op
+    ensures { λ r. ⌜ PutIn format (listResult (definitionsIn ends defined (format .limit)) op
         (takenIn «work_items» «work_values» a b c count)) place r «work_items» «work_values» ⌝ }
 {
-    let outcome = list_operators::list(
+    let v = list_operators::list(
         op,
         count,
         a,
@@ -169,14 +166,8 @@ fn list_through(
         items,
         values,
     );
-    match outcome {
-        Outcome::Value(v) => {
-            let to = place * format.limit;
-            let value = store(v, &items[..], &values[..], work_items, work_values, to);
-            Step::Put { place, value }
-        }
-        Outcome::Refused(number) => Step::No(number),
-    }
+    let to = place * format.limit;
+    store(v, &items[..], &values[..], work_items, work_values, to)
 }
 
 // The same, made in slices of its own: small ones where the format's lists are short.
@@ -192,13 +183,11 @@ fn list_result(
     format: Format,
     work_items: &mut [u16],
     work_values: &mut [i32],
-) -> Step
+) -> Value
     requires { ⌜ PackLists (format .limit) (now ends) (now defined) × Roomy format (now «work_items») (now «work_values»)
         × (1 ≤ count) × (count ≤ 3) × (place < stackLimit) ⌝ }
     requires { ⌜ FirstFormed (format .limit) (now «work_items») (now «work_values») count a b c ⌝ }
-    requires { ⌜ Rising (format .limit) (written (listGiven (definitions (now ends) (now defined) (format .limit)) op
-        (taken (now «work_items») (now «work_values») a b c count))) ⌝ }
-    ensures { λ r. ⌜ AnsweredIn format (listGiven (definitionsIn ends defined (format .limit)) op
+    ensures { λ r. ⌜ PutIn format (listResult (definitionsIn ends defined (format .limit)) op
         (takenIn «work_items» «work_values» a b c count)) place r «work_items» «work_values» ⌝ }
 {
     if format.limit <= SHORT_LIMIT {
@@ -239,7 +228,7 @@ fn list_result(
     )
 }
 
-// An operator on as many of three operands as it takes: questions 11 to 16, and its result at a place of the stack.
+// An operator on as many of three operands as it takes: questions 11 to 15, and its result at a place of the stack.
 pub fn operate(
     op: u8,
     count: usize,
@@ -270,7 +259,7 @@ pub fn operate(
         return Step::No(kind);
     }
     if kind == kind_code::LIST {
-        return list_result(
+        let value = list_result(
             op,
             count,
             a,
@@ -283,6 +272,7 @@ pub fn operate(
             work_items,
             work_values,
         );
+        return Step::Put { place, value };
     }
     scalar_result(
         op,

@@ -39,7 +39,7 @@ use Rattle.machine.specs.Machine.{Run, ended, stopped, stackLimit, finish, onwa
 use Rattle.machine.specs.Stack.{stackOf}
 use Rattle.machine.proofs.Stack.{stack-put, run-more, run-stop, run-done}
 use Rattle.operating.specs.Stacked.{placedAt, startAt, Roomy}
-use Rattle.operating.proofs.Putting.{place-fits, formed-none}
+use Rattle.operating.proofs.Putting.{place-fits}
 
 -- ---- what an instruction takes
 
@@ -120,6 +120,9 @@ module _ (at : ℕ) (es : List Entry) (wi : List ℕ) (wv : List ℤ) (hi : at +
       ap₂ (λ (m n : ℕ). entries (take m (drop at (fill at (items es) wi))) (take n (drop at (fill at (values es) wv)))) (sym (length-items es)) (sym (length-values es))
       ∙ ap₂ entries (part-filled at (items es) wi fits-items) (part-filled at (values es) wv fits-values)
       ∙ entries-of es
+
+formed-none : {L : ℕ} (is : List ℕ) (vs : List ℤ) (v : Value) → startOf v ≡ 0 → lenOf v ≡ 0 → Formed L is vs v
+formed-none is vs v s n = record { items-in = omega arith; values-in = omega arith; lent = rw (s, n) (record { long = refl; rising = tt }) }
 
 module _ (at : ℕ) (wi : List ℕ) (wv : List ℤ) where
   val-put : (x : Val) → at + length (entriesOf x) ≤ length wi → at + length (entriesOf x) ≤ length wv

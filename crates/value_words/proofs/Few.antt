@@ -18,15 +18,14 @@ use Rattle.list_definitions.specs.Defs.{ListDefinitions}
 use Rattle.ink_value.specs.Val.{Val, bool, int, float, list, void, kindOf, codeOf}
 use Rattle.ink_value.specs.Convert.{entriesOf, truthy, asInt, asFloat}
 use Rattle.value_conversions.specs.Convert.{castable, converted, cast, coerceBool, coerceInt, coerceFloat}
-use Rattle.ink_value.specs.Value.{valOf, eachFormed, written, placed, Wf, AllWf}
+use Rattle.ink_value.specs.Value.{valOf, written, placed, Wf}
 use Rattle.ink_value.specs.declared.Value.{Value}
 use Rattle.ink_value.specs.declared.Outcome.{Outcome}
-use Rattle.ink_value.proofs.Forming.{formed-yes}
-use Rattle.ink_value.proofs.ReadBack.{entries-wf, wf-of}
+use Rattle.ink_value.proofs.ReadBack.{entries-wf, each-wf}
 use Rattle.native_function_call.specs.Apply.{call, applyOp}
 use Rattle.operator_kinds.specs.Kinds.{known, arity}
 use Rattle.list_operators.specs.Lists.{definitions}
-use Rattle.native_function_call.proofs.Results.{apply-fine}
+use Rattle.native_function_call.proofs.Results.{result-few}
 use Rattle.pack.specs.Bodies.{Pack, decoded}
 use Rattle.pack.specs.Format.{Narrow, Runnable}
 use Rattle.pack.specs.declared.format.Format.{Format}
@@ -38,21 +37,13 @@ use Rattle.call_memory.specs.Lent.{operandsOk, resultsOk}
 use Rattle.calls.specs.Call.{called, castTo, coerced, onPack}
 use Rattle.value_words.specs.Calls.{SmallOutcome}
 
--- ---- operands and slots
-
-pub all-wf : (L : ℕ) (is : List ℕ) (vs : List ℤ) (total d : ℕ) → total ≤ L → (l : List Value) → eachFormed total d is vs l ≡ true
-    → AllWf L (map (valOf is vs) l)
-all-wf L is vs total d h [] e = tt
-all-wf L is vs total d h (v ∷ l) e =
-    (wf-of L is vs v (formed-yes total d is vs v L h (and-left _ _ e)), all-wf L is vs total d h l (and-right _ _ e))
-
 -- ---- direct calls and conversions
 
 -- the entries that an answer writes
 abbrev pub Few : ℕ → Answer Val → Type 0
 Few L a = length (written a) ≤ L
 
-module _ (L : ℕ) (some : 1 ≤ L) (ends : List ℕ) (defined : List ℤ) (within : length defined ≤ L) (is : List ℕ) (vs : List ℤ) where
+module _ (L : ℕ) (ends : List ℕ) (defined : List ℤ) (within : length defined ≤ L) (is : List ℕ) (vs : List ℤ) where
   pub called-few : (oi : List ℕ) (ov : List ℤ) (o n : ℕ) (l : List Value) → Few L (called is vs oi ov o n l (definitions ends defined L))
   unfolding called call
   called-few oi ov o n l = go (operandsOk u is vs (take n l) and resultsOk u oi ov) refl
@@ -60,14 +51,14 @@ module _ (L : ℕ) (some : 1 ≤ L) (ends : List ℕ) (defined : List ℤ) (with
       u : ListDefinitions
       u = definitions ends defined L
 
-      on : AllWf L (map (valOf is vs) (take n l)) → (s t : Bool) → Few L (ask 8 s (ask 10 t (applyOp u o (map (valOf is vs) (take n l)))))
-      on w true true = apply-fine u some within o (map (valOf is vs) (take n l)) w .few
-      on w true false = omega arith
-      on w false t = omega arith
+      on : operandsOk u is vs (take n l) ≡ true → (s t : Bool) → Few L (ask 8 s (ask 10 t (applyOp u o (map (valOf is vs) (take n l)))))
+      on e true true = result-few u within o is vs (take n l) e
+      on e true false = omega arith
+      on e false t = omega arith
 
       go : (t : Bool) → operandsOk u is vs (take n l) and resultsOk u oi ov ≡ t
           → Few L (ask 7 t (ask 8 (known o) (ask 10 (eqb n (arity o)) (applyOp u o (map (valOf is vs) (take n l))))))
-      go true e = on (all-wf L is vs (length defined) (length ends) within (take n l) (and-right _ _ (and-left _ _ e))) (known o) (eqb n (arity o))
+      go true e = on (and-left _ _ e) (known o) (eqb n (arity o))
       go false e = omega arith
 
 cast-few : (L to : ℕ) (x : Val) → Wf L x → Few L (cast to x)
@@ -91,7 +82,7 @@ module _ (L : ℕ) (ends : List ℕ) (defined : List ℤ) (within : length defin
       u = definitions ends defined L
 
       go : (t : Bool) → operandsOk u is vs (v ∷ []) and resultsOk u oi ov ≡ t → Few L (ask 7 t (cast to (valOf is vs v)))
-      go true e = cast-few L to (valOf is vs v) (all-wf L is vs (length defined) (length ends) within (v ∷ []) (and-right _ _ (and-left _ _ e)) .0)
+      go true e = cast-few L to (valOf is vs v) (each-wf L is vs (length defined) (length ends) within (v ∷ []) (and-right _ _ (and-left _ _ e)) .0)
       go false e = omega arith
 
 -- a coercion answers no List
@@ -132,6 +123,11 @@ pack-few F n p f h = go (judge F p) refl
         let j = judged F p d e in
         h (endsOf d) (definedOf d) (subst (λ (x : Pack). length (definedOf x) ≤ F .limit) (sym (j .1)) (few-items F p n (j .0)))
     go (refuses r) e = omega arith
+
+-- a call on any bytes writes at most as many entries as the item limit, in every format
+pub call-few : (F : Format) → Narrow F → (p is : List ℕ) (vs : List ℤ) (oi : List ℕ) (ov : List ℤ) (o n : ℕ) (l : List Value)
+    → Few (F .limit) (onPack F p (called is vs oi ov o n l))
+call-few F w p is vs oi ov o n l = pack-few F w p (called is vs oi ov o n l) (λ ends defined h. called-few (F .limit) ends defined h is vs oi ov o n l)
 
 few-outcome : (L : ℕ) → L < itemNumbers → (a : Answer Val) → Few L a → SmallOutcome (placed a)
 few-outcome L b (gives (bool t)) h = tt

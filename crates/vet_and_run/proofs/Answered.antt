@@ -29,17 +29,16 @@ placed-code (list o es) = refl
 placed-code void = refl
 
 module _ (e : End Val) (r : Ran) (a : r ≡ ranTo e) where
-  by-value : (P : ℕ → Type 0) (i : ℕ) → P i → (e ≡ stopped 15 i) ⊎ (e ≡ stopped 16 i) → StoppedByValue P r
-  by-value P i h (inl q) = (i, h, inl (a ∙ ap ranTo q))
-  by-value P i h (inr q) = (i, h, inr (a ∙ ap ranTo q))
+  by-value : (P : ℕ → Type 0) → StopsByValue P e → StoppedByValue P r
+  by-value P w = (w .0, w .1, a ∙ ap ranTo (w .2))
 
   ends : (f : List ℕ) (n m : ℕ) (S : Type 0)
       → ((v : Val) × (e ≡ ended v) × S × (codeOf (kindOf v) ≡ getD f (2 * n - 1) 0)) ⊎ StopsByValue (λ i. i < n) e → ForetoldAnswer (Vet.Passed n) f r
   ends f n m S (inl w) = inl (placedVal (w .0), a ∙ ap ranTo (w .1), placed-code (w .0) ∙ w .3)
-  ends f n m S (inr w) = inr (by-value (λ i. i < n) (w .0) (w .1) (w .2))
+  ends f n m S (inr w) = inr (by-value (λ i. i < n) w)
 
   stops : (f : List ℕ) (q k : ℕ) → StopsByValue (λ i. i < k) e ⊎ (e ≡ stopped q k) → ForetoldAnswer (Vet.Refused q k) f r
-  stops f q k (inl w) = inl (by-value (λ i. i < k) (w .0) (w .1) (w .2))
+  stops f q k (inl w) = inl (by-value (λ i. i < k) w)
   stops f q k (inr w) = inr (a ∙ ap ranTo w)
 
 pub answered : (v : Vetted) (n : ℕ) (f : List ℕ) (b : Run Val) (r : Ran) → CountIs v n → r ≡ ranTo (b .end) → Foretold n (verdictOf v) f b → ForetoldAnswer v f r

@@ -24,12 +24,12 @@ use Rattle.running.specs.declared.Ran.{Ran}
 use Rattle.running.specs.declared.Ran.the-variants as Rn
 use Rattle.vet_and_run.specs.declared.VettedRun.{VettedRun}
 
--- a run's answer is 15 or 16
+-- a run's answer is 15
 abbrev pub StoppedByValue : (ℕ → Type 0) → Ran → Type 0
 StoppedByValue = ByValue Rn.Stopped
 
 -- what vetting's answer, with the forecast's bytes f, says of the run's answer. Passed: "the run ends in one value of the kind forecast
--- last or stops with 15 or 16"; turned back with q at k: "the run stops before k with 15 or 16, or exactly at k with" q
+-- last or stops with 15 .."; turned back with q at k: it "stops before k with 15 alone", or "exactly at k with" q
 abbrev pub ForetoldAnswer : Vetted → List ℕ → Ran → Type 0
 ForetoldAnswer (Vet.Passed n) f r =
     ((v : Value) × (r ≡ Rn.Ended v) × (codeOfValue v ≡ getD f (2 * n - 1) 0)) ⊎ StoppedByValue (λ i. i < n) r

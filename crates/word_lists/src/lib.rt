@@ -26,7 +26,7 @@ pub fn list(
     let a = words_in::operand_at(operands, 0);
     let b = words_in::operand_at(operands, 1);
     let c = words_in::operand_at(operands, 2);
-    let outcome = list_operators::list(
+    let v = list_operators::list(
         op,
         count,
         a,
@@ -40,5 +40,6 @@ pub fn list(
         result_items,
         result_values,
     );
-    value_words::outcome(outcome, answer)
+    words_out::put_value(answer, v);
+    0
 }

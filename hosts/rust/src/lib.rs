@@ -188,7 +188,7 @@ impl Pack {
         Ok(told.map(|two| Forecast { count: two[0], top: Kind::from_code(two[1]).expect("a forecast has kind codes") }).collect())
     }
 
-    /// Runs a sheet: questions 6 to 17.
+    /// Runs a sheet: questions 6 to 15 and 17.
     pub fn run(&self, workspace: &mut Workspace, sheet: usize, slots: &[Value; 16]) -> Result<Value, Refusal> {
         let Workspace { items, values, slots: lists } = workspace;
         lists.clear();
@@ -228,7 +228,7 @@ impl Pack {
         answer.read(number)
     }
 
-    /// Calls an operator by its number in [`op`]: questions 7, 8, 10 to 16.
+    /// Calls an operator by its number in [`op`]: questions 7, 8, 10 to 15.
     pub fn call(&self, op: u8, operands: &[Value]) -> Result<Value, Refusal> {
         let mut lists = Entries::default();
         let mut words = [0; 9];

@@ -43,9 +43,9 @@ fn every_byte_of_the_sample_changed() {
                         // what vetting says, every run keeps
                         match (vetted, ran) {
                             (Ok(told), Ok(value)) => assert_eq!(told.last().unwrap().top, value.kind()),
-                            (Ok(_), Err(stopped)) => assert!(stopped.number == 15 || stopped.number == 16),
+                            (Ok(_), Err(stopped)) => assert_eq!(stopped.number, 15),
                             (Err(turned), Err(stopped)) => {
-                                assert!(turned == stopped || (stopped.index < turned.index && matches!(stopped.number, 15 | 16)))
+                                assert!(turned == stopped || (stopped.index < turned.index && stopped.number == 15))
                             }
                             (Err(turned), Ok(value)) => panic!("{turned}, and the run gave {value:?}"),
                         }
@@ -148,4 +148,31 @@ fn workspace_after_refusals() {
     let sample = Pack::new(SAMPLE).unwrap();
     assert_eq!(sample.run(&mut workspace, 0, &VOID_SLOTS), Ok(Value::list(1, &[(2, 3)])));
     assert_eq!(Pack::new(bytes(&[], &[(1, vec![])], &[])).err(), Some(no(4)));
+}
+
+#[test]
+fn full_lists() {
+    // a pack of as many items as there may be: no result is longer, and one of them all is answered (16 is retired)
+    let values: Vec<i32> = (0..256).collect();
+    let defined = [values[..255].to_vec(), values[255..].to_vec()];
+    let literal = values.iter().map(|&v| (v as u8, v)).collect();
+    let twice = [35, 0, 35, 0, op::ADD];
+    let p = pack(&defined, &[(3, literal)], &[twice.to_vec()]);
+    let entries: Vec<(u16, i32)> = values.iter().map(|&v| (v as u16, v)).collect();
+    let (full, none) = (Value::list(3, &entries), Value::list(3, &[]));
+    let (even, odd): (Vec<_>, Vec<_>) = entries.iter().partition(|e| e.0 % 2 == 0);
+    let call = |op: u8, operands: &[&Value]| p.call(op, &operands.iter().map(|&v| v.clone()).collect::<Vec<_>>());
+    for (op, operands) in [
+        (op::ADD, vec![&full, &full]),
+        (op::ADD, vec![&Value::list(3, &even), &Value::list(3, &odd)]),
+        (op::ADD, vec![&full, &Int(0)]),
+        (op::SUBTRACT, vec![&full, &none]),
+        (op::INTERSECT, vec![&full, &full]),
+        (op::ALL, vec![&none]),
+        (op::INVERT, vec![&none]),
+        (op::RANGE, vec![&full, &Int(0), &Int(255)]),
+    ] {
+        assert_eq!(call(op, &operands), Ok(full.clone()), "operator {op}");
+    }
+    assert_eq!(p.run(&mut Workspace::new(), 0, &VOID_SLOTS), Ok(full));
 }

@@ -25,7 +25,7 @@ outcome-requires c κs =
     let s = c .before .before .before .before .before .before .before .before .before .before .before .before .before in
     let l = c .before .before .before .before .before .before .before .before .before .operand-at .result ∷ c .before .before .before .before .before .before .before .before .operand-at2 .result ∷ c .before .before .before .before .before .before .before .operand-at3 .result ∷ [] in
     let f = called (s .args .items .now) (s .args .values .now) (s .args .result-items .now) (s .args .result-values .now) (s .args .op) (s .args .count) l in
-    pack-small runnable1 (s .args .pack .now) f _ (c .before .before .before .before .call .ensures .gave .answered) (λ ends defined within. called-few _ (runnable1 .some) ends defined within (s .args .items .now) (s .args .values .now) (s .args .result-items .now) (s .args .result-values .now) (s .args .op) (s .args .count) l)
+    pack-small runnable1 (s .args .pack .now) f _ (c .before .before .before .before .call .ensures .gave .answered) (λ ends defined within. called-few _ ends defined within (s .args .items .now) (s .args .values .now) (s .args .result-items .now) (s .args .result-values .now) (s .args .op) (s .args .count) l)
 
 same-length : tie.Need-same-length
 same-length c = search needs

@@ -4,9 +4,10 @@ use mathlib.Core.List.{[], _∷_}
 use Prim.Native.Nat.{ℕ}
 use native.Mathlib.Omega.{arith}
 use lib.ListN.{take}
+use Rattle.ink_number.specs.Answer.{gives}
 use Rattle.ink_value.specs.Value.{valOf}
 use Rattle.ink_value.proofs.Given.{gave-is}
-use Rattle.list_operators.specs.Lists.{definitions, listAnswer}
+use Rattle.list_operators.specs.Lists.{definitions, listResult}
 use borrow.Author.Needs.{needs}
 use Rattle.list_operators.proofs.list.Statement.{statement}
 use Rattle.list_operators.proofs.list.Tie as tie
@@ -25,7 +26,7 @@ same-length-2 c = search needs
 returns : tie.Need-returns
 returns c =
     let s = c .before .before .before .before .before .before .before .before .before .before in
-    gave-is (ap (λ (n : ℕ). listAnswer (definitions (s .args .ends .now) (s .args .defined .now) (s .args .limit)) (s .args .op) (take n (valOf (s .args .items .now) (s .args .values .now) (s .args .a) ∷ valOf (s .args .items .now) (s .args .values .now) (s .args .b) ∷ valOf (s .args .items .now) (s .args .values .now) (s .args .c) ∷ []))) (c .before .before .before .before .before .before .if1 .taken)) (c .before .before .before .list1 .ensures)
+    gave-is (ap (λ (n : ℕ). gives (listResult (definitions (s .args .ends .now) (s .args .defined .now) (s .args .limit)) (s .args .op) (take n (valOf (s .args .items .now) (s .args .values .now) (s .args .a) ∷ valOf (s .args .items .now) (s .args .values .now) (s .args .b) ∷ valOf (s .args .items .now) (s .args .values .now) (s .args .c) ∷ [])))) (c .before .before .before .before .before .before .if1 .taken)) (c .before .before .before .list1 .ensures)
 
 list2-requires : tie.Need-list2-requires
 list2-requires c κs =
@@ -42,7 +43,7 @@ same-length-4 c = search needs
 returns-2 : tie.Need-returns-2
 returns-2 c =
     let s = c .before .before .before .before .before .before .before .before .before .before .before in
-    gave-is (ap (λ (n : ℕ). listAnswer (definitions (s .args .ends .now) (s .args .defined .now) (s .args .limit)) (s .args .op) (take n (valOf (s .args .items .now) (s .args .values .now) (s .args .a) ∷ valOf (s .args .items .now) (s .args .values .now) (s .args .b) ∷ valOf (s .args .items .now) (s .args .values .now) (s .args .c) ∷ []))) (c .before .before .before .before .before .before .if2 .taken)) (c .before .before .before .list2 .ensures)
+    gave-is (ap (λ (n : ℕ). gives (listResult (definitions (s .args .ends .now) (s .args .defined .now) (s .args .limit)) (s .args .op) (take n (valOf (s .args .items .now) (s .args .values .now) (s .args .a) ∷ valOf (s .args .items .now) (s .args .values .now) (s .args .b) ∷ valOf (s .args .items .now) (s .args .values .now) (s .args .c) ∷ [])))) (c .before .before .before .before .before .before .if2 .taken)) (c .before .before .before .list2 .ensures)
 
 list3-requires : tie.Need-list3-requires
 list3-requires c κs =
@@ -60,7 +61,7 @@ returns-3 : tie.Need-returns-3
 returns-3 c =
     let s = c .before .before .before .before .before .before .before .before .before .before .before in
     let three : s .args .count ≡ 3 = omega (arith, c .before .before .before .before .before .before .before .if1 .left, c .before .before .before .before .before .before .if2 .left, s .pre .1 .1 .0, s .pre .1 .1 .1) in
-    gave-is (ap (λ (n : ℕ). listAnswer (definitions (s .args .ends .now) (s .args .defined .now) (s .args .limit)) (s .args .op) (take n (valOf (s .args .items .now) (s .args .values .now) (s .args .a) ∷ valOf (s .args .items .now) (s .args .values .now) (s .args .b) ∷ valOf (s .args .items .now) (s .args .values .now) (s .args .c) ∷ []))) three) (c .before .before .before .list3 .ensures)
+    gave-is (ap (λ (n : ℕ). gives (listResult (definitions (s .args .ends .now) (s .args .defined .now) (s .args .limit)) (s .args .op) (take n (valOf (s .args .items .now) (s .args .values .now) (s .args .a) ∷ valOf (s .args .items .now) (s .args .values .now) (s .args .b) ∷ valOf (s .args .items .now) (s .args .values .now) (s .args .c) ∷ [])))) three) (c .before .before .before .list3 .ensures)
 
 pub list-spec : {M : Type 1} → statement M
 list-spec =

@@ -5,12 +5,11 @@ use mathlib.Core.List.{[], _∷_}
 use Prim.Native.Nat.{_≤_}
 use native.Mathlib.Omega.{arith}
 use Rattle.ink_list.specs.Entries.{room}
-use Rattle.ink_value.specs.Convert.{entriesOf}
-use Rattle.value_range.specs.Bounds.{lowerOf, upperOf}
 use Rattle.ink_value.specs.Value.{valOf}
 use Rattle.ink_value.proofs.Reading.{formed-limit}
+use Rattle.ink_value.proofs.ReadBack.{wf-of}
 use Rattle.list_operators.specs.Lists.{definitions}
-use Rattle.list_operators.proofs.Listing.{made, range-fine}
+use Rattle.list_operators.proofs.Listing.{done}
 use Rattle.list_operators.proofs.list3.Statement.{statement}
 use Rattle.list_operators.proofs.list3.Tie as tie
 
@@ -32,8 +31,8 @@ located-requires c κs =
     let l = valOf is vs (s .args .b) in
     let u = valOf is vs (s .args .c) in
     let d =
-    made (definitions (s .args .ends .now) (s .args .defined .now) (s .args .limit)) (s .args .op) (v ∷ l ∷ u ∷ []) refl
-    (range-fine (s .args .limit) (lowerOf l) (upperOf u) (entriesOf v)) (s .pre .0 .small) (c .before .before .before .before .range .ensures (s .args .limit) (s .pre .1 .0 .0)) in
+    done (definitions (s .args .ends .now) (s .args .defined .now) (s .args .limit)) (s .pre .0 .within) (s .pre .0 .small) (s .args .op) (v ∷ l ∷ u ∷ [])
+    (wf-of (s .args .limit) is vs (s .args .a) (s .pre .1 .0 .0), (wf-of (s .args .limit) is vs (s .args .b) (s .pre .1 .0 .1), (wf-of (s .args .limit) is vs (s .args .c) (s .pre .1 .1), tt))) refl (c .before .before .before .before .range .ensures (s .args .limit) (s .pre .1 .0 .0)) in
     (omega (arith, d .short, s .pre .0), d .rises, s .pre .0 .few)
 
 same-length : tie.Need-same-length
@@ -51,9 +50,9 @@ returns c =
     let l = valOf is vs (s .args .b) in
     let u = valOf is vs (s .args .c) in
     let d =
-    made (definitions (s .args .ends .now) (s .args .defined .now) (s .args .limit)) (s .args .op) (v ∷ l ∷ u ∷ []) refl
-    (range-fine (s .args .limit) (lowerOf l) (upperOf u) (entriesOf v)) (s .pre .0 .small) (c .before .before .before .before .before .range .ensures (s .args .limit) (s .pre .1 .0 .0)) in
-    d .answers _ (c .located .ensures)
+    done (definitions (s .args .ends .now) (s .args .defined .now) (s .args .limit)) (s .pre .0 .within) (s .pre .0 .small) (s .args .op) (v ∷ l ∷ u ∷ [])
+    (wf-of (s .args .limit) is vs (s .args .a) (s .pre .1 .0 .0), (wf-of (s .args .limit) is vs (s .args .b) (s .pre .1 .0 .1), (wf-of (s .args .limit) is vs (s .args .c) (s .pre .1 .1), tt))) refl (c .before .before .before .before .before .range .ensures (s .args .limit) (s .pre .1 .0 .0)) in
+    d .makes _ (c .located .ensures)
 
 pub list3-spec : {M : Type 1} → statement M
 list3-spec = tie.close (tie.spec range-requires located-requires same-length same-length-2 returns)

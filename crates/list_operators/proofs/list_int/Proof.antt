@@ -1,15 +1,15 @@
 -- `list_operators::list_int` meets its contract. Assumes nothing.
 use Rattle.ink_list.specs.Entries.{itemNumbers}
 use borrow.Author.Needs.{needs}
-use mathlib.Core.Path.{sym, _∙_, subst}
+use mathlib.Core.Path.{sym, _∙_}
 use mathlib.Core.List.{[], _∷_}
 use native.Mathlib.Omega.{arith}
-use Rattle.ink_value.specs.Convert.{asInt, entriesOf, originsIn}
 use Rattle.list_operators.specs.Lists.{shiftL, definitions}
 use Rattle.ink_value.specs.Value.{valOf}
 use Rattle.slices.proofs.Lists.{ap3}
 use Rattle.ink_value.proofs.Reading.{entries-in, set-in, formed-limit, lends-lent, lends-held}
-use Rattle.list_operators.proofs.Listing.{Fine, done, shift-fine, right-int}
+use Rattle.ink_value.proofs.ReadBack.{wf-of}
+use Rattle.list_operators.proofs.Listing.{done, right-int}
 use Rattle.ink_number.proofs.Signed.{returned}
 use Rattle.list_operators.proofs.list_int.Statement.{statement}
 use Rattle.list_operators.proofs.list_int.Tie as tie
@@ -62,14 +62,12 @@ shift-requires c κs =
 located-requires : tie.Need-located-requires
 located-requires c κs =
     let s = c .before .before .before .before .before .before .before .before .before .before .before .before .before .before .before .before in
-    let d = done (definitions (s .args .ends .now) (s .args .defined .now) (s .args .limit)) (s .args .op) ((valOf (s .args .items .now) (s .args .values .now) (s .args .a)) ∷ (valOf (s .args .items .now) (s .args .values .now) (s .args .b)) ∷ [])
+    let d = done (definitions (s .args .ends .now) (s .args .defined .now) (s .args .limit)) (s .pre .0 .within) (s .pre .0 .small) (s .args .op) ((valOf (s .args .items .now) (s .args .values .now) (s .args .a)) ∷ (valOf (s .args .items .now) (s .args .values .now) (s .args .b)) ∷ []) (wf-of (s .args .limit) (s .args .items .now) (s .args .values .now) (s .args .a) (s .pre .1 .0 .0), (wf-of (s .args .limit) (s .args .items .now) (s .args .values .now) (s .args .b) (s .pre .1 .0 .1), tt))
     (right-int (definitions (s .args .ends .now) (s .args .defined .now) (s .args .limit)) (s .args .op) (valOf (s .args .items .now) (s .args .values .now) (s .args .a)) (s .args .items .now) (s .args .values .now) (s .args .b) (s .pre .1 .1)
     ∙ ap3 (shiftL (s .args .ends .now) (s .args .defined .now) (s .args .op)) (set-in (s .args .items .now) (s .args .values .now) (s .args .a) ∙ sym (c .before .before .before .before .before .before .before .before .before .before .origins-in .ensures))
     (sym (returned (c .before .before .before .before .before .before .before .before .before .to-int .ok) ∙ c .before .before .before .before .before .before .before .before .before .to-int .ensures (s .args .items .now) (s .pre .1 .0 .1 .items-in)))
     (entries-in (s .args .items .now) (s .args .values .now) (s .args .a) ∙ sym (lends-held (s .args .limit) (s .args .items .now) (s .args .values .now) (c .before .before .before .before .before .before .before .before .before .before .before .before .start-of .result) (c .before .before .before .before .before .before .before .before .before .before .before .len-of .result) (s .args .a) (c .before .before .before .before .before .before .before .before .before .before .before .before .start-of .ensures) (c .before .before .before .before .before .before .before .before .before .before .before .len-of .ensures))))
-    (subst (Fine (s .args .limit)) (sym (right-int (definitions (s .args .ends .now) (s .args .defined .now) (s .args .limit)) (s .args .op) (valOf (s .args .items .now) (s .args .values .now) (s .args .a)) (s .args .items .now) (s .args .values .now) (s .args .b) (s .pre .1 .1)))
-    (shift-fine (s .args .limit) (s .args .ends .now) (s .args .defined .now) (s .args .op) (originsIn (valOf (s .args .items .now) (s .args .values .now) (s .args .a))) (asInt (valOf (s .args .items .now) (s .args .values .now) (s .args .b))) (entriesOf (valOf (s .args .items .now) (s .args .values .now) (s .args .a))) (s .pre .0 .within)))
-    (s .pre .0 .small) (c .before .before .before .before .shift .ensures) in
+    (c .before .before .before .before .shift .ensures) in
     (omega (arith, d .short, s .pre .0), d .rises, s .pre .0 .few)
 
 same-length : tie.Need-same-length
@@ -81,15 +79,13 @@ same-length-2 c = search needs
 returns : tie.Need-returns
 returns c =
     let s = c .before .before .before .before .before .before .before .before .before .before .before .before .before .before .before .before .before in
-    let d = done (definitions (s .args .ends .now) (s .args .defined .now) (s .args .limit)) (s .args .op) ((valOf (s .args .items .now) (s .args .values .now) (s .args .a)) ∷ (valOf (s .args .items .now) (s .args .values .now) (s .args .b)) ∷ [])
+    let d = done (definitions (s .args .ends .now) (s .args .defined .now) (s .args .limit)) (s .pre .0 .within) (s .pre .0 .small) (s .args .op) ((valOf (s .args .items .now) (s .args .values .now) (s .args .a)) ∷ (valOf (s .args .items .now) (s .args .values .now) (s .args .b)) ∷ []) (wf-of (s .args .limit) (s .args .items .now) (s .args .values .now) (s .args .a) (s .pre .1 .0 .0), (wf-of (s .args .limit) (s .args .items .now) (s .args .values .now) (s .args .b) (s .pre .1 .0 .1), tt))
     (right-int (definitions (s .args .ends .now) (s .args .defined .now) (s .args .limit)) (s .args .op) (valOf (s .args .items .now) (s .args .values .now) (s .args .a)) (s .args .items .now) (s .args .values .now) (s .args .b) (s .pre .1 .1)
     ∙ ap3 (shiftL (s .args .ends .now) (s .args .defined .now) (s .args .op)) (set-in (s .args .items .now) (s .args .values .now) (s .args .a) ∙ sym (c .before .before .before .before .before .before .before .before .before .before .before .origins-in .ensures))
     (sym (returned (c .before .before .before .before .before .before .before .before .before .before .to-int .ok) ∙ c .before .before .before .before .before .before .before .before .before .before .to-int .ensures (s .args .items .now) (s .pre .1 .0 .1 .items-in)))
     (entries-in (s .args .items .now) (s .args .values .now) (s .args .a) ∙ sym (lends-held (s .args .limit) (s .args .items .now) (s .args .values .now) (c .before .before .before .before .before .before .before .before .before .before .before .before .before .start-of .result) (c .before .before .before .before .before .before .before .before .before .before .before .before .len-of .result) (s .args .a) (c .before .before .before .before .before .before .before .before .before .before .before .before .before .start-of .ensures) (c .before .before .before .before .before .before .before .before .before .before .before .before .len-of .ensures))))
-    (subst (Fine (s .args .limit)) (sym (right-int (definitions (s .args .ends .now) (s .args .defined .now) (s .args .limit)) (s .args .op) (valOf (s .args .items .now) (s .args .values .now) (s .args .a)) (s .args .items .now) (s .args .values .now) (s .args .b) (s .pre .1 .1)))
-    (shift-fine (s .args .limit) (s .args .ends .now) (s .args .defined .now) (s .args .op) (originsIn (valOf (s .args .items .now) (s .args .values .now) (s .args .a))) (asInt (valOf (s .args .items .now) (s .args .values .now) (s .args .b))) (entriesOf (valOf (s .args .items .now) (s .args .values .now) (s .args .a))) (s .pre .0 .within)))
-    (s .pre .0 .small) (c .before .before .before .before .before .shift .ensures) in
-    d .answers _ (c .located .ensures)
+    (c .before .before .before .before .before .shift .ensures) in
+    d .makes _ (c .located .ensures)
 
 pub list-int-spec : {M : Type 1} → statement M
 list-int-spec =

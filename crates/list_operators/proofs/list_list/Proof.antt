@@ -10,7 +10,8 @@ use Rattle.list_operators.specs.Lists.{definitions}
 use Rattle.ink_value.specs.Value.{valOf}
 use Rattle.slices.proofs.Lists.{ap2}
 use Rattle.ink_value.proofs.Reading.{entries-in, formed-limit, lends-lent, lends-held}
-use Rattle.list_operators.proofs.Listing.{made, merge-fine, right-list}
+use Rattle.ink_value.proofs.ReadBack.{wf-of}
+use Rattle.list_operators.proofs.Listing.{done, right-list}
 use Rattle.ink_list.proofs.Rests.{of-lent}
 use Rattle.list_operators.proofs.list_list.Statement.{statement}
 use Rattle.list_operators.proofs.list_list.Tie as tie
@@ -90,10 +91,9 @@ merge-requires c κs = let s = c .before .before .before .before .before .before
 
 located-requires : tie.Need-located-requires
 located-requires c κs = let s = c .before .before .before .before .before .before .before .before .before .before .before .before .before .before .before .before .before .before in
-    let d = made (definitions (s .args .ends .now) (s .args .defined .now) (s .args .limit)) (s .args .op) ((valOf (s .args .items .now) (s .args .values .now) (s .args .a)) ∷ (valOf (s .args .items .now) (s .args .values .now) (s .args .b)) ∷ [])
+    let d = done (definitions (s .args .ends .now) (s .args .defined .now) (s .args .limit)) (s .pre .0 .within) (s .pre .0 .small) (s .args .op) ((valOf (s .args .items .now) (s .args .values .now) (s .args .a)) ∷ (valOf (s .args .items .now) (s .args .values .now) (s .args .b)) ∷ []) (wf-of (s .args .limit) (s .args .items .now) (s .args .values .now) (s .args .a) (s .pre .1 .0 .0), (wf-of (s .args .limit) (s .args .items .now) (s .args .values .now) (s .args .b) (s .pre .1 .0 .1), tt))
     (right-list (definitions (s .args .ends .now) (s .args .defined .now) (s .args .limit)) (s .args .op) (valOf (s .args .items .now) (s .args .values .now) (s .args .a)) (s .args .items .now) (s .args .values .now) (s .args .b) (s .pre .1 .1)
     ∙ ap2 (mergeL (s .args .limit) (s .args .op)) (entries-in (s .args .items .now) (s .args .values .now) (s .args .a) ∙ sym (lends-held (s .args .limit) (s .args .items .now) (s .args .values .now) (c .before .before .before .before .before .before .before .before .before .before .before .before .before .before .start-of .result) (c .before .before .before .before .before .before .before .before .before .before .before .before .before .len-of .result) (s .args .a) (c .before .before .before .before .before .before .before .before .before .before .before .before .before .before .start-of .ensures) (c .before .before .before .before .before .before .before .before .before .before .before .before .before .len-of .ensures))) (entries-in (s .args .items .now) (s .args .values .now) (s .args .b) ∙ sym (lends-held (s .args .limit) (s .args .items .now) (s .args .values .now) (c .before .before .before .before .before .before .before .before .before .before .before .before .start-of2 .result) (c .before .before .before .before .before .before .before .before .before .before .before .len-of2 .result) (s .args .b) (c .before .before .before .before .before .before .before .before .before .before .before .before .start-of2 .ensures) (c .before .before .before .before .before .before .before .before .before .before .before .len-of2 .ensures))))
-    (merge-fine (s .args .limit) (s .args .op) _ _) (s .pre .0 .small)
     (c .before .before .before .before .merge .ensures (s .args .limit) (of-lent (s .args .limit) _ _ (lends-lent (s .args .limit) (s .args .items .now) (s .args .values .now) (c .before .before .before .before .before .before .before .before .before .before .before .before .before .before .start-of .result) (c .before .before .before .before .before .before .before .before .before .before .before .before .before .len-of .result) (s .args .a) (c .before .before .before .before .before .before .before .before .before .before .before .before .before .before .start-of .ensures) (c .before .before .before .before .before .before .before .before .before .before .before .before .before .len-of .ensures) (s .pre .1 .0 .0))) (of-lent (s .args .limit) _ _ (lends-lent (s .args .limit) (s .args .items .now) (s .args .values .now) (c .before .before .before .before .before .before .before .before .before .before .before .before .start-of2 .result) (c .before .before .before .before .before .before .before .before .before .before .before .len-of2 .result) (s .args .b) (c .before .before .before .before .before .before .before .before .before .before .before .before .start-of2 .ensures) (c .before .before .before .before .before .before .before .before .before .before .before .len-of2 .ensures) (s .pre .1 .0 .1)))) in
     (omega (arith, d .short, s .pre .0), d .rises, s .pre .0 .few)
 
@@ -105,12 +105,11 @@ same-length-2 c = search needs
 
 returns : tie.Need-returns
 returns c = let s = c .before .before .before .before .before .before .before .before .before .before .before .before .before .before .before .before .before .before .before in
-    let d = made (definitions (s .args .ends .now) (s .args .defined .now) (s .args .limit)) (s .args .op) ((valOf (s .args .items .now) (s .args .values .now) (s .args .a)) ∷ (valOf (s .args .items .now) (s .args .values .now) (s .args .b)) ∷ [])
+    let d = done (definitions (s .args .ends .now) (s .args .defined .now) (s .args .limit)) (s .pre .0 .within) (s .pre .0 .small) (s .args .op) ((valOf (s .args .items .now) (s .args .values .now) (s .args .a)) ∷ (valOf (s .args .items .now) (s .args .values .now) (s .args .b)) ∷ []) (wf-of (s .args .limit) (s .args .items .now) (s .args .values .now) (s .args .a) (s .pre .1 .0 .0), (wf-of (s .args .limit) (s .args .items .now) (s .args .values .now) (s .args .b) (s .pre .1 .0 .1), tt))
     (right-list (definitions (s .args .ends .now) (s .args .defined .now) (s .args .limit)) (s .args .op) (valOf (s .args .items .now) (s .args .values .now) (s .args .a)) (s .args .items .now) (s .args .values .now) (s .args .b) (s .pre .1 .1)
     ∙ ap2 (mergeL (s .args .limit) (s .args .op)) (entries-in (s .args .items .now) (s .args .values .now) (s .args .a) ∙ sym (lends-held (s .args .limit) (s .args .items .now) (s .args .values .now) (c .before .before .before .before .before .before .before .before .before .before .before .before .before .before .before .start-of .result) (c .before .before .before .before .before .before .before .before .before .before .before .before .before .before .len-of .result) (s .args .a) (c .before .before .before .before .before .before .before .before .before .before .before .before .before .before .before .start-of .ensures) (c .before .before .before .before .before .before .before .before .before .before .before .before .before .before .len-of .ensures))) (entries-in (s .args .items .now) (s .args .values .now) (s .args .b) ∙ sym (lends-held (s .args .limit) (s .args .items .now) (s .args .values .now) (c .before .before .before .before .before .before .before .before .before .before .before .before .before .start-of2 .result) (c .before .before .before .before .before .before .before .before .before .before .before .before .len-of2 .result) (s .args .b) (c .before .before .before .before .before .before .before .before .before .before .before .before .before .start-of2 .ensures) (c .before .before .before .before .before .before .before .before .before .before .before .before .len-of2 .ensures))))
-    (merge-fine (s .args .limit) (s .args .op) _ _) (s .pre .0 .small)
     (c .before .before .before .before .before .merge .ensures (s .args .limit) (of-lent (s .args .limit) _ _ (lends-lent (s .args .limit) (s .args .items .now) (s .args .values .now) (c .before .before .before .before .before .before .before .before .before .before .before .before .before .before .before .start-of .result) (c .before .before .before .before .before .before .before .before .before .before .before .before .before .before .len-of .result) (s .args .a) (c .before .before .before .before .before .before .before .before .before .before .before .before .before .before .before .start-of .ensures) (c .before .before .before .before .before .before .before .before .before .before .before .before .before .before .len-of .ensures) (s .pre .1 .0 .0))) (of-lent (s .args .limit) _ _ (lends-lent (s .args .limit) (s .args .items .now) (s .args .values .now) (c .before .before .before .before .before .before .before .before .before .before .before .before .before .start-of2 .result) (c .before .before .before .before .before .before .before .before .before .before .before .before .len-of2 .result) (s .args .b) (c .before .before .before .before .before .before .before .before .before .before .before .before .before .start-of2 .ensures) (c .before .before .before .before .before .before .before .before .before .before .before .before .len-of2 .ensures) (s .pre .1 .0 .1)))) in
-    d .answers _ (c .located .ensures)
+    d .makes _ (c .located .ensures)
 
 pub list-list-spec : {M : Type 1} → statement M
 list-list-spec =

@@ -13,7 +13,7 @@ slice-aggregate-list-through-2 c = search needs
 list-through-requires : tie.Need-list-through-requires
 list-through-requires c κs =
     let s = c .before .before .before .before .before .before .before .before in
-    (s .pre .0, (s .pre .1 .0, (s .pre .1 .1, (omega (arith, c .before .before .before .before .if1 .taken), omega (arith, c .before .before .before .before .if1 .taken)))))
+    (s .pre .0, (s .pre .1, (omega (arith, c .before .before .before .before .if1 .taken), omega (arith, c .before .before .before .before .if1 .taken))))
 
 same-length : tie.Need-same-length
 same-length c = search needs
@@ -33,7 +33,7 @@ slice-aggregate-list-through-4 c = search needs
 list-through-requires-2 : tie.Need-list-through-requires-2
 list-through-requires-2 c κs =
     let s = c .before .before .before .before .before .before .before .before in
-    (s .pre .0, (s .pre .1 .0, (s .pre .1 .1, (omega (arith, s .pre .0 .1 .format .few), omega (arith, s .pre .0 .1 .format .few)))))
+    (s .pre .0, (s .pre .1, (omega (arith, s .pre .0 .1 .format .few), omega (arith, s .pre .0 .1 .format .few))))
 
 same-length-3 : tie.Need-same-length-3
 same-length-3 c = search needs

@@ -1,10 +1,13 @@
 -- `operating::list_through` meets its contract: the list is read back from where its operator wrote it, and put in its place. Assumes nothing.
 use native.Mathlib.Omega.{arith}
-use Rattle.ink_list.specs.Entries.{itemNumbers}
 use Prim.Native.Nat.{zero-le}
+use Rattle.ink_list.specs.Entries.{itemNumbers}
 use Rattle.ink_value.proofs.Reading.{few-in, formed-limit}
-use Rattle.operating.proofs.Putting.{place-fits, formed-result, result-read, result-put, refusal}
-use Rattle.native_function_call.specs.Apply.{compute}
+use Rattle.ink_value.proofs.ReadBack.{first-wf}
+use Rattle.list_operators.specs.Lists.{definitions}
+use Rattle.list_operators.proofs.Listing.{entries-rise}
+use Rattle.operating.specs.Stacked.{taken}
+use Rattle.operating.proofs.Putting.{place-fits, made-formed, made-put}
 use borrow.Author.Needs.{needs}
 use Rattle.operating.proofs.list_through.Statement.{statement}
 use Rattle.operating.proofs.list_through.Tie as tie
@@ -12,24 +15,21 @@ use Rattle.operating.proofs.list_through.Tie as tie
 list-requires : tie.Need-list-requires
 list-requires c κs =
     let s = c .before .before .before .before .before .before .before in
-    (record { tables = s .pre .0 .0 .tables; few = s .pre .0 .0 .few; within = s .pre .0 .0 .within; some = s .pre .0 .1 .format .some; small = omega (arith, s .pre .0 .1 .format .few); items-room = s .pre .1 .1 .1 .0; values-room = s .pre .1 .1 .1 .1 }, (s .pre .1 .0, (s .pre .0 .2, s .pre .0 .3)))
-
-enum-known-outcome : tie.Need-enum-known-outcome
-enum-known-outcome c = search needs
+    (record { tables = s .pre .0 .0 .tables; few = s .pre .0 .0 .few; within = s .pre .0 .0 .within; some = s .pre .0 .1 .format .some; small = omega (arith, s .pre .0 .1 .format .few); items-room = s .pre .1 .1 .0; values-room = s .pre .1 .1 .1 }, (s .pre .1 .0, (s .pre .0 .2, s .pre .0 .3)))
 
 mul-to : tie.Need-mul-to
-mul-to c = let s = c .before .before .before .before .before .before .before .before .before .before .before .before .before .before .before in omega (arith, place-fits (s .args .format) (s .args .place) 0 (s .pre .0 .4) zero-le, s .pre .0 .1 .format .few)
+mul-to c = let s = c .before .before .before .before .before .before .before .before .before .before .before .before in omega (arith, place-fits (s .args .format) (s .args .place) 0 (s .pre .0 .4) zero-le, s .pre .0 .1 .format .few)
 
 store-requires : tie.Need-store-requires
-unfolding compute
 store-requires c κs =
-    let s = c .before .before .before .before .before .before .before .before .before .before .before .before .before .before .before .before .before .before .before in
-    let f = formed-result (s .args .format) _ _ _ _ (s .pre .1 .1 .1 .0) (s .pre .1 .1 .1 .1) _ _ (c .before .before .before .before .before .before .before .before .before .before .before .list .ensures) (s .pre .1 .1 .0) _ (c .before .before .before .before .before .before .outcome .given .1) in
-    let g = place-fits (s .args .format) (s .args .place) _ (s .pre .0 .4) (few-in (s .args .format .limit) _ _ (c .before .before .before .before .before .before .outcome .given .0 .0) f) in
-    (formed-limit (s .args .format .limit) _ _ itemNumbers (c .before .before .before .before .before .before .outcome .given .0 .0) (omega (arith, s .pre .0 .1 .format .few)) f, (omega (arith, g, s .pre .0 .1 .items-room), omega (arith, g, s .pre .0 .1 .values-room)))
-
-enum-known-outcome-2 : tie.Need-enum-known-outcome-2
-enum-known-outcome-2 c = search needs
+    let s = c .before .before .before .before .before .before .before .before .before .before .before .before .before .before .before .before in
+    let is = s .args .work-items .now in
+    let vs = s .args .work-values .now in
+    let u = definitions (s .args .ends .now) (s .args .defined .now) (s .args .format .limit) in
+    let up = entries-rise u (s .pre .0 .0 .within) (s .args .op) (taken is vs (s .args .a) (s .args .b) (s .args .c) (s .args .count)) (first-wf (s .args .format .limit) is vs (s .args .count) (s .args .a) (s .args .b) (s .args .c) (s .pre .1 .0)) in
+    let f = made-formed (s .args .format) _ _ _ _ _ _ _ (c .before .before .before .before .before .before .before .before .list .ensures) up (s .pre .1 .1 .0) (s .pre .1 .1 .1) in
+    let g = place-fits (s .args .format) (s .args .place) _ (s .pre .0 .4) (few-in (s .args .format .limit) _ _ (c .before .before .before .before .before .before .before .before .list .result) f) in
+    (formed-limit (s .args .format .limit) _ _ itemNumbers (c .before .before .before .before .before .before .before .before .list .result) (omega (arith, s .pre .0 .1 .format .few)) f, (omega (arith, g, s .pre .0 .1 .items-room), omega (arith, g, s .pre .0 .1 .values-room)))
 
 same-length : tie.Need-same-length
 same-length c = search needs
@@ -44,45 +44,24 @@ same-length-4 : tie.Need-same-length-4
 same-length-4 c = search needs
 
 returns : tie.Need-returns
-unfolding compute
 returns c =
-    let s = c .before .before .before .before .before .before .before .before .before .before .before .before .before .before .before .before .before .before .before .before .before .before .before in
-    let f = formed-result (s .args .format) _ _ _ _ (s .pre .1 .1 .1 .0) (s .pre .1 .1 .1 .1) _ _ (c .before .before .before .before .before .before .before .before .before .before .before .before .before .before .before .list .ensures) (s .pre .1 .1 .0) _ (c .before .before .before .before .before .before .before .before .before .before .outcome .given .1) in
-    result-put _ _ _ _ _ _ _ _ (s .pre .0 .4) (result-read (s .args .format) _ _ _ _ (s .pre .1 .1 .1 .0) (s .pre .1 .1 .1 .1) _ _ (c .before .before .before .before .before .before .before .before .before .before .before .before .before .before .before .list .ensures) _ (c .before .before .before .before .before .before .before .before .before .before .outcome .given .1)) (c .before .before .before .store .ensures (s .args .format) f)
-
-same-length-5 : tie.Need-same-length-5
-same-length-5 c = search needs
-
-same-length-6 : tie.Need-same-length-6
-same-length-6 c = search needs
-
-same-length-7 : tie.Need-same-length-7
-same-length-7 c = search needs
-
-same-length-8 : tie.Need-same-length-8
-same-length-8 c = search needs
-
-returns-2 : tie.Need-returns-2
-unfolding compute
-returns-2 c =
-    refusal _ _ _ _ _ (c .before .before .before .before .before .before .list .ensures .answered) _ (c .before .outcome2 .given .1)
+    let s = c .before .before .before .before .before .before .before .before .before .before .before .before .before .before .before .before .before .before .before .before in
+    let is = s .args .work-items .now in
+    let vs = s .args .work-values .now in
+    let u = definitions (s .args .ends .now) (s .args .defined .now) (s .args .format .limit) in
+    let up = entries-rise u (s .pre .0 .0 .within) (s .args .op) (taken is vs (s .args .a) (s .args .b) (s .args .c) (s .args .count)) (first-wf (s .args .format .limit) is vs (s .args .count) (s .args .a) (s .args .b) (s .args .c) (s .pre .1 .0)) in
+    let f = made-formed (s .args .format) _ _ _ _ _ _ _ (c .before .before .before .before .before .before .before .before .before .before .before .before .list .ensures) up (s .pre .1 .1 .0) (s .pre .1 .1 .1) in
+    made-put (s .args .format) _ _ _ _ _ _ _ (c .before .before .before .before .before .before .before .before .before .before .before .before .list .ensures) (c .before .before .before .store .ensures (s .args .format) f)
 
 pub list-through-spec : {M : Type 1} → statement M
 list-through-spec =
     tie.close
     (tie.spec
     list-requires
-    enum-known-outcome
     mul-to
     store-requires
-    enum-known-outcome-2
     same-length
     same-length-2
     same-length-3
     same-length-4
-    returns
-    same-length-5
-    same-length-6
-    same-length-7
-    same-length-8
-    returns-2)
+    returns)

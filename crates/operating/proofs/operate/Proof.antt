@@ -1,17 +1,16 @@
 -- `operating::operate` meets its contract: the answer on kinds is a no, or the kind of the result, by which the result is made.
 -- Assumes nothing.
-use mathlib.Core.Path.{_≡_, refl, ap, _∙_, subst}
+use mathlib.Core.Path.{_≡_, refl, ap, _∙_}
 use Prim.Native.Nat.{ℕ}
 use native.Mathlib.Omega.{arith}
-use Rattle.ink_number.specs.Answer.{Answer}
-use Rattle.ink_list.specs.Entries.{Rising, itemNumbers}
-use Rattle.ink_value.specs.Val.{Val, kindAt}
-use Rattle.ink_value.specs.Value.{written}
+use Rattle.ink_list.specs.Entries.{itemNumbers}
+use Rattle.ink_value.specs.Val.{kindAt}
 use Rattle.native_function_call.specs.Apply.{compute}
 use Rattle.list_operators.specs.Lists.{definitions}
 use Rattle.ink_value.proofs.Reading.{formed-limit}
 use Rattle.operating.specs.Stacked.{taken}
-use Rattle.operating.proofs.Operating.{call-rises, call-computes, call-stops, answered-is}
+use Rattle.operating.proofs.Operating.{call-computes, call-stops, answered-is}
+use Rattle.operating.proofs.Putting.{result-put}
 use borrow.Author.Needs.{needs}
 use Rattle.operating.proofs.operate.Statement.{statement}
 use Rattle.operating.proofs.operate.Tie as tie
@@ -39,14 +38,9 @@ returns c =
 list-result-requires : tie.Need-list-result-requires
 list-result-requires c κs =
     let s = c .before .before .before .before .before .before .before .before .before .before in
-    let is = s .args .work-items .now in
-    let vs = s .args .work-values .now in
-    let u = definitions (s .args .ends .now) (s .args .defined .now) (s .args .format .limit) in
     let few = c .before .before .before .if1 .left in
     let g = c .before .before .before .before .answer .ensures .counted (omega arith) in
-    let e = call-computes is vs (s .args .a) (s .args .b) (s .args .c) u (s .args .op) (s .args .count) (c .before .before .before .before .before .before .before .kind .ensures .0) (c .before .before .before .before .before .before .kind2 .ensures .0) (c .before .before .before .before .before .kind3 .ensures .0) (c .before .before .before .before .answer .ensures) (omega arith) ∙ ap (λ (j : ℕ). compute u (s .args .op) (taken is vs (s .args .a) (s .args .b) (s .args .c) (s .args .count)) (kindAt j)) (c .before .before .if2 .taken) in
-    let up = call-rises is vs (s .args .a) (s .args .b) (s .args .c) u (s .args .op) (s .args .count) (s .args .format .limit) (s .pre .0 .1 .format .some) (s .pre .1) refl (s .pre .0 .0 .within) in
-    ((s .pre .0 .0, s .pre .0 .1, g .0, g .1, s .pre .0 .2), (s .pre .1, subst (λ (x : Answer Val). Rising (s .args .format .limit) (written x)) e up))
+    ((s .pre .0 .0, s .pre .0 .1, g .0, g .1, s .pre .0 .2), s .pre .1)
 
 same-length : tie.Need-same-length
 same-length c = search needs
@@ -55,13 +49,15 @@ same-length-2 : tie.Need-same-length-2
 same-length-2 c = search needs
 
 returns-2 : tie.Need-returns-2
+unfolding compute
 returns-2 c =
     let s = c .before .before .before .before .before .before .before .before .before .before .before .before .before .before in
     let is = s .args .work-items .now in
     let vs = s .args .work-values .now in
     let u = definitions (s .args .ends .now) (s .args .defined .now) (s .args .format .limit) in
     let few = c .before .before .before .before .before .before .before .if1 .left in
-    answered-is _ _ _ _ _ _ _ _ (call-computes is vs (s .args .a) (s .args .b) (s .args .c) u (s .args .op) (s .args .count) (c .before .before .before .before .before .before .before .before .before .before .before .kind .ensures .0) (c .before .before .before .before .before .before .before .before .before .before .kind2 .ensures .0) (c .before .before .before .before .before .before .before .before .before .kind3 .ensures .0) (c .before .before .before .before .before .before .before .before .answer .ensures) (omega arith) ∙ ap (λ (j : ℕ). compute u (s .args .op) (taken is vs (s .args .a) (s .args .b) (s .args .c) (s .args .count)) (kindAt j)) (c .before .before .before .before .before .before .if2 .taken)) (c .before .before .before .list-result .ensures)
+    let e = call-computes is vs (s .args .a) (s .args .b) (s .args .c) u (s .args .op) (s .args .count) (c .before .before .before .before .before .before .before .before .before .before .before .kind .ensures .0) (c .before .before .before .before .before .before .before .before .before .before .kind2 .ensures .0) (c .before .before .before .before .before .before .before .before .before .kind3 .ensures .0) (c .before .before .before .before .before .before .before .before .answer .ensures) (omega arith) ∙ ap (λ (j : ℕ). compute u (s .args .op) (taken is vs (s .args .a) (s .args .b) (s .args .c) (s .args .count)) (kindAt j)) (c .before .before .before .before .before .before .if2 .taken) in
+    result-put _ _ _ _ _ _ _ _ (s .pre .0 .2) e (c .before .before .before .list-result .ensures)
 
 scalar-result-requires : tie.Need-scalar-result-requires
 scalar-result-requires c κs =

@@ -1,6 +1,6 @@
 //! The port: this repository's compiled code, called through its C interface, and held against what it owes.
 //! Every slice that is lent is filled with a pattern first, with more of the pattern before and after it.
-use crate::asks::{Ask, Owed, WORK};
+use crate::asks::{Ask, Owed, RESULT, WORK};
 use ink_oracle::sys::*;
 use ink_oracle::values::{Defs, Val};
 
@@ -50,7 +50,7 @@ fn clear<T: Default>(len: usize, i: usize, pattern: impl Fn(usize) -> T) -> T {
 }
 
 /// Mistakes made on purpose after the port has answered, to see that each is noticed.
-pub const MISTAKES: [&str; 14] = [
+pub const MISTAKES: [&str; 16] = [
     "another number",
     "another index",
     "a word of a value",
@@ -65,6 +65,8 @@ pub const MISTAKES: [&str; 14] = [
     "a forecast byte",
     "a byte beyond the forecast",
     "a forecast on refusal",
+    "16 for a List of 256 entries",
+    "a 257th entry",
 ];
 
 pub struct Port {
@@ -364,6 +366,8 @@ impl Port {
             11 if vet && !refused => self.forecast.inside()[n - 1] ^= 1,
             12 if vet && !refused && n < self.forecast.len => self.forecast.inside()[n] = 0,
             13 if vet && refused && self.forecast.len > 0 => self.forecast.inside()[0] = 0,
+            14 if length == RESULT => self.number = 16,
+            15 if length == RESULT => self.result_items.all[GUARD + RESULT] = 0,
             _ => {}
         }
     }
