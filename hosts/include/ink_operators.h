@@ -19,8 +19,8 @@
  * values. Its origin set has bit i for definition i. The List of an answer starts at place 0 of the two result slices and has at most 256
  * entries. Any other three words are no value: question 7 says no to them, where the call gets to it.
  *
- * ANSWERS. A function returns 0 and writes a value to `answer`; or it returns the number of the question that said no, and writes
- * {index, 0, 0}, the index being the instruction's (0 for questions 1 to 7 and 18 and for all direct calls).
+ * ANSWERS. A function returns 0 and writes a value to `answer`; or it returns the number of the question that said no (1 to 15, 17 or 18),
+ * and writes {index, 0, 0}, the index being the instruction's (0 for questions 1 to 7 and 18 and for all direct calls).
  *
  * MEMORY. The library keeps nothing, allocates nothing and has no state: whatever is passed stays the caller's, is read and written
  * during the call alone, and calls on different memory may run at the same time. A pointer that comes with a length points to that many

@@ -14,7 +14,7 @@ use Rattle.ink_number.specs.Int.{eqZ}
 use Rattle.slices.specs.Every.{_and_}
 use Rattle.ink_value.specs.Val.{Val, bool, int, float, Kind, floatK, listK, kindOf, codeOf}
 use Rattle.ink_value.specs.Convert.{asInt, asFloat}
-use Rattle.ink_value.specs.Value.{valOf, placed}
+use Rattle.ink_value.specs.Value.{valOf}
 use Rattle.ink_value.specs.declared.Value.{Value}
 use Rattle.value_conversions.specs.Convert.{castable, converted, cast, coerceBool, coerceInt, coerceFloat}
 use Rattle.operator_kinds.specs.Kinds.{known, arity}
@@ -30,7 +30,7 @@ use Rattle.machine.specs.Whole.{opened, sheetRun, sheetVet}
 use Rattle.machine.proofs.Numbers.{Numbered, NumberedEnd, asks, chosen, then-numbered, judge-numbered, operator-numbered, vet-numbered, run-numbered}
 use Rattle.call_memory.specs.Lent.{operandsOk, resultsOk}
 use Rattle.calls.specs.Call.{called, castTo, coerced, onPack}
-use Rattle.value_words.specs.Calls.{numberOf, outcomeNumber, Says, Calls}
+use Rattle.value_words.specs.Calls.{numberOf, Says, Calls}
 use Rattle.running.specs.Run.{ranTo}
 use Rattle.vetting.specs.Vet.{vetMemory, Vets}
 use Rattle.vet_program.specs.declared.Vetted.{Vetted}
@@ -45,13 +45,9 @@ pub not-16 : (n : ℕ) → InUse n → n ≡ 16 → ⊥
 not-16 n (inl h) e = omega arith
 not-16 n (inr h) e = let q : inUse 16 ≡ true = rw e at h in let z : _≡_ {A = ℕ} 0 1 = cc in omega arith
 
-answer-in-use : {X : Type 0} (a : Answer X) → Numbered a → InUse (numberOf a)
-answer-in-use (gives x) h = inl refl
-answer-in-use (refuses r) h = inr h
-
-outcome-in-use : (a : Answer Val) → Numbered a → InUse (outcomeNumber (placed a))
-outcome-in-use (gives x) h = inl refl
-outcome-in-use (refuses r) h = inr h
+said-in-use : (a : Answer Val) (n : ℕ) (ws : List ℕ) → Numbered a → Says a n ws → InUse n
+said-in-use (gives x) n ws h w = inl (w .number)
+said-in-use (refuses r) n ws h w = inr (rw (w .number) h)
 
 -- ---- a call and the conversions
 
@@ -93,27 +89,31 @@ pack-numbered F p f h = then-numbered (judge F p) (λ d. f (definitionsOf d F)) 
 
 -- ---- the exported functions, by their contracts
 
-module _ (F : Format) (p : List ℕ) (n : ℕ) (ws : List ℕ) where
-  -- `ink_check`
-  pub check-in-use : n ≡ numberOf (judge F p) → InUse n
-  check-in-use e = rw e (answer-in-use (judge F p) (judge-numbered F p))
+-- `ink_check`
+pub check-in-use : (F : Format) (p : List ℕ) (n : ℕ) → n ≡ numberOf (judge F p) → InUse n
+check-in-use F p n e = rw e (go (judge F p) (judge-numbered F p))
+  where
+    go : (a : Answer Pack) → Numbered a → InUse (numberOf a)
+    go (gives d) h = inl refl
+    go (refuses r) h = inr h
 
-  module _ (is : List ℕ) (vs : List ℤ) where
-    -- the three `ink_coerce_to_`
-    pub coerce-in-use : (f : Val → Answer Val) (v : Value) → ((x : Val) → Numbered (f x)) → Says (onPack F p (coerced is vs f v)) n ws → InUse n
-    coerce-in-use f v h w = rw (w .number) (outcome-in-use (onPack F p (coerced is vs f v)) (pack-numbered F p (coerced is vs f v) (λ u. coerced-numbered is vs f v u h)))
+module _ (F : Format) (p : List ℕ) (n : ℕ) (ws is : List ℕ) (vs : List ℤ) where
+  -- the three `ink_coerce_to_`
+  pub coerce-in-use : (f : Val → Answer Val) (v : Value) → ((x : Val) → Numbered (f x)) → Says (onPack F p (coerced is vs f v)) n ws → InUse n
+  coerce-in-use f v h = said-in-use _ n ws (pack-numbered F p (coerced is vs f v) (λ u. coerced-numbered is vs f v u h))
 
-    module _ (oi oi′ : List ℕ) (ov ov′ : List ℤ) where
-      -- `ink_call`; `ink_call_checked` and `ink_apply`
-      pub call-in-use : (o c : ℕ) (l : List Value) → Calls (onPack F p (called is vs oi ov o c l)) n ws oi oi′ ov ov′ → InUse n
-      call-in-use o c l w = rw (w .says .number) (outcome-in-use (onPack F p (called is vs oi ov o c l)) (pack-numbered F p (called is vs oi ov o c l) (called-numbered is vs oi ov o c l)))
+  module _ (oi oi′ : List ℕ) (ov ov′ : List ℤ) where
+    -- `ink_call`
+    pub call-in-use : (o c : ℕ) (l : List Value) → Calls (onPack F p (called is vs oi ov o c l)) n ws oi oi′ ov ov′ → InUse n
+    call-in-use o c l w = said-in-use _ n ws (pack-numbered F p (called is vs oi ov o c l) (called-numbered is vs oi ov o c l)) (w .says)
 
-      pub checked-in-use : (o c : ℕ) (l : List Value) (u : ListDefinitions) → Calls (called is vs oi ov o c l u) n ws oi oi′ ov ov′ → InUse n
-      checked-in-use o c l u w = rw (w .says .number) (outcome-in-use (called is vs oi ov o c l u) (called-numbered is vs oi ov o c l u))
+    -- `ink_call_checked`, `ink_apply`
+    pub checked-in-use : (o c : ℕ) (l : List Value) (u : ListDefinitions) → Calls (called is vs oi ov o c l u) n ws oi oi′ ov ov′ → InUse n
+    checked-in-use o c l u w = said-in-use _ n ws (called-numbered is vs oi ov o c l u) (w .says)
 
-      -- `ink_cast`
-      pub cast-in-use : (to : ℕ) (v : Value) → Calls (onPack F p (castTo is vs oi ov to v)) n ws oi oi′ ov ov′ → InUse n
-      cast-in-use to v w = rw (w .says .number) (outcome-in-use (onPack F p (castTo is vs oi ov to v)) (pack-numbered F p (castTo is vs oi ov to v) (cast-numbered is vs oi ov to v)))
+    -- `ink_cast`
+    pub cast-in-use : (to : ℕ) (v : Value) → Calls (onPack F p (castTo is vs oi ov to v)) n ws oi oi′ ov ov′ → InUse n
+    cast-in-use to v w = said-in-use _ n ws (pack-numbered F p (castTo is vs oi ov to v) (cast-numbered is vs oi ov to v)) (w .says)
 
 end-in-use : (e : End Val) → NumberedEnd e → InUse (ranNumber (ranTo e))
 end-in-use (ended v) h = inl refl

@@ -3,13 +3,15 @@ use mathlib.Core.Path.{_≡_, sym, subst}
 use mathlib.Core.Bool.{true}
 use mathlib.Core.List.{List, map}
 use Prim.Native.Nat.{ℕ, _≤_}
+use borrow.Author.Tests.{le-leb}
+use lib.Dec.{leb}
 use lib.IntN.{ℤ}
 use lib.ListN.{length}
 use Rattle.slices.proofs.Every.{and-right}
 use Rattle.ink_list.specs.Entries.{Rising}
 use Rattle.ink_list.proofs.Laws.{rising-length}
 use Rattle.ink_value.specs.Val.{Val, Kind, boolK, intK, floatK, listK, voidK, kindOf}
-use Rattle.ink_number.specs.Answer.{Answer, gives, refuses}
+use Rattle.ink_number.specs.Answer.{Answer, gives, refuses, ask}
 use Rattle.operator_kinds.specs.Kinds.{kindApply}
 use Rattle.list_definitions.specs.Defs.{ListDefinitions}
 use Rattle.native_function_call.specs.Apply.{compute, guarded, applyOp}
@@ -44,3 +46,9 @@ module _ (u : ListDefinitions) (within : length (u .defined) ≤ u .limit) where
   result-few o is vs operands e =
       rising-length (u .limit) (written (applyOp u o (map (valOf is vs) operands)))
       (apply-rises o (map (valOf is vs) operands) (each-wf (u .limit) is vs (length (u .defined)) (length (u .ends)) within operands (and-right _ _ e)))
+
+  -- so a question n that asks it, as 16 did, would say yes and leave every answer as it is
+  pub asked-idle : (n o : ℕ) (is : List ℕ) (vs : List ℤ) (operands : List Value) → allFormed (length (u .defined)) (length (u .ends)) is vs operands ≡ true
+      → ask n (leb (length (written (applyOp u o (map (valOf is vs) operands)))) (u .limit)) (applyOp u o (map (valOf is vs) operands))
+      ≡ applyOp u o (map (valOf is vs) operands)
+  asked-idle n o is vs operands e = rw (le-leb (length (written (applyOp u o (map (valOf is vs) operands)))) (u .limit) (result-few o is vs operands e))

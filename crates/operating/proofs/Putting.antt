@@ -10,17 +10,20 @@ use Rattle.ink_number.specs.Answer.{Answer, gives}
 use Rattle.ink_list.specs.Entries.{Entry, entries, items, values, Rising, Stored}
 use Rattle.slices.specs.Filled.{fill}
 use Rattle.slices.proofs.Filled.{fill-nothing}
-use Rattle.ink_value.specs.Val.{Val, bool, int, float, list, void}
+use Rattle.ink_value.specs.Val.{Val, bool, int, float, void}
 use Rattle.ink_value.specs.Convert.{entriesOf}
-use Rattle.ink_value.specs.Value.{valOf, codeOfValue, startOf, lenOf, setIn, placedVal, Formed, Gave}
+use Rattle.ink_value.specs.Value.{valOf, codeOfValue, startOf, lenOf, setIn, placedVal, Formed, FirstFormed, Gave}
 use Rattle.ink_value.specs.declared.Value.{Value}
 use Rattle.ink_value.specs.declared.Value.the-variants as Is
 use Rattle.ink_value.specs.declared.Outcome.the-variants as Out
 use Rattle.ink_value.proofs.Reading.{lends-held, list-in, len-in, entries-in, rising-in}
-use Rattle.ink_value.proofs.ReadBack.{read-back, formed-back}
+use Rattle.ink_value.proofs.ReadBack.{read-back, formed-back, first-wf}
+use Rattle.list_operators.specs.Lists.{definitions, entriesFor, originsAfter, listResult}
+use Rattle.list_operators.proofs.Listing.{entries-rise}
+use Rattle.pack.specs.Read.{PackLists}
 use Rattle.pack.specs.declared.format.Format.{Format}
 use Rattle.machine.specs.Machine.{stackLimit}
-use Rattle.operating.specs.Stacked.{workLimit, placedAt, Put, startAt, Answered}
+use Rattle.operating.specs.Stacked.{workLimit, placedAt, Put, taken, startAt, Answered}
 use Rattle.operating.specs.declared.Step.the-variants as St
 
 -- a place of the stack has room for a list
@@ -67,17 +70,24 @@ module _ (F : Format) (is : List ℕ) (vs : List ℤ) (v : Value) (f : Formed (F
 
 -- ---- results
 
--- a List that was made in lent slices stands there well formed, and is read back
-module _ (F : Format) (o : ℕ) (es : List Entry) (v : Value) (oi oi′ : List ℕ) (ov ov′ : List ℤ) (g : Gave (gives (list o es)) (Out.Value v) oi oi′ ov ov′) where
-  pub made-formed : Rising (F .limit) es → F .limit ≤ length oi → F .limit ≤ length ov → Formed (F .limit) oi′ ov′ v
-  made-formed up hi hv =
-      let s : v ≡ placedVal (list o es) = cc in
-      subst (Formed (F .limit) oi′ ov′) (sym s) (formed-back (F .limit) o es (Out.Value v) oi oi′ ov ov′ g up hi hv)
+-- a List that its operator made in lent slices stands there well formed
+pub made-formed : (F : Format) (ends : List ℕ) (defined : List ℤ) (o n : ℕ) (a b c v : Value) (wi : List ℕ) (wv : List ℤ) (oi oi′ : List ℕ) (ov ov′ : List ℤ)
+    → Gave (gives (listResult (definitions ends defined (F .limit)) o (taken wi wv a b c n))) (Out.Value v) oi oi′ ov ov′
+    → PackLists (F .limit) ends defined → FirstFormed (F .limit) wi wv n a b c → F .limit ≤ length oi → F .limit ≤ length ov → Formed (F .limit) oi′ ov′ v
+made-formed F ends defined o n a b c v wi wv oi oi′ ov ov′ g t f hi hv =
+    let u = definitions ends defined (F .limit) in
+    let vs = taken wi wv a b c n in
+    let up = entries-rise u (t .within) o vs (first-wf (F .limit) wi wv n a b c f) in
+    let s : v ≡ placedVal (listResult u o vs) = cc in
+    subst (Formed (F .limit) oi′ ov′) (sym s) (formed-back (F .limit) (originsAfter u (entriesFor u o vs)) (entriesFor u o vs) (Out.Value v) oi oi′ ov ov′ g up hi hv)
 
-  pub made-put : {at : ℕ} {r : Value} {wi wi′ : List ℕ} {wv wv′ : List ℤ} → Put F (valOf oi′ ov′ v) at r wi wi′ wv wv′ → Put F (list o es) at r wi wi′ wv wv′
-  made-put {at} {r} {wi} {wi′} {wv} {wv′} w =
-      let e : valOf oi′ ov′ v ≡ list o es = let b = read-back (gives (list o es)) (Out.Value v) oi oi′ ov ov′ g in cc in
-      subst (λ (x : Val). Put F x at r wi wi′ wv wv′) e w
+-- a value that was made there is the one that is put from there
+pub made-put : {F : Format} {x : Val} {v r : Value} {at : ℕ} {oi oi′ wi wi′ : List ℕ} {ov ov′ wv wv′ : List ℤ} → Gave (gives x) (Out.Value v) oi oi′ ov ov′
+    → Put F (valOf oi′ ov′ v) at r wi wi′ wv wv′ → Put F x at r wi wi′ wv wv′
+made-put {F} {x} {v} {r} {at} {oi} {oi′} {wi} {wi′} {ov} {ov′} {wv} {wv′} g w =
+    let b = read-back (gives x) (Out.Value v) oi oi′ ov ov′ g in
+    let e : valOf oi′ ov′ v ≡ x = cc in
+    subst (λ (y : Val). Put F y at r wi wi′ wv wv′) e w
 
 pub result-put : {F : Format} (a : Answer Val) (x : Val) (place : ℕ) (v : Value) (wi wi′ : List ℕ) (wv wv′ : List ℤ) → place < stackLimit → a ≡ gives x
     → Put F x (startAt F place) v wi wi′ wv wv′ → Answered F a place (St.Put place v) wi wi′ wv wv′

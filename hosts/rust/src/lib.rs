@@ -34,8 +34,8 @@ const FORECAST_BYTES: usize = 2048;
 const END_PLACES: usize = 64;
 const DEFINED_PLACES: usize = 256;
 
-/// The number of the first question that was answered no, and the index of the instruction (0 for questions 1 to 7 and 18, and for direct
-/// calls and conversions).
+/// The number of the first question that was answered no (1 to 15, 17 or 18; README.md has them), and the index of the instruction (0 for
+/// questions 1 to 7 and 18, and for direct calls and conversions).
 #[derive(Clone, Copy, Debug, PartialEq, Eq, Hash)]
 pub struct Refusal {
     pub number: u32,
@@ -172,7 +172,8 @@ impl Pack {
     }
 
     /// Vets a sheet for slots of these kinds: questions 6 to 14 and 17, and what every run on slots of those kinds has on its stack after
-    /// each instruction.
+    /// each instruction. Passed, each such run ends in a value of the kind forecast last, or stops with 15; refused at an instruction, each
+    /// stops there with that number, or before it with 15.
     pub fn vet(&self, sheet: usize, kinds: &[Kind; 16]) -> Result<Vec<Forecast>, Refusal> {
         let codes = kinds.map(|kind| kind as u8);
         let mut forecast = [0; FORECAST_BYTES];

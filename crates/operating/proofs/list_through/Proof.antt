@@ -3,10 +3,6 @@ use native.Mathlib.Omega.{arith}
 use Prim.Native.Nat.{zero-le}
 use Rattle.ink_list.specs.Entries.{itemNumbers}
 use Rattle.ink_value.proofs.Reading.{few-in, formed-limit}
-use Rattle.ink_value.proofs.ReadBack.{first-wf}
-use Rattle.list_operators.specs.Lists.{definitions}
-use Rattle.list_operators.proofs.Listing.{entries-rise}
-use Rattle.operating.specs.Stacked.{taken}
 use Rattle.operating.proofs.Putting.{place-fits, made-formed, made-put}
 use borrow.Author.Needs.{needs}
 use Rattle.operating.proofs.list_through.Statement.{statement}
@@ -23,11 +19,7 @@ mul-to c = let s = c .before .before .before .before .before .before .before .be
 store-requires : tie.Need-store-requires
 store-requires c κs =
     let s = c .before .before .before .before .before .before .before .before .before .before .before .before .before .before .before .before in
-    let is = s .args .work-items .now in
-    let vs = s .args .work-values .now in
-    let u = definitions (s .args .ends .now) (s .args .defined .now) (s .args .format .limit) in
-    let up = entries-rise u (s .pre .0 .0 .within) (s .args .op) (taken is vs (s .args .a) (s .args .b) (s .args .c) (s .args .count)) (first-wf (s .args .format .limit) is vs (s .args .count) (s .args .a) (s .args .b) (s .args .c) (s .pre .1 .0)) in
-    let f = made-formed (s .args .format) _ _ _ _ _ _ _ (c .before .before .before .before .before .before .before .before .list .ensures) up (s .pre .1 .1 .0) (s .pre .1 .1 .1) in
+    let f = made-formed (s .args .format) _ _ (s .args .op) _ _ _ _ _ _ _ _ _ _ _ (c .before .before .before .before .before .before .before .before .list .ensures) (s .pre .0 .0) (s .pre .1 .0) (s .pre .1 .1 .0) (s .pre .1 .1 .1) in
     let g = place-fits (s .args .format) (s .args .place) _ (s .pre .0 .4) (few-in (s .args .format .limit) _ _ (c .before .before .before .before .before .before .before .before .list .result) f) in
     (formed-limit (s .args .format .limit) _ _ itemNumbers (c .before .before .before .before .before .before .before .before .list .result) (omega (arith, s .pre .0 .1 .format .few)) f, (omega (arith, g, s .pre .0 .1 .items-room), omega (arith, g, s .pre .0 .1 .values-room)))
 
@@ -46,12 +38,8 @@ same-length-4 c = search needs
 returns : tie.Need-returns
 returns c =
     let s = c .before .before .before .before .before .before .before .before .before .before .before .before .before .before .before .before .before .before .before .before in
-    let is = s .args .work-items .now in
-    let vs = s .args .work-values .now in
-    let u = definitions (s .args .ends .now) (s .args .defined .now) (s .args .format .limit) in
-    let up = entries-rise u (s .pre .0 .0 .within) (s .args .op) (taken is vs (s .args .a) (s .args .b) (s .args .c) (s .args .count)) (first-wf (s .args .format .limit) is vs (s .args .count) (s .args .a) (s .args .b) (s .args .c) (s .pre .1 .0)) in
-    let f = made-formed (s .args .format) _ _ _ _ _ _ _ (c .before .before .before .before .before .before .before .before .before .before .before .before .list .ensures) up (s .pre .1 .1 .0) (s .pre .1 .1 .1) in
-    made-put (s .args .format) _ _ _ _ _ _ _ (c .before .before .before .before .before .before .before .before .before .before .before .before .list .ensures) (c .before .before .before .store .ensures (s .args .format) f)
+    let f = made-formed (s .args .format) _ _ (s .args .op) _ _ _ _ _ _ _ _ _ _ _ (c .before .before .before .before .before .before .before .before .before .before .before .before .list .ensures) (s .pre .0 .0) (s .pre .1 .0) (s .pre .1 .1 .0) (s .pre .1 .1 .1) in
+    made-put (c .before .before .before .before .before .before .before .before .before .before .before .before .list .ensures) (c .before .before .before .store .ensures (s .args .format) f)
 
 pub list-through-spec : {M : Type 1} → statement M
 list-through-spec =
