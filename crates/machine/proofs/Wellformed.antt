@@ -1,9 +1,9 @@
--- A step on a stack of well-formed values leaves one. Assumes nothing.
+-- A step on a stack of well-formed values leaves one, and so a run ends in one. Assumes nothing.
 use mathlib.Core.Path.{_≡_, sym, subst}
 use mathlib.Core.Bool.{Bool, true, false}
 use mathlib.Core.List.{List, [], _∷_}
 use mathlib.Core.Option.{Option, none, some}
-use Prim.Native.Nat.{ℕ, zero, suc, _≤_, _<_}
+use Prim.Native.Nat.{ℕ, zero, suc, _+_, _≤_, _<_}
 use native.Mathlib.Decide.{ℕ-discrete}
 use native.Mathlib.Omega.{arith}
 use lib.Dec.{ltb}
@@ -19,7 +19,7 @@ use Rattle.native_function_call.proofs.Results.{apply-rises}
 use Rattle.pack.specs.Bodies.{Literal}
 use Rattle.pack.specs.Instruction.{Push, pushBool, pushInt, pushFloat, pushList, pushSlot, pushVoid, Instr, op, push}
 use Rattle.machine.specs.Stack.{stackOf}
-use Rattle.machine.specs.Machine.{stackLimit, popped, topped, worked, step, valuePushed}
+use Rattle.machine.specs.Machine.{End, ended, stopped, Run, stackLimit, popped, topped, worked, finish, onward, step, runFrom, valuePushed, run}
 
 module _ (limit : ℕ) where
   abbrev pub WfStep : Answer (List Val) → Type 0
@@ -55,6 +55,20 @@ module _ (limit : ℕ) where
   ask-wf n true a p = p
   ask-wf n false a p = tt
 
+  abbrev pub WfEnd : End Val → Type 0
+  WfEnd (ended v) = Wf limit v
+  WfEnd (stopped r k) = Unit {0}
+
+  finish-wf : (i : ℕ) (st : List Val) → AllWf limit st → WfEnd (finish i st)
+  finish-wf i [] h = tt
+  finish-wf i (x ∷ []) h = h .0
+  finish-wf i (x ∷ y ∷ st) h = tt
+
+  onward-wf : (i : ℕ) (a : Answer (List Val)) (k : List Val → Run Val) → WfStep a → ((st : List Val) → AllWf limit st → WfEnd (k st .end))
+      → WfEnd (onward i a k .end)
+  onward-wf i (gives st) k h f = f st h
+  onward-wf i (refuses r) k h f = tt
+
   pub slot-wf : (slots : List Val) → AllWf limit slots → (n : ℕ) → Wf limit (getD slots n void)
   slot-wf [] h n = tt
   slot-wf (v ∷ vs) h zero = h .0
@@ -88,3 +102,15 @@ module _ (u : ListDefinitions) (within : length (u .defined) ≤ u .limit)
   unfolding step
   step-wf (op o) st h = ask-wf (u .limit) 8 (known o) _ (worked-wf o (popped (arity o) [] st) (popped-wf (u .limit) (arity o) [] st tt h))
   step-wf (push p) st h = ask-wf (u .limit) 9 (ltb (length st) stackLimit) _ (pushed-wf p, h)
+
+  from-wf : (i : ℕ) (xs : List Instr) (st : List Val) → AllWf (u .limit) st
+      → WfEnd (u .limit) (runFrom (valuePushed literals slots) (applyOp u) i xs st .end)
+  unfolding runFrom
+  from-wf i [] st h = finish-wf (u .limit) i st h
+  from-wf i (x ∷ xs) st h =
+      onward-wf (u .limit) i (step (valuePushed literals slots) (applyOp u) x st) (runFrom (valuePushed literals slots) (applyOp u) (i + 1) xs)
+      (step-wf x st h) (from-wf (i + 1) xs)
+
+  -- a run ends in a value that is well formed
+  pub run-wf : (program : List Instr) → WfEnd (u .limit) (run u program literals slots .end)
+  run-wf program = from-wf 0 program [] tt

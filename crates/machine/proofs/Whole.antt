@@ -4,6 +4,7 @@ use mathlib.Core.Logic.{inr}
 use mathlib.Core.Bool.{Bool, true, false}
 use mathlib.Core.List.{List, map}
 use Prim.Native.Nat.{ℕ, _≤_, _<_}
+use native.Mathlib.Omega.{arith}
 use lib.Dec.{ltb}
 use lib.ListN.{length}
 use borrow.Author.Tests.{le-ltb, lt-ltb}
@@ -51,6 +52,23 @@ demand3-whole F p s memory memory' f slots h h' w =
 -- ---- how a call opens the pack
 
 module _ (F : Format) (p : List ℕ) (s : ℕ) (memory : Pack → Bool) where
+  -- the pack that it opened is the one that passed, and question 7 said yes of it
+  pub opened-judged : (d : Pack) → opened F p s memory ≡ gives d → (judge F p ≡ gives d) × (memory d ≡ true)
+  unfolding opened
+  opened-judged d e = go (judge F p) e
+    where
+      no : (r : ℕ) {A : Type 0} → _≡_ {A = Answer Pack} (refuses r) (gives d) → A
+      no r h = let z : _≡_ {A = ℕ} 0 1 = cc in absurd (omega arith)
+
+      seven : (x : Pack) (t m : Bool) → memory x ≡ m → ask 6 t (ask 7 m (gives x)) ≡ gives d → (gives x ≡ gives d) × (memory d ≡ true)
+      seven x true true q h = (h, (let w : x ≡ d = cc in subst (λ (y : Pack). memory y ≡ true) w q))
+      seven x true false q h = no 7 h
+      seven x false m q h = no 6 h
+
+      go : (a : Answer Pack) → andThen a (askedSix s memory) ≡ gives d → (a ≡ gives d) × (memory d ≡ true)
+      go (gives x) h = seven x (ltb s (length (x .sheets))) (memory x) refl h
+      go (refuses r) h = no r h
+
   pub opened-refused : (n : ℕ) → judge F p ≡ refuses n → opened F p s memory ≡ refuses n
   unfolding opened
   opened-refused n e = rw e

@@ -26,13 +26,13 @@ use Rattle.native_function_call.specs.Apply.{call, applyOp}
 use Rattle.operator_kinds.specs.Kinds.{known, arity}
 use Rattle.list_operators.specs.Lists.{definitions}
 use Rattle.native_function_call.proofs.Results.{result-few}
-use Rattle.pack.specs.Bodies.{Pack, decoded}
-use Rattle.pack.specs.Format.{Narrow, Runnable}
+use Rattle.pack.specs.Bodies.{Pack}
+use Rattle.pack.specs.Format.{Runnable}
 use Rattle.pack.specs.declared.format.Format.{Format}
-use Rattle.pack.specs.Judge.{judge, Sound}
+use Rattle.pack.specs.Judge.{judge}
 use Rattle.pack.specs.Read.{definedOf, endsOf, definitionsOf}
 use Rattle.pack.proofs.Judged.{judged}
-use Rattle.pack.proofs.Values.{pack-tables}
+use Rattle.pack.proofs.Values.{few-items}
 use Rattle.call_memory.specs.Lent.{operandsOk, resultsOk}
 use Rattle.calls.specs.Call.{called, castTo, coerced, onPack}
 use Rattle.value_words.specs.Calls.{SmallOutcome}
@@ -110,24 +110,20 @@ coerced-few L is vs f v u h = go (operandsOk u is vs (v ∷ []))
     go true = h (valOf is vs v)
     go false = omega arith
 
--- a pack that passed has few items
-pub few-items : (F : Format) (p : List ℕ) → Narrow F → Sound F p → length (definedOf (decoded F p)) ≤ F .limit
-few-items F p n s = let t = pack-tables F p n s in omega (arith, t .defined-long, t .defined-few)
-
-pub pack-few : (F : Format) → Narrow F → (p : List ℕ) (f : ListDefinitions → Answer Val)
+pub pack-few : (F : Format) (p : List ℕ) (f : ListDefinitions → Answer Val)
     → ((ends : List ℕ) (defined : List ℤ) → length defined ≤ F .limit → Few (F .limit) (f (definitions ends defined (F .limit)))) → Few (F .limit) (onPack F p f)
-pack-few F n p f h = go (judge F p) refl
+pack-few F p f h = go (judge F p) refl
   where
     go : (a : Answer Pack) → judge F p ≡ a → Few (F .limit) (andThen a (λ (d : Pack). f (definitionsOf d F)))
     go (gives d) e =
         let j = judged F p d e in
-        h (endsOf d) (definedOf d) (subst (λ (x : Pack). length (definedOf x) ≤ F .limit) (sym (j .1)) (few-items F p n (j .0)))
+        h (endsOf d) (definedOf d) (subst (λ (x : Pack). length (definedOf x) ≤ F .limit) (sym (j .1)) (few-items F p (j .0)))
     go (refuses r) e = omega arith
 
 -- a call on any bytes writes at most as many entries as the item limit, in every format
-pub call-few : (F : Format) → Narrow F → (p is : List ℕ) (vs : List ℤ) (oi : List ℕ) (ov : List ℤ) (o n : ℕ) (l : List Value)
+pub call-few : (F : Format) (p is : List ℕ) (vs : List ℤ) (oi : List ℕ) (ov : List ℤ) (o n : ℕ) (l : List Value)
     → Few (F .limit) (onPack F p (called is vs oi ov o n l))
-call-few F w p is vs oi ov o n l = pack-few F w p (called is vs oi ov o n l) (λ ends defined h. called-few (F .limit) ends defined h is vs oi ov o n l)
+call-few F p is vs oi ov o n l = pack-few F p (called is vs oi ov o n l) (λ ends defined h. called-few (F .limit) ends defined h is vs oi ov o n l)
 
 few-outcome : (L : ℕ) → L < itemNumbers → (a : Answer Val) → Few L a → SmallOutcome (placed a)
 few-outcome L b (gives (bool t)) h = tt
@@ -143,4 +139,4 @@ small-outcome L b a o e h = subst SmallOutcome (sym e) (few-outcome L b a h)
 -- a call or a conversion on a pack
 pub pack-small : {F : Format} → Runnable F → (p : List ℕ) (f : ListDefinitions → Answer Val) (o : Outcome) → o ≡ placed (onPack F p f)
     → ((ends : List ℕ) (defined : List ℤ) → length defined ≤ F .limit → Few (F .limit) (f (definitions ends defined (F .limit)))) → SmallOutcome o
-pack-small {F} w p f o e h = small-outcome (F .limit) (omega (arith, w .few)) (onPack F p f) o e (pack-few F (w .narrow) p f h)
+pack-small {F} w p f o e h = small-outcome (F .limit) (omega (arith, w .few)) (onPack F p f) o e (pack-few F p f h)
