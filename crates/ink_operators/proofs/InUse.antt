@@ -31,6 +31,7 @@ use Rattle.machine.proofs.Numbers.{Numbered, NumberedEnd, asks, chosen, then-nu
 use Rattle.call_memory.specs.Lent.{operandsOk, resultsOk}
 use Rattle.calls.specs.Call.{called, castTo, coerced, onPack}
 use Rattle.value_words.specs.Calls.{numberOf, Says, Calls}
+use Rattle.definition_tables.specs.Tables.{Reads, tablesLong}
 use Rattle.running.specs.Run.{ranTo}
 use Rattle.vetting.specs.Vet.{vetMemory, Vets}
 use Rattle.vet_program.specs.declared.Vetted.{Vetted}
@@ -89,13 +90,20 @@ pack-numbered F p f h = then-numbered (judge F p) (λ d. f (definitionsOf d F)) 
 
 -- ---- the exported functions, by their contracts
 
+number-in-use : (a : Answer Pack) → Numbered a → InUse (numberOf a)
+number-in-use (gives d) h = inl refl
+number-in-use (refuses r) h = inr h
+
 -- `ink_check`
 pub check-in-use : (F : Format) (p : List ℕ) (n : ℕ) → n ≡ numberOf (judge F p) → InUse n
-check-in-use F p n e = rw e (go (judge F p) (judge-numbered F p))
-  where
-    go : (a : Answer Pack) → Numbered a → InUse (numberOf a)
-    go (gives d) h = inl refl
-    go (refuses r) h = inr h
+check-in-use F p n e = rw e (number-in-use (judge F p) (judge-numbered F p))
+
+-- `ink_definitions`
+pub definitions-in-use : (F : Format) (d : Pack) (n : ℕ) (ends ends′ : List ℕ) (defined defined′ : List ℤ) (counts counts′ : List ℕ)
+    → Reads (ask 7 (tablesLong F ends defined) (gives d)) n ends ends′ defined defined′ counts counts′ → InUse n
+definitions-in-use F d n ends ends′ defined defined′ counts counts′ w =
+    let long = tablesLong F ends defined in
+    rw (w .number) (number-in-use (ask 7 long (gives d)) (asks 7 long (gives d) refl tt))
 
 module _ (F : Format) (p : List ℕ) (n : ℕ) (ws is : List ℕ) (vs : List ℤ) where
   -- the three `ink_coerce_to_`
