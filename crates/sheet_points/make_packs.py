@@ -122,13 +122,41 @@ LISTS = [
     (sheet(ONE, boolean(1), AND), 'B 1'),
     (sheet(ONE, ALL, INVERT, OTHER, ADD, COUNT, integer(0), DIVIDE), 'R 15 7'),
 ]
+# literals of its own: BOTH has items of both definitions, WIDE a wider set than its item, NARROW a narrower one
+BOTH, WIDE, NARROW = literal(0), literal(1), literal(2)
+EMPTIED_LITERALS = [(3, [(0, 1), (3, 10)]), (3, [(4, 20)]), (1, [(0, 1), (4, 20)]), (2, [(3, 10)])]
+RIGHT = literal(3)
+WHOLE = 'L 5 0=1 1=2 2=3 3=10 4=20'
+EMPTIED = [
+    (sheet(BOTH, BOTH, SUBTRACT), 'L 0'),
+    (sheet(BOTH, BOTH, SUBTRACT, INVERT), WHOLE),  # the left operand's origins, both
+    (sheet(BOTH, BOTH, SUBTRACT, ALL), WHOLE),
+    (sheet(NARROW, BOTH, WIDE, ADD, SUBTRACT, INVERT), 'L 3 0=1 1=2 2=3'),  # not the right operand's
+    (sheet(RIGHT, BOTH, SUBTRACT, INVERT), 'L 2 3=10 4=20'),
+    (sheet(BOTH, RIGHT, SUBTRACT, INVERT), 'L 2 1=2 2=3'),  # something left: the origins of the items
+    (sheet(BOTH, RIGHT, SUBTRACT, ALL), 'L 3 0=1 1=2 2=3'),
+    (sheet(BOTH, BOTH, SUBTRACT, BOTH, SUBTRACT, ALL), WHOLE),  # emptied again
+    (sheet(BOTH, BOTH, SUBTRACT, BOTH, BOTH, SUBTRACT, SUBTRACT, ALL), WHOLE),
+    (sheet(WIDE, WIDE, SUBTRACT, INVERT), WHOLE),  # a wider set than its items
+    (sheet(WIDE, RIGHT, SUBTRACT, ALL), 'L 2 3=10 4=20'),
+    (sheet(NARROW, NARROW, SUBTRACT, INVERT), 'L 3 0=1 1=2 2=3'),
+    (sheet(BOTH, BOTH, SUBTRACT, integer(1), ADD), 'L 0'),
+    (sheet(BOTH, BOTH, SUBTRACT, integer(1), ADD, INVERT), 'L 0'),  # an Int keeps nothing
+    (sheet(BOTH, integer(7), SUBTRACT, INVERT), 'L 0'),
+    (sheet(BOTH, BOTH, SUBTRACT, BOTH, ADD, INVERT), 'L 3 1=2 2=3 4=20'),
+    (sheet(BOTH, BOTH, SUBTRACT, BOTH, BOTH, SUBTRACT, ADD, INVERT), 'L 0'),  # nor an empty union
+    (sheet(WIDE, RIGHT, INTERSECT, INVERT), 'L 0'),  # nor Intersect
+    (sheet(BOTH, BOTH, SUBTRACT, LIST_MAX, INVERT), 'L 0'),
+    (sheet(BOTH, BOTH, SUBTRACT, integer(0), integer(9), RANGE, INVERT), 'L 0'),
+    (sheet(BOTH, BOTH, SUBTRACT, COUNT), 'I 0'),
+]
 DOCUMENT = bytes.fromhex(
     '01010102 14000d00 21000d00 2e000800 36000b00 03 01000000 02000000 03000000 0100000000000000 01 02000000'
     ' 2300 21 01000000 00 21 07000000 21 00000000 02')
 
 
-def sheets(answers):
-    return pack(DEFINITIONS, LITERALS, [s for s, _ in answers]), [a for _, a in answers]
+def sheets(answers, literals=LITERALS):
+    return pack(DEFINITIONS, literals, [s for s, _ in answers]), [a for _, a in answers]
 
 
 def samples():
@@ -146,6 +174,7 @@ def samples():
     yield ('ends', *sheets(ENDS))
     yield ('numbers', *sheets(NUMBERS))
     yield ('lists', *sheets(LISTS))
+    yield ('emptied lists', *sheets(EMPTIED, EMPTIED_LITERALS))
 
 
 with open(os.path.join(HERE, 'stdin'), 'wb') as packs, open(os.path.join(HERE, 'stdout'), 'w') as lines:

@@ -17,7 +17,9 @@
  *
  * A List's entries are `length` places from `start` on of two slices that are passed beside the value: item numbers, and the items'
  * values. Its origin set has bit i for definition i. The List of an answer starts at place 0 of the two result slices and has at most 256
- * entries. Any other three words are no value: question 7 says no to them, where the call gets to it.
+ * entries. An operator's List has the origins of its items; where Subtract of two Lists leaves nothing, it keeps the left one's set, so
+ * that All and Invert of it give that set's items. Any other three words are no value: question 7 says no to them, where the call gets
+ * to it.
  *
  * ANSWERS. A function returns 0 and writes a value to `answer`; or it returns the number of the question that said no (1 to 15, 17 or 18),
  * and writes {index, 0, 0}, the index being the instruction's (0 for questions 1 to 7 and 18 and for all direct calls).

@@ -95,6 +95,15 @@ fn origins_of_results() {
     // union and without keep the left operand's, whatever the items
     assert_eq!(names(&run(0, &[&a, &b])), (s(&["o00"]), s(&["o00", "o01"])));
     assert_eq!(names(&run(1, &[&a, &a])), (s(&["o00"]), s(&["o00"])));
+    assert_eq!(names(&run(1, &[&list(1, &[]), &b])), (s(&["o00"]), s(&["o00"])));
+    let wide = list(3, &[(0, 1)]);
+    assert_eq!(names(&run(1, &[&wide, &a])), (s(&["o00", "o01"]), s(&["o00", "o01"])));
+    assert_eq!(names(&run(1, &[&wide, &b])), (s(&["o00", "o01"]), s(&["o00"])));
+    // so Invert of what is left of a wider set has the items of all of it
+    let left = NativeFunctionCall::new(OPS[30]).call(vec![run(1, &[&wide, &b])]).ok().unwrap();
+    assert_eq!(w.read(&left).to_string(), "L 3 1=2 2=1 3=2");
+    let emptied = NativeFunctionCall::new(OPS[30]).call(vec![run(1, &[&wide, &a])]).ok().unwrap();
+    assert_eq!(w.read(&emptied).to_string(), "L 4 0=1 1=2 2=1 3=2");
     // the others have none, nor a remembered one when empty
     assert_eq!(names(&run(24, &[&a, &b])), (s(&[]), s(&[])));
     assert_eq!(names(&run(27, &[&a])), (s(&[]), s(&["o00", "o00"])));

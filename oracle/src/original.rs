@@ -10,7 +10,7 @@ use crate::{
     story::error::StoryError,
     value::Value,
     value_type::ValueType,
-    values::{Answer, Defs, List, RANGE, Val, arity},
+    values::{Answer, Defs, List, RANGE, SUBTRACT, Val, arity},
     void::Void,
 };
 use std::{
@@ -260,8 +260,17 @@ impl World {
             r.entries.sort();
             assert!(r.entries.windows(2).all(|w| w[0].0 < w[1].0), "one item of a tie");
         }
-        r.origins = self.defs.origins_of(&r.entries);
+        r.origins = self.result_origins(op, operands, &r.entries);
         r
+    }
+
+    /// Document 01's origin set of a result, which is not the original's: the origins of its items. What Subtract of two
+    /// lists leaves empty keeps the left operand's.
+    fn result_origins(&self, op: u8, operands: &[Val], entries: &[(u16, i32)]) -> u64 {
+        match operands {
+            [Val::List(left), Val::List(_)] if op == SUBTRACT && entries.is_empty() => left.origins,
+            _ => self.defs.origins_of(entries),
+        }
     }
 
     pub fn cast(&self, code: u8, v: &Val) -> Answer {

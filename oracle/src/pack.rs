@@ -3,7 +3,7 @@
 use crate::{
     generate::{self, Rng},
     original::{World, kind},
-    values::{Answer, CARRIED, Defs, LIST, List, RANGE, VOID, Val, arity},
+    values::{Answer, CARRIED, Defs, LIST, List, RANGE, SUBTRACT, VOID, Val, arity},
 };
 use std::fmt::Write;
 
@@ -315,10 +315,21 @@ fn leaf(r: &mut Rng, b: &mut Builder, slots: &SlotKinds, edges: &[u32], kind: u8
     b.push(code, &v).unwrap();
 }
 
+/// A list less itself: empty, with the list's origins.
+fn emptied(r: &mut Rng, b: &mut Builder, slots: &SlotKinds, edges: &[u32], code: &mut Vec<u8>) {
+    let from = code.len();
+    leaf(r, b, slots, edges, LIST, code);
+    code.extend_from_within(from..);
+    code.push(SUBTRACT);
+}
+
 /// An expression of the wanted kind, in the order of a sheet.
 fn expression(r: &mut Rng, b: &mut Builder, slots: &SlotKinds, edges: &[u32], kind: u8, depth: usize, code: &mut Vec<u8>) {
     if depth == 0 || kind == VOID || r.chance(12) {
         return leaf(r, b, slots, edges, kind, code);
+    }
+    if kind == LIST && r.chance(8) {
+        return emptied(r, b, slots, edges, code);
     }
     let number = |r: &mut Rng| *r.pick(&[0u8, 1, 1, 1, 2, 2]);
     let any = |r: &mut Rng| *r.pick(&[0u8, 1, 2, 3]);

@@ -1,3 +1,4 @@
 -- The laws of direct calls.
 pub mod Forms
 pub mod Standing
+pub mod Formed

@@ -8,7 +8,7 @@ use native.Mathlib.Decide.{decLt}
 use native.Mathlib.Nat.{div-eq-of-lt, le-div-iff-mul-le, one-mul}
 use native.Mathlib.Numerals.{add-one}
 use native.Mathlib.Omega.{arith}
-use borrow.Author.Tests.{lt-ltb, le-ltb, le-leb, lt-leb, eq-eqb, ne-eqb, ltb-false, leb-false, eqb-true}
+use borrow.Author.Tests.{lt-ltb, le-ltb, le-leb, lt-leb, eq-eqb, ne-eqb, ltb-true, ltb-false, leb-false, eqb-true}
 use lib.Dec.{eqb, ltb, leb}
 use lib.IntN.{ℤ}
 use lib.ListN.{length, getD, drop, drop-of-length-le}
@@ -65,6 +65,21 @@ shifted-out a d = none-left a (2 ^ d) (pow-pos d)
 pub all-below : (a d : ℕ) → a < 2 ^ d → bitsBelow d a ≡ true
 unfolding bitsBelow
 all-below a d h = lt-ltb a (2 ^ d) h
+
+-- ---- formed as a literal
+
+module _ (total d set : ℕ) (is : List ℕ) where
+  pub formed-both : set < 2 ^ d → Ascends 0 total is → formed total d set is ≡ true
+  unfolding formed
+  formed-both h r = and-both (bitsBelow d set) (ascends 0 total is) (all-below set d h) (ascends-complete 0 total is r)
+
+  pub formed-bits : formed total d set is ≡ true → set < 2 ^ d
+  unfolding formed bitsBelow
+  formed-bits e = ltb-true set (2 ^ d) (and-left (bitsBelow d set) (ascends 0 total is) e)
+
+  pub formed-rises : formed total d set is ≡ true → Ascends 0 total is
+  unfolding formed
+  formed-rises e = ascends-sound 0 total is (and-right (bitsBelow d set) (ascends 0 total is) e)
 
 -- ---- the whole test
 

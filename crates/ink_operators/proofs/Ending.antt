@@ -6,60 +6,76 @@ use native.Mathlib.Omega.{arith}
 use lib.IntN.{ℤ}
 use lib.ListN.{length}
 use Rattle.ink_number.specs.Answer.{Answer, gives, refuses}
-use Rattle.ink_list.specs.Entries.{Rising}
 use Rattle.slices.proofs.Every.{and-left, and-right}
 use Rattle.ink_list.proofs.Laws.{rising-length}
 use Rattle.ink_value.specs.Val.{Val, bool, int, float, list, void}
 use Rattle.ink_value.specs.Convert.{entriesOf}
 use Rattle.ink_value.specs.Value.{valOf}
 use Rattle.ink_value.specs.declared.Value.{Value}
-use Rattle.ink_value.proofs.ReadBack.{entries-wf, each-wf}
+use Rattle.ink_value.proofs.ReadBack.{each-in-pack, pack-rises}
 use Rattle.pack.specs.Bodies.{Pack}
 use Rattle.pack.specs.Format.{Runnable}
 use Rattle.pack.specs.declared.format.Format.{Format}
 use Rattle.pack.specs.Read.{definedOf, endsOf, definitionsOf, literalOf, sheetOf}
+use Rattle.pack.specs.Judge.{judge}
 use Rattle.pack.proofs.Judged.{judged}
-use Rattle.pack.proofs.Listed.{literals-rise}
+use Rattle.pack.proofs.Listed.{literals-formed}
 use Rattle.pack.proofs.Values.{few-items}
 use Rattle.machine.specs.Machine.{End, ended, stopped}
 use Rattle.machine.specs.Whole.{opened}
-use Rattle.machine.proofs.Wellformed.{WfEnd, run-wf}
+use Rattle.machine.proofs.Wellformed.{EndFormed, run-formed}
 use Rattle.machine.proofs.Whole.{opened-judged}
 use Rattle.running.specs.Run.{runMemory, endEntries, endAfter, ranTo, Runs}
 use Rattle.running.specs.declared.Ran.{Ran}
 use Rattle.answer_words.specs.Answers.{SmallRan, ranNumber, ranWords, RunSays}
 
--- a run ends in a value that is well formed
-pub end-wf : (F : Format) (p : List ℕ) (s : ℕ) (l : List Value) (si : List ℕ) (sv : List ℤ) (wi : List ℕ) (wv : List ℤ) (ri : List ℕ) (rv : List ℤ)
-    → WfEnd (F .limit) (endAfter F s (map (valOf si sv) l) (opened F p s (runMemory F l si sv wi wv ri rv)))
-unfolding runMemory
-end-wf F p s l si sv wi wv ri rv = go (opened F p s (runMemory F l si sv wi wv ri rv)) refl
-  where
-    go : (a : Answer Pack) → opened F p s (runMemory F l si sv wi wv ri rv) ≡ a → WfEnd (F .limit) (endAfter F s (map (valOf si sv) l) a)
-    go (gives d) e =
-        let o = opened-judged F p s (runMemory F l si sv wi wv ri rv) d e in
-        let j = judged F p d (o .0) in
-        let few : length (definedOf d) ≤ F .limit = rw (j .1) (few-items F p (j .0)) in
-        let rise : (k : ℕ) → Rising (F .limit) (literalOf d k .entries) = rw (j .1) (literals-rise F p (j .0)) in
-        run-wf (definitionsOf d F) few (literalOf d) (map (valOf si sv) l) rise
-        (each-wf (F .limit) si sv (length (definedOf d)) (length (endsOf d)) few l (and-right _ _ (and-left _ _ (o .1)))) (sheetOf d s)
-    go (refuses r) e = tt
+module _ (F : Format) (p : List ℕ) (s : ℕ) (l : List Value) (si : List ℕ) (sv : List ℤ) (wi : List ℕ) (wv : List ℤ) (ri : List ℕ) (rv : List ℤ) where
+  -- how a run ends
+  abbrev runEnd : End Val
+  runEnd = endAfter F s (map (valOf si sv) l) (opened F p s (runMemory F l si sv wi wv ri rv))
 
-end-few : (F : Format) (e : End Val) → WfEnd (F .limit) e → length (endEntries e) ≤ F .limit
-end-few F (ended v) h = rising-length (F .limit) (entriesOf v) (entries-wf (F .limit) v h)
-end-few F (stopped r k) h = omega arith
+  formed-end : (d : Pack) → opened F p s (runMemory F l si sv wi wv ri rv) ≡ gives d
+      → EndFormed (length (definedOf d)) (length (endsOf d)) (endAfter F s (map (valOf si sv) l) (gives d))
+  unfolding runMemory
+  formed-end d e =
+      let o = opened-judged F p s (runMemory F l si sv wi wv ri rv) d e in
+      let j = judged F p d (o .0) in
+      run-formed (definitionsOf d F) (literalOf d) (map (valOf si sv) l)
+      (rw (j .1) (literals-formed F p (j .0)))
+      (each-in-pack (length (definedOf d)) (length (endsOf d)) si sv l (and-right _ _ (and-left _ _ (o .1)))) (sheetOf d s)
 
--- so that it writes at most as many entries as the item limit, in every format
-pub run-few : (F : Format) (p : List ℕ) (s : ℕ) (l : List Value) (si : List ℕ) (sv : List ℤ) (wi : List ℕ) (wv : List ℤ) (ri : List ℕ) (rv : List ℤ)
-    → length (endEntries (endAfter F s (map (valOf si sv) l) (opened F p s (runMemory F l si sv wi wv ri rv)))) ≤ F .limit
-run-few F p s l si sv wi wv ri rv =
-    end-few F (endAfter F s (map (valOf si sv) l) (opened F p s (runMemory F l si sv wi wv ri rv))) (end-wf F p s l si sv wi wv ri rv)
+  -- a run of a sheet of a pack that passed ends in a value that is formed as a literal of it: its items in the pack, its origin bits below D
+  pub end-formed : (d : Pack) → judge F p ≡ gives d → EndFormed (length (definedOf d)) (length (endsOf d)) runEnd
+  end-formed d e = go (opened F p s (runMemory F l si sv wi wv ri rv)) refl
+    where
+      go : (a : Answer Pack) → opened F p s (runMemory F l si sv wi wv ri rv) ≡ a
+          → EndFormed (length (definedOf d)) (length (endsOf d)) (endAfter F s (map (valOf si sv) l) a)
+      go (gives x) q =
+          let o = opened-judged F p s (runMemory F l si sv wi wv ri rv) x q in
+          let same : x ≡ d = cc in
+          subst (λ (y : Pack). EndFormed (length (definedOf y)) (length (endsOf y)) (endAfter F s (map (valOf si sv) l) (gives x))) same (formed-end x q)
+      go (refuses r) q = tt
 
-few-end : {F : Format} → Runnable F → (e : End Val) → WfEnd (F .limit) e → SmallRan (ranTo e)
+  end-few : (total d : ℕ) (e : End Val) → EndFormed total d e → length (endEntries e) ≤ total
+  end-few total d (ended v) h = rising-length total (entriesOf v) (pack-rises total d v h)
+  end-few total d (stopped r k) h = omega arith
+
+  -- so that it writes at most as many entries as the item limit, in every format
+  pub run-few : length (endEntries runEnd) ≤ F .limit
+  run-few = go (opened F p s (runMemory F l si sv wi wv ri rv)) refl
+    where
+      go : (a : Answer Pack) → opened F p s (runMemory F l si sv wi wv ri rv) ≡ a → length (endEntries (endAfter F s (map (valOf si sv) l) a)) ≤ F .limit
+      go (gives d) e =
+          let j = judged F p d (opened-judged F p s (runMemory F l si sv wi wv ri rv) d e .0) in
+          let few : length (definedOf d) ≤ F .limit = rw (j .1) (few-items F p (j .0)) in
+          omega (arith, end-few (length (definedOf d)) (length (endsOf d)) (endAfter F s (map (valOf si sv) l) (gives d)) (formed-end d e))
+      go (refuses r) e = omega arith
+
+few-end : {F : Format} → Runnable F → (e : End Val) → length (endEntries e) ≤ F .limit → SmallRan (ranTo e)
 few-end f (ended (bool b)) h = tt
 few-end f (ended (int z)) h = tt
 few-end f (ended (float x)) h = tt
-few-end {F} f (ended (list o es)) h = (omega arith, omega (arith, rising-length (F .limit) es h, f .few))
+few-end {F} f (ended (list o es)) h = (omega arith, omega (arith, f .few))
 few-end f (ended void) h = tt
 few-end f (stopped r k) h = tt
 
@@ -69,7 +85,7 @@ pub runs-small : {F : Format} → Runnable F → (p : List ℕ) (s : ℕ) (l : L
     → Runs F (opened F p s (runMemory F l si sv wi wv ri rv)) s (map (valOf si sv) l) r wi wi′ wv wv′ ri ri′ rv rv′ → SmallRan r
 runs-small {F} f p s l si sv r wi wi′ wv wv′ ri ri′ rv rv′ w =
     let e = endAfter F s (map (valOf si sv) l) (opened F p s (runMemory F l si sv wi wv ri rv)) in
-    subst SmallRan (sym (w .ran .answered)) (few-end f e (end-wf F p s l si sv wi wv ri rv))
+    subst SmallRan (sym (w .ran .answered)) (few-end f e (run-few F p s l si sv wi wv ri rv))
 
 -- a run whose slots are those of the words
 pub run-says : {F : Format} (p : List ℕ) (s : ℕ) (l m : List Value) (si : List ℕ) (sv : List ℤ) (r : Ran) (n : ℕ) (ws wi wi′ : List ℕ) (wv wv′ : List ℤ)

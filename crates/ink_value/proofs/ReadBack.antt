@@ -1,26 +1,31 @@
--- A result read back from the result slices, and that it is formed as an operand is. Assumes nothing.
+-- A result read back from the result slices, and that it is formed as an operand is; what it is that a value is formed as a literal.
+-- Assumes nothing.
 use mathlib.Core.Path.{_≡_, refl, ap, _∙_}
 use mathlib.Core.Bool.{true}
 use mathlib.Core.List.{List, [], _∷_, map}
 use Prim.Native.Nat.{ℕ, zero, suc, _≤_}
+use native.Mathlib.Nat.{le-refl}
 use native.Mathlib.Omega.{arith}
 use lib.IntN.{ℤ}
 use lib.ListN.{length, take}
+use lib.Pow.{pow-pos}
 use Rattle.ink_list.specs.Entries.{Entry, entries, items, values, Rising, Wrote}
 use Rattle.slices.proofs.Every.{and-left, and-right}
+use Rattle.slices.specs.Filled.{part}
 use Rattle.slices.proofs.Filled.{length-over}
 use Rattle.ink_value.specs.Val.{Val, bool, int, float, list, void}
 use Rattle.ink_number.specs.Answer.{Answer, gives, refuses}
-use Rattle.ink_value.specs.Convert.{entriesOf}
-use Rattle.ink_value.specs.Value.{valOf, placedVal, placed, written, Gave, Formed, outcomeOf, Wf, AllWf, FirstFormed, eachFormed}
+use Rattle.ink_value.specs.Convert.{entriesOf, originsIn}
+use Rattle.ink_value.specs.Value.{valOf, startOf, lenOf, placedVal, placed, written, Gave, Formed, outcomeOf, Wf, AllWf, FirstFormed, formedIn, eachFormed, InPack, AllInPack, GivesInPack}
 use Rattle.ink_value.specs.declared.Outcome.{Outcome}
 use Rattle.ink_value.specs.declared.Value.{Value}
-use Rattle.ink_value.specs.declared.Value.the-variants as Is
-use Rattle.ink_value.proofs.Reading.{rising-in}
+use Rattle.ink_value.proofs.Reading.{rising-in, entries-in, set-in}
 use Rattle.ink_value.proofs.Forming.{formed-yes}
 use Rattle.ink_list.proofs.Output.{length-items, length-values}
 use Rattle.ink_list.proofs.Wrote.{read-entries, read-lent}
 use Rattle.ink_list.proofs.Laws.{rising-length}
+use Rattle.ink_list.proofs.Formed.{formed-both, formed-rises}
+use Rattle.ink_list.proofs.Rests.{items-entries}
 
 module _ (A : Answer Val) (r : Outcome) (oi oi′ : List ℕ) (ov ov′ : List ℤ) (g : Gave A r oi oi′ ov ov′) where
   wrote : Wrote (written A) (length (written A)) oi oi′ ov ov′
@@ -53,35 +58,45 @@ formed-back limit o es r oi oi′ ov ov′ g f h k =
       lent = read-lent es (length es) oi oi′ ov ov′ (wrote (gives (list o es)) r oi oi′ ov ov′ g) limit f;
     }
 
-pub entries-wf : (limit : ℕ) (v : Val) → Wf limit v → Rising limit (entriesOf v)
-entries-wf limit (bool b) h = tt
-entries-wf limit (int z) h = tt
-entries-wf limit (float x) h = tt
-entries-wf limit (list o es) h = h
-entries-wf limit void h = tt
-
--- a value that is formed in the slices is well formed
-pub wf-of : (limit : ℕ) (is : List ℕ) (vs : List ℤ) (v : Value) → Formed limit is vs v → Wf limit (valOf is vs v)
-wf-of limit is vs (Is.Bool b) f = tt
-wf-of limit is vs (Is.Int z) f = tt
-wf-of limit is vs (Is.Float x) f = tt
-wf-of limit is vs (Is.List o s n) f = rising-in limit is vs (Is.List o s n) f
-wf-of limit is vs Is.Void f = tt
-
--- and so are values to which question 7 says yes, in a pack of at most as many items as the limit
-pub each-wf : (limit : ℕ) (is : List ℕ) (vs : List ℤ) (total d : ℕ) → total ≤ limit → (l : List Value) → eachFormed total d is vs l ≡ true
-    → AllWf limit (map (valOf is vs) l)
-each-wf limit is vs total d h [] e = tt
-each-wf limit is vs total d h (v ∷ l) e =
-    (wf-of limit is vs v (formed-yes total d is vs v limit h (and-left _ _ e)), each-wf limit is vs total d h l (and-right _ _ e))
-
--- the first n of three
+-- the first n of three values that are formed in the slices are well formed
 pub first-wf : (limit : ℕ) (is : List ℕ) (vs : List ℤ) (n : ℕ) (a b c : Value) → FirstFormed limit is vs n a b c
     → AllWf limit (take n (valOf is vs a ∷ valOf is vs b ∷ valOf is vs c ∷ []))
 first-wf limit is vs zero a b c f = tt
-first-wf limit is vs (suc zero) a b c f = (wf-of limit is vs a (f .one (omega arith)), tt)
-first-wf limit is vs (suc (suc zero)) a b c f = (wf-of limit is vs a (f .one (omega arith)), (wf-of limit is vs b (f .two (omega arith)), tt))
+first-wf limit is vs (suc zero) a b c f = (rising-in limit is vs a (f .one (omega arith)), tt)
+first-wf limit is vs (suc (suc zero)) a b c f = (rising-in limit is vs a (f .one (omega arith)), (rising-in limit is vs b (f .two (omega arith)), tt))
 first-wf limit is vs (suc (suc (suc zero))) a b c f =
-    (wf-of limit is vs a (f .one (omega arith)), (wf-of limit is vs b (f .two (omega arith)), (wf-of limit is vs c (f .three (omega arith)), tt)))
+    (rising-in limit is vs a (f .one (omega arith)), (rising-in limit is vs b (f .two (omega arith)), (rising-in limit is vs c (f .three (omega arith)), tt)))
 first-wf limit is vs (suc (suc (suc (suc n)))) a b c f =
-    (wf-of limit is vs a (f .one (omega arith)), (wf-of limit is vs b (f .two (omega arith)), (wf-of limit is vs c (f .three (omega arith)), tt)))
+    (rising-in limit is vs a (f .one (omega arith)), (rising-in limit is vs b (f .two (omega arith)), (rising-in limit is vs c (f .three (omega arith)), tt)))
+
+-- ---- formed as a literal
+
+module _ (total d : ℕ) where
+  -- a value to which question 7 says yes
+  pub in-pack : (is : List ℕ) (vs : List ℤ) (v : Value) → formedIn total d is vs v ≡ true → InPack total d (valOf is vs v)
+  in-pack is vs v e =
+      let f = formed-yes total d is vs v total (le-refl total) e in
+      let same : items (entriesOf (valOf is vs v)) ≡ part (startOf v) (lenOf v) is =
+      ap items (entries-in is vs v) ∙ items-entries (part (startOf v) (lenOf v) is) (part (startOf v) (lenOf v) vs) (f .lent .long) in
+      rw (set-in is vs v, same) (and-right _ _ e)
+
+  pub each-in-pack : (is : List ℕ) (vs : List ℤ) (l : List Value) → eachFormed total d is vs l ≡ true → AllInPack total d (map (valOf is vs) l)
+  each-in-pack is vs [] e = tt
+  each-in-pack is vs (v ∷ l) e = (in-pack is vs v (and-left _ _ e), each-in-pack is vs l (and-right _ _ e))
+
+  -- a value without entries and origins
+  pub plain-in-pack : (v : Val) → originsIn v ≡ 0 → entriesOf v ≡ [] → InPack total d v
+  plain-in-pack v e f = rw (e, f) (formed-both total d 0 [] (pow-pos d) tt)
+
+  -- its items rise in the pack
+  pub pack-rises : (v : Val) → InPack total d v → Rising total (entriesOf v)
+  pack-rises v h = formed-rises total d (originsIn v) (items (entriesOf v)) h
+
+  pub all-rise : (vs : List Val) → AllInPack total d vs → AllWf total vs
+  all-rise [] h = tt
+  all-rise (v ∷ vs) h = (pack-rises v (h .0), all-rise vs (h .1))
+
+  -- so a List that is answered has at most as many entries as the pack has items
+  pub gives-few : (a : Answer Val) → GivesInPack total d a → length (written a) ≤ total
+  gives-few (gives v) h = rising-length total (entriesOf v) (pack-rises v h)
+  gives-few (refuses r) h = omega arith

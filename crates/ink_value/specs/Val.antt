@@ -1,5 +1,5 @@
 -- Values and their kinds. Assumes nothing.
-use mathlib.Core.Bool.{Bool, cond}
+use mathlib.Core.Bool.{Bool, true, false, cond}
 use mathlib.Core.List.{List}
 use Prim.Native.Nat.{ℕ}
 use lib.Dec.{eqb}
@@ -24,6 +24,13 @@ kindOf (int z) = intK
 kindOf (float x) = floatK
 kindOf (list o es) = listK
 kindOf void = voidK
+
+abbrev pub isList : Kind → Bool
+isList boolK = false
+isList intK = false
+isList floatK = false
+isList listK = true
+isList voidK = false
 
 -- "Kind codes: 0 Bool, 1 Int, 2 Float, 3 List, 4 Void."
 abbrev pub codeOf : Kind → ℕ

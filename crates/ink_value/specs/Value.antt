@@ -13,7 +13,7 @@ use Rattle.slices.specs.Every.{_and_}
 use Rattle.slices.specs.Filled.{part, over}
 use Rattle.ink_list.specs.Entries.{Entry, entries, items, values, Lent, Rising, formed}
 use Rattle.ink_value.specs.Val.{Val, bool, int, float, list, void, boolK, intK, floatK, listK, voidK, codeOf}
-use Rattle.ink_value.specs.Convert.{bitZ, entriesOf}
+use Rattle.ink_value.specs.Convert.{bitZ, entriesOf, originsIn}
 use Rattle.ink_value.specs.declared.Value.{Value}
 use Rattle.ink_value.specs.declared.Value.the-variants as Is
 use Rattle.ink_value.specs.declared.Outcome.{Outcome}
@@ -158,12 +158,20 @@ pub record Gave (answer : Answer Val) (r : Outcome) (oi oi′ : List ℕ) (ov ov
 
 -- a List's items rise and are below the limit
 abbrev pub Wf : ℕ → Val → Type 0
-Wf limit (bool b) = Unit {0}
-Wf limit (int z) = Unit {0}
-Wf limit (float x) = Unit {0}
-Wf limit (list o es) = Rising limit es
-Wf limit void = Unit {0}
+Wf limit v = Rising limit (entriesOf v)
 
 abbrev pub AllWf : ℕ → List Val → Type 0
 AllWf limit [] = Unit {0}
 AllWf limit (v ∷ vs) = Wf limit v × AllWf limit vs
+
+-- formed as a literal of a pack of `total` items and d definitions: its items in the pack, its origin bits below d
+abbrev pub InPack : ℕ → ℕ → Val → Type 0
+InPack total d v = formed total d (originsIn v) (items (entriesOf v)) ≡ true
+
+abbrev pub AllInPack : ℕ → ℕ → List Val → Type 0
+AllInPack total d [] = Unit {0}
+AllInPack total d (v ∷ vs) = InPack total d v × AllInPack total d vs
+
+abbrev pub GivesInPack : ℕ → ℕ → Answer Val → Type 0
+GivesInPack total d (gives v) = InPack total d v
+GivesInPack total d (refuses r) = Unit {0}

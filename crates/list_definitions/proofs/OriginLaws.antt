@@ -153,5 +153,25 @@ in-setOf (suc n) zero f h = bit-of (f 0) (setOf n (λ d. f (suc d))) .0
 in-setOf (suc n) (suc d) f h =
     ap (λ (s : ℕ). inSet s d) (bit-of (f 0) (setOf n (λ i. f (suc i))) .1) ∙ in-setOf n d (λ i. f (suc i)) (le-of-suc-le-suc h)
 
+-- it has bits below n alone
+setOf-below : (n : ℕ) (f : ℕ → Bool) → setOf n f < 2 ^ n
+setOf-below zero f = omega arith
+setOf-below (suc n) f = next (f 0) (setOf n (λ d. f (suc d))) (setOf-below n (λ d. f (suc d)))
+  where
+    next : (b : Bool) (r : ℕ) → r < 2 ^ n → bitOf b + 2 * r < 2 ^ suc n
+    next true r h = let p : 2 ^ suc n ≡ 2 ^ n * 2 = pow-suc 2 n in omega arith
+    next false r h = let p : 2 ^ suc n ≡ 2 ^ n * 2 = pow-suc 2 n in omega arith
+
+pub origins-below : (ends is : List ℕ) → originsOf ends is < 2 ^ length ends
+origins-below ends is = setOf-below (length ends) (reached ends is)
+
+setOf-none : (n : ℕ) → setOf n (λ d. false) ≡ 0
+setOf-none zero = refl
+setOf-none (suc n) = rw (setOf-none n)
+
+-- no items are of no origin
+pub origins-none : (ends : List ℕ) → originsOf ends [] ≡ 0
+origins-none ends = setOf-none (length ends)
+
 pub in-originsOf : (ends is : List ℕ) (d : ℕ) → d < length ends → inSet (originsOf ends is) d ≡ reached ends is d
 in-originsOf ends is d h = in-setOf (length ends) d (reached ends is) h

@@ -10,16 +10,14 @@ use lib.ListN.{length, take}
 use Rattle.ink_list.specs.Entries.{itemNumbers, Entry, items, Ascends, Rising, Wrote}
 use Rattle.ink_value.specs.Convert.{asInt, entriesOf, originsIn}
 use Rattle.ink_value.specs.declared.Value.{Value}
-use Rattle.ink_value.proofs.Reading.{wrote-is}
 use Rattle.ink_value.proofs.Given.{gave-copy}
-use Rattle.ink_value.proofs.ReadBack.{entries-wf}
-use Rattle.operator_kinds.specs.Kinds.{isList}
-use Rattle.ink_value.specs.Val.{Val, kindOf}
+use Rattle.ink_value.specs.Val.{Val, kindOf, isList}
 use Rattle.ink_number.specs.Answer.{gives}
-use Rattle.list_definitions.specs.Defs.{ListDefinitions, invert, retarget, raise, lower, originsOf}
+use Rattle.list_definitions.specs.Defs.{ListDefinitions, invert, retarget, raise, lower}
 use Rattle.list_pairs.specs.Pairs.{mergeL}
-use Rattle.list_operators.specs.Lists.{shiftL, unaryL, listBinary, entriesFor, originsAfter, listResult}
-use Rattle.ink_value.specs.Value.{valOf, codeOfValue, Gave, AllWf}
+use Rattle.list_operators.specs.Lists.{shiftL, unaryL, listBinary, entriesFor, listResult}
+use Rattle.result_origins.specs.Origins.{originsAfter}
+use Rattle.ink_value.specs.Value.{valOf, codeOfValue, Gave, Wf, AllWf}
 use Rattle.ink_list.specs.Ops.{listExtreme, extreme, beats}
 use Rattle.ink_list.proofs.Laws.{rising-length, rising-limit}
 use Rattle.list_definitions.proofs.DefLaws.{all-is}
@@ -35,11 +33,11 @@ either : (limit : ℕ) (t : Bool) (a b : List Entry) → Rising limit a → Risi
 either limit true a b p q = p
 either limit false a b p q = q
 
-merge-rises : (limit o : ℕ) (a b : List Entry) → Rising limit (mergeL limit o a b)
+merge-rises : (l limit o : ℕ) (a b : List Entry) → Rising l a → Rising l b → Rising l (mergeL limit o a b)
 unfolding mergeL
-merge-rises limit o a b =
-    either limit (eqb o opAdd) _ _ (union-rising limit a b)
-    (either limit (eqb o opSubtract) _ _ (sift-rising limit _ a) (either limit (eqb o opIntersect) _ _ (sift-rising limit _ a) tt))
+merge-rises l limit o a b ra rb =
+    either l (eqb o opAdd) _ _ (union-rising l limit a b ra rb)
+    (either l (eqb o opSubtract) _ _ (sift-rising l limit _ a ra) (either l (eqb o opIntersect) _ _ (sift-rising l limit _ a ra) tt))
 
 -- the extreme entry is one of the list's
 picks : (limit : ℕ) (t : Bool) (e f : Entry) → e .0 < limit → f .0 < limit → cond t f e .0 < limit
@@ -55,61 +53,57 @@ extreme-rises : (least : Bool) (limit : ℕ) (a : List Entry) → Rising limit a
 extreme-rises least limit [] r = tt
 extreme-rises least limit (e ∷ es) r = (omega arith, extreme-below least limit (suc (e .0)) e es (r .1) (r .2), tt)
 
-module _ (u : ListDefinitions) (within : length (u .defined) ≤ u .limit) where
-  retarget-rises : (set : ℕ) (a : List Entry) → Rising (u .limit) (retarget (u .ends) (u .defined) set a)
+-- below any number l that the pack's items keep
+module _ (u : ListDefinitions) (l : ℕ) (within : length (u .defined) ≤ l) where
+  retarget-rises : (set : ℕ) (a : List Entry) → Rising l (retarget (u .ends) (u .defined) set a)
   retarget-rises set a =
-      rising-limit 0 (length (u .defined)) (u .limit) (retarget (u .ends) (u .defined) set a) within (retarget-rising (u .ends) (u .defined) set a)
+      rising-limit 0 (length (u .defined)) l (retarget (u .ends) (u .defined) set a) within (retarget-rising (u .ends) (u .defined) set a)
 
-  invert-rises : (set : ℕ) (is : List ℕ) → Rising (u .limit) (invert (u .ends) (u .defined) set is)
+  invert-rises : (set : ℕ) (is : List ℕ) → Rising l (invert (u .ends) (u .defined) set is)
   invert-rises set is =
-      rising-limit 0 (length (u .defined)) (u .limit) (invert (u .ends) (u .defined) set is) within (invert-rising (u .ends) (u .defined) set is)
+      rising-limit 0 (length (u .defined)) l (invert (u .ends) (u .defined) set is) within (invert-rising (u .ends) (u .defined) set is)
 
-  shift-rises : (o set : ℕ) (n : ℤ) (a : List Entry) → Rising (u .limit) (shiftL (u .ends) (u .defined) o set n a)
+  shift-rises : (o set : ℕ) (n : ℤ) (a : List Entry) → Rising l (shiftL (u .ends) (u .defined) o set n a)
   unfolding shiftL
   shift-rises o set n a =
-      either (u .limit) (eqb o opAdd) _ _ (retarget-rises set (raise n a)) (either (u .limit) (eqb o opSubtract) _ _ (retarget-rises set (lower n a)) tt)
+      either l (eqb o opAdd) _ _ (retarget-rises set (raise n a)) (either l (eqb o opSubtract) _ _ (retarget-rises set (lower n a)) tt)
 
-  unary-rises : (o set : ℕ) (a : List Entry) → Rising (u .limit) a → Rising (u .limit) (unaryL (u .ends) (u .defined) o set a)
+  unary-rises : (o set : ℕ) (a : List Entry) → Rising l a → Rising l (unaryL (u .ends) (u .defined) o set a)
   unfolding unaryL
   unary-rises o set a r =
-      either (u .limit) (eqb o opListMin) _ _ (extreme-rises true (u .limit) a r)
-      (either (u .limit) (eqb o opListMax) _ _ (extreme-rises false (u .limit) a r)
-      (either (u .limit) (eqb o opAll) _ _ (subst (Rising (u .limit)) (all-is (u .ends) (u .defined) set) (invert-rises set []))
-      (either (u .limit) (eqb o opInvert) _ _ (invert-rises set (items a)) tt)))
+      either l (eqb o opListMin) _ _ (extreme-rises true l a r)
+      (either l (eqb o opListMax) _ _ (extreme-rises false l a r)
+      (either l (eqb o opAll) _ _ (subst (Rising l) (all-is (u .ends) (u .defined) set) (invert-rises set []))
+      (either l (eqb o opInvert) _ _ (invert-rises set (items a)) tt)))
 
-  binary-rises : (o : ℕ) (a b : Val) → Rising (u .limit) (listBinary u o a b)
+  binary-rises : (o : ℕ) (a b : Val) → Wf l a → Wf l b → Rising l (listBinary u o a b)
   unfolding listBinary
-  binary-rises o a b = either (u .limit) (isList (kindOf b)) _ _ (merge-rises (u .limit) o (entriesOf a) (entriesOf b)) (shift-rises o (originsIn a) (asInt b) (entriesOf a))
+  binary-rises o a b ra rb =
+      either l (isList (kindOf b)) _ _ (merge-rises l (u .limit) o (entriesOf a) (entriesOf b) ra rb) (shift-rises o (originsIn a) (asInt b) (entriesOf a))
 
   -- an operator's List on well-formed operands
-  pub entries-rise : (o : ℕ) (vs : List Val) → AllWf (u .limit) vs → Rising (u .limit) (entriesFor u o vs)
+  pub entries-rise : (o : ℕ) (vs : List Val) → AllWf l vs → Rising l (entriesFor u o vs)
   entries-rise o [] h = tt
-  entries-rise o (a ∷ []) h = unary-rises o (originsIn a) (entriesOf a) (entries-wf (u .limit) a (h .0))
-  entries-rise o (a ∷ b ∷ []) h = binary-rises o a b
-  entries-rise o (a ∷ b ∷ c ∷ []) h = sift-rising (u .limit) _ (entriesOf a)
+  entries-rise o (a ∷ []) h = unary-rises o (originsIn a) (entriesOf a) (h .0)
+  entries-rise o (a ∷ b ∷ []) h = binary-rises o a b (h .0) (h .1 .0)
+  entries-rise o (a ∷ b ∷ c ∷ []) h = sift-rising l (u .limit) _ (entriesOf a) (h .0)
   entries-rise o (a ∷ b ∷ c ∷ d ∷ vs) h = tt
 
 -- ---- a list that was written is the result
 
--- all that a call that makes a List asks of what was written
-pub record Done (u : ListDefinitions) (o : ℕ) (vs : List Val) (n : ℕ) (oi oi′ : List ℕ) (ov ov′ : List ℤ) : Type 0 where
+module _ (u : ListDefinitions) (within : length (u .defined) ≤ u .limit) (o : ℕ) (vs : List Val) (wf : AllWf (u .limit) vs) {n : ℕ}
+    {oi oi′ : List ℕ} {ov ov′ : List ℤ} (w : Wrote (entriesFor u o vs) n oi oi′ ov ov′) where
   pub short : n ≤ u .limit
-  pub rises : Ascends 0 itemNumbers (take n oi′)
-  pub makes : (r : Value) → r ≡ Is.List (originsOf (u .ends) (take n oi′)) 0 n → Gave (gives (listResult u o vs)) (Out.Value r) oi oi′ ov ov′
+  short = omega (arith, w .counted, rising-length (u .limit) (entriesFor u o vs) (entries-rise u (u .limit) within o vs wf))
 
-pub done : (u : ListDefinitions) → length (u .defined) ≤ u .limit → u .limit < itemNumbers → (o : ℕ) (vs : List Val) → AllWf (u .limit) vs
-    → {N : List Entry} {n : ℕ} {oi oi′ : List ℕ} {ov ov′ : List ℤ} → entriesFor u o vs ≡ N → Wrote N n oi oi′ ov ov′ → Done u o vs n oi oi′ ov ov′
-unfolding originsAfter
-done u within small o vs wf {N} {n} {oi} {oi′} {ov} {ov′} e w =
-    let es = entriesFor u o vs in
-    let up = entries-rise u within o vs wf in
-    let v : Wrote es n oi oi′ ov ov′ = wrote-is e w in
-    let read = read-items es n oi oi′ ov ov′ v in
-    record {
-      short = omega (arith, v .counted, rising-length (u .limit) es up);
-      rises = rw read (ascends-limit 0 (u .limit) itemNumbers (items es) (omega arith) up);
-      makes = λ r q. gave-copy v (ap Out.Value (q ∙ ap (λ (l : List ℕ). Is.List (originsOf (u .ends) l) 0 n) read));
-    }
+  pub rises : u .limit < itemNumbers → Ascends 0 itemNumbers (take n oi′)
+  rises small =
+      rw (read-items (entriesFor u o vs) n oi oi′ ov ov′ w)
+      (ascends-limit 0 (u .limit) itemNumbers (items (entriesFor u o vs)) (omega arith) (entries-rise u (u .limit) within o vs wf))
+
+  pub makes : (r : Value) → r ≡ Is.List (originsAfter (u .ends) o vs (take n oi′)) 0 n → Gave (gives (listResult u o vs)) (Out.Value r) oi oi′ ov ov′
+  makes r q =
+      gave-copy w (ap Out.Value (q ∙ ap (λ (l : List ℕ). Is.List (originsAfter (u .ends) o vs l) 0 n) (read-items (entriesFor u o vs) n oi oi′ ov ov′ w)))
 
 -- the right operand of a list says which operator it is
 pub right-list : (u : ListDefinitions) (o : ℕ) (a : Val) (is : List ℕ) (vs : List ℤ) (b : Value) → codeOfValue b ≡ 3

@@ -8,15 +8,15 @@ use lib.Dec.{eqb}
 use lib.IntN.{ℤ}
 use lib.ListN.{length}
 use Rattle.op.specs.Op.{opAdd, opSubtract, opListMin, opListMax, opAll, opInvert}
-use Rattle.operator_kinds.specs.Kinds.{isList}
 use Rattle.slices.specs.Slices.{Slice}
 use Rattle.ink_list.specs.Entries.{Entry, items, itemNumbers}
 use Rattle.ink_list.specs.Ops.{range, listMin, listMax}
-use Rattle.list_definitions.specs.Defs.{ListDefinitions, Tables, originsOf, all, invert, increment, decrement}
+use Rattle.list_definitions.specs.Defs.{ListDefinitions, Tables, all, invert, increment, decrement}
 use Rattle.list_pairs.specs.Pairs.{mergeL}
-use Rattle.ink_value.specs.Val.{Val, list, kindOf}
+use Rattle.ink_value.specs.Val.{Val, list, kindOf, isList}
 use Rattle.ink_value.specs.Convert.{asInt, entriesOf, originsIn}
 use Rattle.value_range.specs.Bounds.{lowerOf, upperOf}
+use Rattle.result_origins.specs.Origins.{originsAfter}
 
 -- ---- results that are Lists
 
@@ -50,17 +50,9 @@ entriesFor u o (a ∷ b ∷ []) = listBinary u o a b
 entriesFor u o (a ∷ b ∷ c ∷ []) = range (u .limit) (lowerOf b) (upperOf c) (entriesOf a)
 entriesFor u o (a ∷ b ∷ c ∷ d ∷ vs) = []
 
--- the origin set of a result: the origins of its items
-unfoldable pub originsAfter : ListDefinitions → List Entry → ℕ
-originsAfter u es = originsOf (u .ends) (items es)
-
--- a List of these entries
-abbrev pub listed : ListDefinitions → List Entry → Val
-listed u es = list (originsAfter u es) es
-
 -- an operator's List
 abbrev pub listResult : ListDefinitions → ℕ → List Val → Val
-listResult u o vs = listed u (entriesFor u o vs)
+listResult u o vs = list (originsAfter (u .ends) o vs (items (entriesFor u o vs))) (entriesFor u o vs)
 
 -- ---- the definitions
 

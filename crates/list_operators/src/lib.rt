@@ -1,19 +1,19 @@
-// The operators on lists: tests, and results that are Lists, written from the start of two output slices.
+// The operators on lists whose results are Lists, written from the start of two output slices.
 use ink_value::Value;
 use ink_value::kind_code;
 ghost use mathlib.Core.Path.{_≡_};
 ghost use mathlib.Core.List.{[], _∷_};
-ghost use Prim.Native.Nat.{_≤_};
-ghost use lib.ListN.{length, take};
-ghost use Rattle.ink_list.specs.Entries.{itemNumbers, room, Ascends, Lent};
+ghost use Prim.Native.Nat.{ℕ, _≤_};
+ghost use lib.ListN.{length};
+ghost use Rattle.ink_list.specs.Entries.{itemNumbers, room, Lent};
 ghost use Rattle.ink_list.specs.Slices.{list, Answers};
-ghost use Rattle.list_definitions.specs.Defs.{Tables, originsOf};
+ghost use Rattle.list_definitions.specs.Defs.{Tables};
 ghost use Rattle.ink_value.specs.Val.{listK, codeOf};
-ghost use Rattle.ink_value.specs.Value.{codeOfValue, Spans, Formed, FirstFormed};
-ghost use Rattle.ink_value.specs.Slices.{valIn, firstIn, entriesIn, Makes};
-ghost use Rattle.ink_value.specs.declared.Value.the-variants as Is;
-ghost use Rattle.list_pairs.specs.Pairs.{testL};
-ghost use Rattle.list_operators.specs.Lists.{unaryL, shiftL, listResult, Room, definitions, definitionsIn};
+ghost use Rattle.ink_value.specs.Convert.{entriesOf};
+ghost use Rattle.ink_value.specs.Value.{codeOfValue, Formed, FirstFormed};
+ghost use Rattle.ink_value.specs.Slices.{valIn, firstIn, Makes};
+ghost use Rattle.list_pairs.specs.Pairs.{mergeL};
+ghost use Rattle.list_operators.specs.Lists.{unaryL, shiftL, entriesFor, listResult, Room, definitions, definitionsIn};
 
 fn unary(
     op: u8,
@@ -60,37 +60,6 @@ fn shift(
     }
 }
 
-// The tests on the entries of two lists.
-pub fn test_held(
-    op: u8,
-    i: usize,
-    m: usize,
-    j: usize,
-    n: usize,
-    items: &[u16],
-    values: &[i32],
-) -> bool
-    requires { ⌜ Spans itemNumbers (now items) (now values) i m × Spans itemNumbers (now items) (now values) j n ⌝ }
-    ensures { λ r. ⌜ r ≡ testL op (entriesIn items values i m) (entriesIn items values j n) ⌝ }
-{
-    let e = i + m;
-    let f = j + n;
-    list_pairs::test_entries(op, &items[i..e], &values[i..e], &items[j..f], &values[j..f])
-}
-
-// The list of the first n entries of the output, with its items' origins.
-fn located(n: usize, items: &[u16], ends: &[u16]) -> Value
-    requires { ⌜ (n ≤ length (now items)) × Ascends 0 itemNumbers (take n (now items)) × (length (now ends) ≤ 64) ⌝ }
-    ensures { λ r. ⌜ r ≡ Is.List (originsOf (now (ends .entry)) (take n (now (items .entry)))) 0 n ⌝ }
-{
-    let origins = list_definitions::origins_of(&items[..n], ends);
-    Value::List {
-        origins,
-        start: 0,
-        len: n,
-    }
-}
-
 // ListMin, ListMax, All, Invert.
 fn list1(
     op: u8,
@@ -102,17 +71,16 @@ fn list1(
     limit: usize,
     oi: &mut [u16],
     ov: &mut [i32],
-) -> Value
+) -> usize
     requires { ⌜ Room (definitions (now ends) (now defined) limit) (now oi) (now ov) ⌝ }
     requires { ⌜ Formed limit (now items) (now values) a ⌝ }
-    ensures { λ r. ⌜ Makes (listResult (definitionsIn ends defined limit) op (valIn items values a ∷ [])) r oi ov ⌝ }
+    ensures { λ r. ⌜ Answers (entriesFor (definitionsIn ends defined limit) op (valIn items values a ∷ [])) r oi ov ⌝ }
 {
     let i = ink_value::start_of(a);
     let m = ink_value::len_of(a);
     let set = ink_value::origins_in(a);
     let e = i + m;
-    let n = unary(op, &items[i..e], &values[i..e], set, ends, defined, oi, ov);
-    located(n, oi, ends)
+    unary(op, &items[i..e], &values[i..e], set, ends, defined, oi, ov)
 }
 
 // Add, Subtract and Intersect of two lists.
@@ -122,33 +90,20 @@ fn list_list(
     b: Value,
     items: &[u16],
     values: &[i32],
-    ends: &[u16],
-    defined: &[i32],
-    limit: usize,
     oi: &mut [u16],
     ov: &mut [i32],
-) -> Value
-    requires { ⌜ Room (definitions (now ends) (now defined) limit) (now oi) (now ov) ⌝ }
-    requires { ⌜ Formed limit (now items) (now values) a × Formed limit (now items) (now values) b ⌝ }
-    requires { ⌜ codeOfValue b ≡ codeOf listK ⌝ }
-    ensures { λ r. ⌜ Makes (listResult (definitionsIn ends defined limit) op (valIn items values a ∷ valIn items values b ∷ [])) r oi ov ⌝ }
+) -> usize
+    requires { ⌜ Formed (room (now oi) (now ov)) (now items) (now values) a ⌝ }
+    requires { ⌜ Formed (room (now oi) (now ov)) (now items) (now values) b ⌝ }
+    ensures { λ r. ⌜ ((limit : ℕ) → Formed limit (now (items .entry)) (now (values .entry)) a
+        → Formed limit (now (items .entry)) (now (values .entry)) b
+        → Answers (mergeL limit op (entriesOf (valIn items values a)) (entriesOf (valIn items values b))) r oi ov) ⌝ }
 {
     let i = ink_value::start_of(a);
     let m = ink_value::len_of(a);
     let j = ink_value::start_of(b);
-    let k = ink_value::len_of(b);
-    let e = i + m;
-    let f = j + k;
-    let n = list_pairs::merge(
-        op,
-        &items[i..e],
-        &values[i..e],
-        &items[j..f],
-        &values[j..f],
-        oi,
-        ov,
-    );
-    located(n, oi, ends)
+    let n = ink_value::len_of(b);
+    list_pairs::merge_held(op, i, m, j, n, items, values, oi, ov)
 }
 
 // Add and Subtract of a list and an Int.
@@ -163,18 +118,18 @@ fn list_int(
     limit: usize,
     oi: &mut [u16],
     ov: &mut [i32],
-) -> Value
+) -> usize
     requires { ⌜ Room (definitions (now ends) (now defined) limit) (now oi) (now ov) ⌝ }
     requires { ⌜ Formed limit (now items) (now values) a × Formed limit (now items) (now values) b ⌝ }
     requires { ⌜ (codeOfValue b ≡ codeOf listK → ⊥) ⌝ }
-    ensures { λ r. ⌜ Makes (listResult (definitionsIn ends defined limit) op (valIn items values a ∷ valIn items values b ∷ [])) r oi ov ⌝ }
+    ensures { λ r. ⌜ Answers (entriesFor (definitionsIn ends defined limit) op (valIn items values a ∷ valIn items values b ∷ [])) r oi ov ⌝ }
 {
     let i = ink_value::start_of(a);
     let m = ink_value::len_of(a);
     let set = ink_value::origins_in(a);
     let by = ink_value::to_int(b, values);
     let e = i + m;
-    let n = shift(
+    shift(
         op,
         &items[i..e],
         &values[i..e],
@@ -184,8 +139,7 @@ fn list_int(
         defined,
         oi,
         ov,
-    );
-    located(n, oi, ends)
+    )
 }
 
 fn list2(
@@ -199,20 +153,21 @@ fn list2(
     limit: usize,
     oi: &mut [u16],
     ov: &mut [i32],
-) -> Value
+) -> usize
     requires { ⌜ Room (definitions (now ends) (now defined) limit) (now oi) (now ov) ⌝ }
     requires { ⌜ Formed limit (now items) (now values) a × Formed limit (now items) (now values) b ⌝ }
-    ensures { λ r. ⌜ Makes (listResult (definitionsIn ends defined limit) op (valIn items values a ∷ valIn items values b ∷ [])) r oi ov ⌝ }
+    ensures { λ r. ⌜ Answers (entriesFor (definitionsIn ends defined limit) op (valIn items values a ∷ valIn items values b ∷ [])) r oi ov ⌝ }
 {
     if ink_value::kind(b) == kind_code::LIST {
-        return list_list(op, a, b, items, values, ends, defined, limit, oi, ov);
+        return list_list(op, a, b, items, values, oi, ov);
     }
     list_int(op, a, b, items, values, ends, defined, limit, oi, ov)
 }
 
-// Range, its first operand a list.
-fn list3(
+// The entries of a result that is a List.
+fn entries_for(
     op: u8,
+    count: usize,
     a: Value,
     b: Value,
     c: Value,
@@ -223,14 +178,19 @@ fn list3(
     limit: usize,
     oi: &mut [u16],
     ov: &mut [i32],
-) -> Value
+) -> usize
     requires { ⌜ Room (definitions (now ends) (now defined) limit) (now oi) (now ov) ⌝ }
-    requires { ⌜ Formed limit (now items) (now values) a × Formed limit (now items) (now values) b ⌝ }
-    requires { ⌜ Formed limit (now items) (now values) c ⌝ }
-    ensures { λ r. ⌜ Makes (listResult (definitionsIn ends defined limit) op (firstIn items values 3 a b c)) r oi ov ⌝ }
+    requires { ⌜ FirstFormed limit (now items) (now values) count a b c ⌝ }
+    requires { ⌜ (1 ≤ count) × (count ≤ 3) ⌝ }
+    ensures { λ r. ⌜ Answers (entriesFor (definitionsIn ends defined limit) op (firstIn items values count a b c)) r oi ov ⌝ }
 {
-    let n = value_range::range(a, b, c, items, values, oi, ov);
-    located(n, oi, ends)
+    if count == 1 {
+        return list1(op, a, items, values, ends, defined, limit, oi, ov);
+    }
+    if count == 2 {
+        return list2(op, a, b, items, values, ends, defined, limit, oi, ov);
+    }
+    value_range::range(a, b, c, items, values, oi, ov)
 }
 
 // A result that is a List, written from the start of the two output slices.
@@ -253,11 +213,24 @@ pub fn list(
     requires { ⌜ (1 ≤ count) × (count ≤ 3) ⌝ }
     ensures { λ r. ⌜ Makes (listResult (definitionsIn ends defined limit) op (firstIn items values count a b c)) r oi ov ⌝ }
 {
-    if count == 1 {
-        return list1(op, a, items, values, ends, defined, limit, oi, ov);
+    let n = entries_for(
+        op,
+        count,
+        a,
+        b,
+        c,
+        items,
+        values,
+        ends,
+        defined,
+        limit,
+        oi,
+        ov,
+    );
+    let origins = result_origins::origins_after(op, count, a, b, &oi[..n], ends);
+    Value::List {
+        origins,
+        start: 0,
+        len: n,
     }
-    if count == 2 {
-        return list2(op, a, b, items, values, ends, defined, limit, oi, ov);
-    }
-    list3(op, a, b, c, items, values, ends, defined, limit, oi, ov)
 }

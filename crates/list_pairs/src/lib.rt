@@ -3,6 +3,8 @@ ghost use mathlib.Core.Path.{_≡_};
 ghost use Prim.Native.Nat.{ℕ};
 ghost use Rattle.ink_list.specs.Entries.{itemNumbers, room, Rising, Lent};
 ghost use Rattle.ink_list.specs.Slices.{list, Answers};
+ghost use Rattle.ink_value.specs.Value.{Spans};
+ghost use Rattle.ink_value.specs.Slices.{entriesIn};
 ghost use Rattle.list_pairs.specs.Pairs.{testL, mergeL};
 
 // A test of two lists.
@@ -42,4 +44,53 @@ pub fn merge(
         op::INTERSECT => list_sift::intersect(ai, av, bi, oi, ov),
         _ => 0,
     }
+}
+
+// ---- the same on entries that stand in lent slices: m from i on, and n from j on
+
+pub fn test_held(
+    op: u8,
+    i: usize,
+    m: usize,
+    j: usize,
+    n: usize,
+    items: &[u16],
+    values: &[i32],
+) -> bool
+    requires { ⌜ Spans itemNumbers (now items) (now values) i m × Spans itemNumbers (now items) (now values) j n ⌝ }
+    ensures { λ r. ⌜ r ≡ testL op (entriesIn items values i m) (entriesIn items values j n) ⌝ }
+{
+    let e = i + m;
+    let f = j + n;
+    test_entries(op, &items[i..e], &values[i..e], &items[j..f], &values[j..f])
+}
+
+pub fn merge_held(
+    op: u8,
+    i: usize,
+    m: usize,
+    j: usize,
+    n: usize,
+    items: &[u16],
+    values: &[i32],
+    oi: &mut [u16],
+    ov: &mut [i32],
+) -> usize
+    requires { ⌜ Spans (room (now oi) (now ov)) (now items) (now values) i m ⌝ }
+    requires { ⌜ Spans (room (now oi) (now ov)) (now items) (now values) j n ⌝ }
+    ensures { λ r. ⌜ ((limit : ℕ) → Spans limit (now (items .entry)) (now (values .entry)) i m
+        → Spans limit (now (items .entry)) (now (values .entry)) j n
+        → Answers (mergeL limit op (entriesIn items values i m) (entriesIn items values j n)) r oi ov) ⌝ }
+{
+    let e = i + m;
+    let f = j + n;
+    merge(
+        op,
+        &items[i..e],
+        &values[i..e],
+        &items[j..f],
+        &values[j..f],
+        oi,
+        ov,
+    )
 }

@@ -4,3 +4,4 @@ pub mod Whole
 pub mod Numbers
 pub mod Stack
 pub mod Wellformed
+pub mod Emptied

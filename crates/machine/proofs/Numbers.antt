@@ -8,9 +8,9 @@ use Prim.Native.Nat.{ℕ, _+_}
 use lib.Dec.{eqb, ltb}
 use lib.ListN.{length}
 use Rattle.ink_number.specs.Answer.{Answer, gives, refuses, inUse, ask, andThen}
-use Rattle.ink_value.specs.Val.{Val, Kind, listK, kindOf}
+use Rattle.ink_value.specs.Val.{Val, Kind, listK, kindOf, isList}
 use Rattle.op.specs.Op.{opEqual, opNotEquals}
-use Rattle.operator_kinds.specs.Kinds.{known, arity, isList, isVoid, common, available, resultKind, mixed, mixes, kindUnary, kindBinary, kindRange, kindApply}
+use Rattle.operator_kinds.specs.Kinds.{known, arity, isVoid, common, available, resultKind, mixed, mixes, kindUnary, kindBinary, kindRange, kindApply}
 use Rattle.list_definitions.specs.Defs.{ListDefinitions}
 use Rattle.native_function_call.specs.Apply.{applyOp, Agree}
 use Rattle.native_function_call.proofs.Agree.{agree}

@@ -8,7 +8,7 @@ use lib.Dec.{eqb}
 use lib.IntN.{ℤ}
 use lib.ListN.{take}
 use Rattle.ink_number.specs.Answer.{Answer, gives, refuses, ask}
-use Rattle.ink_value.specs.Val.{Val, Kind, boolK, intK, floatK, listK, voidK, kindOf, kindAt}
+use Rattle.ink_value.specs.Val.{Val, Kind, boolK, intK, floatK, listK, voidK, kindOf, isList, kindAt}
 use Rattle.ink_value.specs.Convert.{asInt}
 use Rattle.ink_value.specs.Value.{valOf, codeOfValue, placed, written, Gave}
 use Rattle.ink_value.specs.declared.Value.{Value}
@@ -17,7 +17,7 @@ use Rattle.slices.proofs.Lists.{ap3}
 use Rattle.ink_value.proofs.Reading.{code-in}
 use Rattle.ink_value.proofs.Given.{gave-plain}
 use Rattle.number_operators.specs.Numbers.{arithZ}
-use Rattle.operator_kinds.specs.Kinds.{isList, known, arity, kindApply, kindCall}
+use Rattle.operator_kinds.specs.Kinds.{known, arity, kindApply, kindCall}
 use Rattle.operator_kinds.proofs.Counting.{other-kind}
 use Rattle.list_definitions.specs.Defs.{ListDefinitions}
 use Rattle.native_function_call.specs.Apply.{ofInt, whole, applyOp, compute, call}

@@ -3,3 +3,4 @@ pub mod InParts
 pub mod Results
 pub mod Known
 pub mod Calling
+pub mod Emptied

@@ -7,11 +7,11 @@ use lib.IntN.{ℤ, pos}
 use lib.Ieee.{Float}
 use lib.Dec.{eqb}
 use Rattle.op.specs.Op.{opAnd, opOr}
-use Rattle.operator_kinds.specs.Kinds.{known, arity, kindApply, common, isList}
+use Rattle.operator_kinds.specs.Kinds.{known, arity, kindApply, common}
 use Rattle.ink_number.specs.Answer.{Answer, gives, refuses, ask}
 use Rattle.ink_number.specs.Int.{divisorQuestion}
 use Rattle.binary32.specs.Real.{ofInt32}
-use Rattle.ink_value.specs.Val.{Val, bool, int, float, void, Kind, boolK, intK, floatK, listK, voidK, kindOf}
+use Rattle.ink_value.specs.Val.{Val, bool, int, float, void, Kind, boolK, intK, floatK, listK, voidK, kindOf, isList}
 use Rattle.ink_value.specs.Convert.{asInt, asFloat, truthy, entriesOf}
 use Rattle.list_definitions.specs.Defs.{ListDefinitions}
 use Rattle.number_operators.specs.Numbers.{arithZ, arithF, testNumbers, wholeUnary, realUnary}

@@ -59,7 +59,7 @@ fn test_lists(
             ink_value::truth_from(ka, za, xa, na),
             ink_value::truth_from(kb, zb, xb, nb),
         ),
-        _ => list_operators::test_held(
+        _ => list_pairs::test_held(
             op,
             sa,
             ink_value::len_from(ka, na),

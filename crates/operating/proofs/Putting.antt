@@ -18,7 +18,7 @@ use Rattle.ink_value.specs.declared.Value.the-variants as Is
 use Rattle.ink_value.specs.declared.Outcome.the-variants as Out
 use Rattle.ink_value.proofs.Reading.{lends-held, list-in, len-in, entries-in, rising-in}
 use Rattle.ink_value.proofs.ReadBack.{read-back, formed-back, first-wf}
-use Rattle.list_operators.specs.Lists.{definitions, entriesFor, originsAfter, listResult}
+use Rattle.list_operators.specs.Lists.{definitions, entriesFor, listResult}
 use Rattle.list_operators.proofs.Listing.{entries-rise}
 use Rattle.pack.specs.Read.{PackLists}
 use Rattle.pack.specs.declared.format.Format.{Format}
@@ -77,9 +77,9 @@ pub made-formed : (F : Format) (ends : List ℕ) (defined : List ℤ) (o n : ℕ
 made-formed F ends defined o n a b c v wi wv oi oi′ ov ov′ g t f hi hv =
     let u = definitions ends defined (F .limit) in
     let vs = taken wi wv a b c n in
-    let up = entries-rise u (t .within) o vs (first-wf (F .limit) wi wv n a b c f) in
+    let up = entries-rise u (F .limit) (t .within) o vs (first-wf (F .limit) wi wv n a b c f) in
     let s : v ≡ placedVal (listResult u o vs) = cc in
-    subst (Formed (F .limit) oi′ ov′) (sym s) (formed-back (F .limit) (originsAfter u (entriesFor u o vs)) (entriesFor u o vs) (Out.Value v) oi oi′ ov ov′ g up hi hv)
+    subst (Formed (F .limit) oi′ ov′) (sym s) (formed-back (F .limit) _ (entriesFor u o vs) (Out.Value v) oi oi′ ov ov′ g up hi hv)
 
 -- a value that was made there is the one that is put from there
 pub made-put : {F : Format} {x : Val} {v r : Value} {at : ℕ} {oi oi′ wi wi′ : List ℕ} {ov ov′ wv wv′ : List ℤ} → Gave (gives x) (Out.Value v) oi oi′ ov ov′

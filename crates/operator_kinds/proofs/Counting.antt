@@ -11,8 +11,8 @@ use borrow.Author.Tests.{eq-eqb, ne-eqb, eqb-true, eqb-false, lt-leb, lt-ltb, le
 use Rattle.slices.specs.Every.{every}
 use Rattle.slices.proofs.Every.{every-at}
 use Rattle.ink_number.specs.Answer.{gives, refuses}
-use Rattle.ink_value.specs.Val.{Kind, boolK, intK, floatK, listK, voidK, kindAt, codeOf}
-use Rattle.operator_kinds.specs.Kinds.{isList, isVoid, known, unary, arity, operandCount, kindApply, kindCall, kindRange, kindEntry, kindUnary, kindBinary, KindsGiven, decoded, bitsOf}
+use Rattle.ink_value.specs.Val.{Kind, boolK, intK, floatK, listK, voidK, isList, kindAt, codeOf}
+use Rattle.operator_kinds.specs.Kinds.{isVoid, known, unary, arity, operandCount, kindApply, kindCall, kindRange, kindEntry, kindUnary, kindBinary, KindsGiven, decoded, bitsOf}
 
 -- what an operand count says of an operator
 pub record Takes (o n : ℕ) : Type 0 where

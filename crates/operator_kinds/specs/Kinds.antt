@@ -5,7 +5,7 @@ use mathlib.Core.Path.{_≡_}
 use Prim.Native.Nat.{ℕ, max, _<_, _≤_, _*_, _/_, _%_, _^_}
 use lib.Dec.{eqb, leb, ltb}
 use Rattle.op.specs.Op.{opSubtract, opNegate, opEqual, opNotEquals, opNot, opAnd, opOr, opMin, opMax, opInt, opFloat, opHas, opHasnt, opListMin, opCount, opValueOfList, opInvert, opRange}
-use Rattle.ink_value.specs.Val.{Kind, boolK, intK, floatK, listK, voidK, codeOf, kindAt}
+use Rattle.ink_value.specs.Val.{Kind, boolK, intK, floatK, listK, voidK, isList, codeOf, kindAt}
 use Rattle.ink_number.specs.Answer.{Answer, gives, refuses, ask}
 
 -- lo ≤ o ≤ hi
@@ -22,13 +22,6 @@ unary o = eqb o opNegate || eqb o opNot || eqb o opInt || eqb o opFloat || withi
 
 unfoldable pub arity : ℕ → ℕ
 arity o = cond (unary o) 1 (cond (eqb o opRange) 3 2)
-
-abbrev pub isList : Kind → Bool
-isList boolK = false
-isList intK = false
-isList floatK = false
-isList listK = true
-isList voidK = false
 
 abbrev pub isInt : Kind → Bool
 isInt boolK = false

@@ -29,6 +29,7 @@ impl Kind {
 /// not formed as a literal of the pack (items rising and in the pack, origin bits below the definitions) is refused with 7 where it is used.
 #[derive(Clone, Debug, Default, PartialEq, Eq)]
 pub struct List {
+    /// In an operator's result: the origins of its items; where Subtract of two lists leaves nothing, those of the left one.
     pub origins: u64,
     pub entries: Vec<(u16, i32)>,
 }

@@ -111,6 +111,48 @@ fn lists() {
     assert_eq!(p.cast(1, &a), Ok(Int(3)));
 }
 
+/// A list that Subtract empties keeps the left operand's origins; every other result has those of its items.
+#[test]
+fn emptied_lists() {
+    let p = six_items();
+    let one = Value::list(1, &[(0, 1)]);
+    let wide = Value::list(3, &[(0, 1)]);
+    let other = Value::list(2, &[(0, 1), (4, 2)]);
+    let none = Value::list(0, &[]);
+    assert_eq!(p.call(op::SUBTRACT, &[one.clone(), one.clone()]), Ok(Value::list(1, &[])));
+    assert_eq!(p.call(op::SUBTRACT, &[one.clone(), other.clone()]), Ok(Value::list(1, &[])));
+    assert_eq!(p.call(op::SUBTRACT, &[wide.clone(), one.clone()]), Ok(Value::list(3, &[])));
+    assert_eq!(p.call(op::SUBTRACT, &[wide.clone(), none.clone()]), Ok(one.clone()));
+    assert_eq!(p.call(op::SUBTRACT, &[wide.clone(), Int(9)]), Ok(none.clone()));
+    assert_eq!(p.call(op::INTERSECT, &[wide.clone(), none.clone()]), Ok(none.clone()));
+    assert_eq!(p.call(op::ADD, &[Value::list(3, &[]), Value::list(3, &[])]), Ok(none.clone()));
+    // what was answered is handed in again
+    let emptied = p.call(op::SUBTRACT, &[wide.clone(), wide]).unwrap();
+    assert_eq!(p.call(op::SUBTRACT, &[emptied.clone(), one]), Ok(emptied.clone()));
+    assert_eq!(p.call(op::INVERT, from_ref(&emptied)), p.call(op::ALL, from_ref(&Value::list(3, &[]))));
+    assert_eq!(p.call(op::ADD, &[emptied, Int(1)]), Ok(none));
+}
+
+#[test]
+fn an_emptied_slot() {
+    // slot 0 less itself, inverted; slot 0 less slot 1, inverted
+    let sheets = [&[36, 0, 36, 0, op::SUBTRACT, op::INVERT][..], &[36, 0, 36, 1, op::SUBTRACT, op::INVERT]];
+    let p = pack(&[vec![1, 2], vec![3]], &[], &sheets.map(|s| s.to_vec()));
+    let mut workspace = Workspace::new();
+    let mut slots = VOID_SLOTS;
+    // a wider set than its items
+    slots[0] = Value::list(3, &[(0, 1), (1, 2)]);
+    slots[1] = Value::list(0, &[(1, 0)]);
+    assert_eq!(p.run(&mut workspace, 0, &slots), Ok(Value::list(3, &[(0, 1), (1, 2), (2, 3)])));
+    assert_eq!(p.run(&mut workspace, 1, &slots), Ok(Value::list(1, &[(1, 2)])));
+    let mut kinds = [Kind::Void; 16];
+    kinds[..2].fill(Kind::List);
+    for sheet in [0, 1] {
+        let told: Vec<_> = p.vet(sheet, &kinds).unwrap().iter().map(|f| (f.count, f.top)).collect();
+        assert_eq!(told, [(1, Kind::List), (2, Kind::List), (1, Kind::List), (1, Kind::List)]);
+    }
+}
+
 #[test]
 fn conversions_refused() {
     let p = six_items();

@@ -3,7 +3,8 @@ use mathlib.Core.List.{[], _∷_}
 use Rattle.calls.specs.Call.{called}
 use Rattle.pack.proofs.Formats.{runnable1}
 use Rattle.value_words.proofs.Saying.{calls, pack-operands}
-use Rattle.value_words.proofs.Few.{pack-small, called-few}
+use Rattle.value_words.proofs.Few.{pack-small}
+use Rattle.calls.proofs.Formed.{called-formed}
 use borrow.Author.Needs.{needs}
 use Rattle.ink_operators.proofs.ink_call.Statement.{statement}
 use Rattle.ink_operators.proofs.ink_call.Tie as tie
@@ -25,7 +26,7 @@ outcome-requires c κs =
     let s = c .before .before .before .before .before .before .before .before .before .before .before .before .before in
     let l = c .before .before .before .before .before .before .before .before .before .operand-at .result ∷ c .before .before .before .before .before .before .before .before .operand-at2 .result ∷ c .before .before .before .before .before .before .before .operand-at3 .result ∷ [] in
     let f = called (s .args .items .now) (s .args .values .now) (s .args .result-items .now) (s .args .result-values .now) (s .args .op) (s .args .count) l in
-    pack-small runnable1 (s .args .pack .now) f _ (c .before .before .before .before .call .ensures .gave .answered) (λ ends defined within. called-few _ ends defined within (s .args .items .now) (s .args .values .now) (s .args .result-items .now) (s .args .result-values .now) (s .args .op) (s .args .count) l)
+    pack-small runnable1 (s .args .pack .now) f _ (c .before .before .before .before .call .ensures .gave .answered) (λ u. called-formed u (s .args .items .now) (s .args .values .now) (s .args .result-items .now) (s .args .result-values .now) (s .args .op) (s .args .count) l)
 
 same-length : tie.Need-same-length
 same-length c = search needs

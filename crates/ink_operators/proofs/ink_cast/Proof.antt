@@ -4,7 +4,8 @@ use Rattle.ink_value.specs.declared.Value.{Value}
 use Rattle.calls.specs.Call.{castTo, onPack}
 use Rattle.pack.proofs.Formats.{runnable1}
 use Rattle.value_words.proofs.Saying.{calls}
-use Rattle.value_words.proofs.Few.{pack-small, cast-to-few}
+use Rattle.value_words.proofs.Few.{pack-small}
+use Rattle.calls.proofs.Formed.{cast-to-formed}
 use borrow.Author.Needs.{needs}
 use Rattle.ink_operators.proofs.ink_cast.Statement.{statement}
 use Rattle.ink_operators.proofs.ink_cast.Tie as tie
@@ -19,7 +20,7 @@ outcome-requires : tie.Need-outcome-requires
 outcome-requires c κs =
     let s = c .before .before .before .before .before .before .before .before .before .before .before in
     let f = castTo (s .args .items .now) (s .args .values .now) (s .args .result-items .now) (s .args .result-values .now) (s .args .code) (c .before .before .before .before .before .before .before .value-in .result) in
-    pack-small runnable1 (s .args .pack .now) f _ (c .before .before .before .before .cast .ensures .gave .answered) (λ ends defined within. cast-to-few _ ends defined within (s .args .items .now) (s .args .values .now) (c .before .before .before .before .before .before .before .value-in .result) (s .args .result-items .now) (s .args .result-values .now) (s .args .code))
+    pack-small runnable1 (s .args .pack .now) f _ (c .before .before .before .before .cast .ensures .gave .answered) (λ u. cast-to-formed u (s .args .items .now) (s .args .values .now) (c .before .before .before .before .before .before .before .value-in .result) (s .args .result-items .now) (s .args .result-values .now) (s .args .code))
 
 same-length : tie.Need-same-length
 same-length c = search needs

@@ -5,7 +5,8 @@ use Rattle.ink_value.specs.declared.Value.{Value}
 use Rattle.calls.specs.Call.{coerced, onPack}
 use Rattle.pack.proofs.Formats.{runnable1}
 use Rattle.value_words.proofs.Saying.{says}
-use Rattle.value_words.proofs.Few.{pack-small, coerced-few, float-few}
+use Rattle.value_words.proofs.Few.{pack-small}
+use Rattle.calls.proofs.Formed.{coerced-formed, float-formed}
 use borrow.Author.Needs.{needs}
 use Rattle.ink_operators.proofs.ink_coerce_to_float.Statement.{statement}
 use Rattle.ink_operators.proofs.ink_coerce_to_float.Tie as tie
@@ -20,7 +21,7 @@ outcome-requires : tie.Need-outcome-requires
 outcome-requires c κs =
     let s = c .before .before .before .before .before in
     let f = coerced (s .args .items .now) (s .args .values .now) coerceFloat (c .before .before .value-in .result) in
-    pack-small runnable1 (s .args .pack .now) f _ (c .before .coerce-to-float .ensures .answered) (λ ends defined within. coerced-few _ (s .args .items .now) (s .args .values .now) coerceFloat (c .before .before .value-in .result) _ (float-few _))
+    pack-small runnable1 (s .args .pack .now) f _ (c .before .coerce-to-float .ensures .answered) (λ u. coerced-formed u (s .args .items .now) (s .args .values .now) coerceFloat (c .before .before .value-in .result) (float-formed u (s .args .items .now) (s .args .values .now)))
 
 returns : tie.Need-returns
 returns c =

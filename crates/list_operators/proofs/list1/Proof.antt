@@ -1,14 +1,10 @@
 -- `list_operators::list1` meets its contract. Assumes nothing.
 use borrow.Author.Needs.{needs}
 use mathlib.Core.Path.{sym, _∙_}
-use mathlib.Core.List.{[], _∷_}
 use native.Mathlib.Omega.{arith}
-use Rattle.list_operators.specs.Lists.{unaryL, definitions}
-use Rattle.ink_value.specs.Value.{valOf}
+use Rattle.list_operators.specs.Lists.{unaryL}
 use Rattle.slices.proofs.Lists.{ap2}
-use Rattle.ink_value.proofs.Reading.{entries-in, set-in, formed-limit, lends-lent, lends-held}
-use Rattle.ink_value.proofs.ReadBack.{wf-of}
-use Rattle.list_operators.proofs.Listing.{done}
+use Rattle.ink_value.proofs.Reading.{entries-in, set-in, formed-limit, lends-lent, lends-held, wrote-is}
 use Rattle.list_operators.proofs.list1.Statement.{statement}
 use Rattle.list_operators.proofs.list1.Tie as tie
 
@@ -56,12 +52,6 @@ unary-requires c κs =
       (omega (arith, h), omega (arith, h)),
     )
 
-located-requires : tie.Need-located-requires
-located-requires c κs = let s = c .before .before .before .before .before .before .before .before .before .before .before .before .before .before .before in
-    let d = done (definitions (s .args .ends .now) (s .args .defined .now) (s .args .limit)) (s .pre .0 .within) (s .pre .0 .small) (s .args .op) ((valOf (s .args .items .now) (s .args .values .now) (s .args .a)) ∷ []) (wf-of (s .args .limit) (s .args .items .now) (s .args .values .now) (s .args .a) (s .pre .1), tt)
-    (ap2 (unaryL (s .args .ends .now) (s .args .defined .now) (s .args .op)) (set-in (s .args .items .now) (s .args .values .now) (s .args .a) ∙ sym (c .before .before .before .before .before .before .before .before .before .origins-in .ensures)) (entries-in (s .args .items .now) (s .args .values .now) (s .args .a) ∙ sym (lends-held (s .args .limit) (s .args .items .now) (s .args .values .now) (c .before .before .before .before .before .before .before .before .before .before .before .start-of .result) (c .before .before .before .before .before .before .before .before .before .before .len-of .result) (s .args .a) (c .before .before .before .before .before .before .before .before .before .before .before .start-of .ensures) (c .before .before .before .before .before .before .before .before .before .before .len-of .ensures)))) (c .before .before .before .before .unary .ensures) in
-    (omega (arith, d .short, s .pre .0), d .rises, s .pre .0 .few)
-
 same-length : tie.Need-same-length
 same-length c = search needs
 
@@ -69,10 +59,14 @@ same-length-2 : tie.Need-same-length-2
 same-length-2 c = search needs
 
 returns : tie.Need-returns
-returns c = let s = c .before .before .before .before .before .before .before .before .before .before .before .before .before .before .before .before in
-    let d = done (definitions (s .args .ends .now) (s .args .defined .now) (s .args .limit)) (s .pre .0 .within) (s .pre .0 .small) (s .args .op) ((valOf (s .args .items .now) (s .args .values .now) (s .args .a)) ∷ []) (wf-of (s .args .limit) (s .args .items .now) (s .args .values .now) (s .args .a) (s .pre .1), tt)
-    (ap2 (unaryL (s .args .ends .now) (s .args .defined .now) (s .args .op)) (set-in (s .args .items .now) (s .args .values .now) (s .args .a) ∙ sym (c .before .before .before .before .before .before .before .before .before .before .origins-in .ensures)) (entries-in (s .args .items .now) (s .args .values .now) (s .args .a) ∙ sym (lends-held (s .args .limit) (s .args .items .now) (s .args .values .now) (c .before .before .before .before .before .before .before .before .before .before .before .before .start-of .result) (c .before .before .before .before .before .before .before .before .before .before .before .len-of .result) (s .args .a) (c .before .before .before .before .before .before .before .before .before .before .before .before .start-of .ensures) (c .before .before .before .before .before .before .before .before .before .before .before .len-of .ensures)))) (c .before .before .before .before .before .unary .ensures) in
-    d .makes _ (c .located .ensures)
+returns c =
+    let s = c .before .before .before .before .before .before .before .before .before .before .before .before .before .before in
+    let is = s .args .items .now in
+    let vs = s .args .values .now in
+    wrote-is
+    (ap2 (unaryL (s .args .ends .now) (s .args .defined .now) (s .args .op)) (set-in is vs (s .args .a) ∙ sym (c .before .before .before .before .before .before .before .before .origins-in .ensures))
+    (entries-in is vs (s .args .a) ∙ sym (lends-held (s .args .limit) is vs (c .before .before .before .before .before .before .before .before .before .before .start-of .result) (c .before .before .before .before .before .before .before .before .before .len-of .result) (s .args .a) (c .before .before .before .before .before .before .before .before .before .before .start-of .ensures) (c .before .before .before .before .before .before .before .before .before .len-of .ensures))))
+    (c .before .before .before .unary .ensures)
 
 pub list1-spec : {M : Type 1} → statement M
 list1-spec =
@@ -91,7 +85,6 @@ list1-spec =
     part-unary-start-2
     part-unary-end-2
     unary-requires
-    located-requires
     same-length
     same-length-2
     returns)

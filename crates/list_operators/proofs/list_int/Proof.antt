@@ -2,14 +2,12 @@
 use Rattle.ink_list.specs.Entries.{itemNumbers}
 use borrow.Author.Needs.{needs}
 use mathlib.Core.Path.{sym, _∙_}
-use mathlib.Core.List.{[], _∷_}
 use native.Mathlib.Omega.{arith}
 use Rattle.list_operators.specs.Lists.{shiftL, definitions}
 use Rattle.ink_value.specs.Value.{valOf}
 use Rattle.slices.proofs.Lists.{ap3}
-use Rattle.ink_value.proofs.Reading.{entries-in, set-in, formed-limit, lends-lent, lends-held}
-use Rattle.ink_value.proofs.ReadBack.{wf-of}
-use Rattle.list_operators.proofs.Listing.{done, right-int}
+use Rattle.ink_value.proofs.Reading.{entries-in, set-in, formed-limit, lends-lent, lends-held, wrote-is}
+use Rattle.list_operators.proofs.Listing.{right-int}
 use Rattle.ink_number.proofs.Signed.{returned}
 use Rattle.list_operators.proofs.list_int.Statement.{statement}
 use Rattle.list_operators.proofs.list_int.Tie as tie
@@ -59,17 +57,6 @@ shift-requires c κs =
     let h = s .pre .0 in
     ((h .tables, lends-lent itemNumbers (s .args .items .now) (s .args .values .now) (c .before .before .before .before .before .before .before .start-of .result) (c .before .before .before .before .before .before .len-of .result) (s .args .a) (c .before .before .before .before .before .before .before .start-of .ensures) (c .before .before .before .before .before .before .len-of .ensures) (formed-limit (s .args .limit) (s .args .items .now) (s .args .values .now) itemNumbers (s .args .a) (omega (arith, h .small)) (s .pre .1 .0 .0))), omega (arith, h))
 
-located-requires : tie.Need-located-requires
-located-requires c κs =
-    let s = c .before .before .before .before .before .before .before .before .before .before .before .before .before .before .before .before in
-    let d = done (definitions (s .args .ends .now) (s .args .defined .now) (s .args .limit)) (s .pre .0 .within) (s .pre .0 .small) (s .args .op) ((valOf (s .args .items .now) (s .args .values .now) (s .args .a)) ∷ (valOf (s .args .items .now) (s .args .values .now) (s .args .b)) ∷ []) (wf-of (s .args .limit) (s .args .items .now) (s .args .values .now) (s .args .a) (s .pre .1 .0 .0), (wf-of (s .args .limit) (s .args .items .now) (s .args .values .now) (s .args .b) (s .pre .1 .0 .1), tt))
-    (right-int (definitions (s .args .ends .now) (s .args .defined .now) (s .args .limit)) (s .args .op) (valOf (s .args .items .now) (s .args .values .now) (s .args .a)) (s .args .items .now) (s .args .values .now) (s .args .b) (s .pre .1 .1)
-    ∙ ap3 (shiftL (s .args .ends .now) (s .args .defined .now) (s .args .op)) (set-in (s .args .items .now) (s .args .values .now) (s .args .a) ∙ sym (c .before .before .before .before .before .before .before .before .before .before .origins-in .ensures))
-    (sym (returned (c .before .before .before .before .before .before .before .before .before .to-int .ok) ∙ c .before .before .before .before .before .before .before .before .before .to-int .ensures (s .args .items .now) (s .pre .1 .0 .1 .items-in)))
-    (entries-in (s .args .items .now) (s .args .values .now) (s .args .a) ∙ sym (lends-held (s .args .limit) (s .args .items .now) (s .args .values .now) (c .before .before .before .before .before .before .before .before .before .before .before .before .start-of .result) (c .before .before .before .before .before .before .before .before .before .before .before .len-of .result) (s .args .a) (c .before .before .before .before .before .before .before .before .before .before .before .before .start-of .ensures) (c .before .before .before .before .before .before .before .before .before .before .before .len-of .ensures))))
-    (c .before .before .before .before .shift .ensures) in
-    (omega (arith, d .short, s .pre .0), d .rises, s .pre .0 .few)
-
 same-length : tie.Need-same-length
 same-length c = search needs
 
@@ -78,14 +65,15 @@ same-length-2 c = search needs
 
 returns : tie.Need-returns
 returns c =
-    let s = c .before .before .before .before .before .before .before .before .before .before .before .before .before .before .before .before .before in
-    let d = done (definitions (s .args .ends .now) (s .args .defined .now) (s .args .limit)) (s .pre .0 .within) (s .pre .0 .small) (s .args .op) ((valOf (s .args .items .now) (s .args .values .now) (s .args .a)) ∷ (valOf (s .args .items .now) (s .args .values .now) (s .args .b)) ∷ []) (wf-of (s .args .limit) (s .args .items .now) (s .args .values .now) (s .args .a) (s .pre .1 .0 .0), (wf-of (s .args .limit) (s .args .items .now) (s .args .values .now) (s .args .b) (s .pre .1 .0 .1), tt))
-    (right-int (definitions (s .args .ends .now) (s .args .defined .now) (s .args .limit)) (s .args .op) (valOf (s .args .items .now) (s .args .values .now) (s .args .a)) (s .args .items .now) (s .args .values .now) (s .args .b) (s .pre .1 .1)
-    ∙ ap3 (shiftL (s .args .ends .now) (s .args .defined .now) (s .args .op)) (set-in (s .args .items .now) (s .args .values .now) (s .args .a) ∙ sym (c .before .before .before .before .before .before .before .before .before .before .before .origins-in .ensures))
-    (sym (returned (c .before .before .before .before .before .before .before .before .before .before .to-int .ok) ∙ c .before .before .before .before .before .before .before .before .before .before .to-int .ensures (s .args .items .now) (s .pre .1 .0 .1 .items-in)))
-    (entries-in (s .args .items .now) (s .args .values .now) (s .args .a) ∙ sym (lends-held (s .args .limit) (s .args .items .now) (s .args .values .now) (c .before .before .before .before .before .before .before .before .before .before .before .before .before .start-of .result) (c .before .before .before .before .before .before .before .before .before .before .before .before .len-of .result) (s .args .a) (c .before .before .before .before .before .before .before .before .before .before .before .before .before .start-of .ensures) (c .before .before .before .before .before .before .before .before .before .before .before .before .len-of .ensures))))
-    (c .before .before .before .before .before .shift .ensures) in
-    d .makes _ (c .located .ensures)
+    let s = c .before .before .before .before .before .before .before .before .before .before .before .before .before .before .before in
+    let is = s .args .items .now in
+    let vs = s .args .values .now in
+    wrote-is
+    (right-int (definitions (s .args .ends .now) (s .args .defined .now) (s .args .limit)) (s .args .op) (valOf is vs (s .args .a)) is vs (s .args .b) (s .pre .1 .1)
+    ∙ ap3 (shiftL (s .args .ends .now) (s .args .defined .now) (s .args .op)) (set-in is vs (s .args .a) ∙ sym (c .before .before .before .before .before .before .before .before .before .origins-in .ensures))
+    (sym (returned (c .before .before .before .before .before .before .before .before .to-int .ok) ∙ c .before .before .before .before .before .before .before .before .to-int .ensures is (s .pre .1 .0 .1 .items-in)))
+    (entries-in is vs (s .args .a) ∙ sym (lends-held (s .args .limit) is vs (c .before .before .before .before .before .before .before .before .before .before .before .start-of .result) (c .before .before .before .before .before .before .before .before .before .before .len-of .result) (s .args .a) (c .before .before .before .before .before .before .before .before .before .before .before .start-of .ensures) (c .before .before .before .before .before .before .before .before .before .before .len-of .ensures))))
+    (c .before .before .before .shift .ensures)
 
 pub list-int-spec : {M : Type 1} → statement M
 list-int-spec =
@@ -105,7 +93,6 @@ list-int-spec =
     part-shift-start-2
     part-shift-end-2
     shift-requires
-    located-requires
     same-length
     same-length-2
     returns)

@@ -3,8 +3,8 @@ use mathlib.Core.Path.{_≡_, refl}
 use mathlib.Core.Bool.{false}
 use Prim.Native.Nat.{ℕ, zero, suc, _<_}
 use native.Mathlib.Omega.{arith}
-use Rattle.ink_value.specs.Val.{kindAt}
-use Rattle.operator_kinds.specs.Kinds.{isVoid, isList, kindRange}
+use Rattle.ink_value.specs.Val.{isList, kindAt}
+use Rattle.operator_kinds.specs.Kinds.{isVoid, kindRange}
 use Rattle.operator_kinds.proofs.range.Statement.{statement}
 use Rattle.operator_kinds.proofs.range.Tie as tie
 

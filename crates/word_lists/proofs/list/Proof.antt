@@ -36,7 +36,7 @@ put-value-requires c κs =
     let ws = s .args .operands .now in
     let u = definitions (s .args .ends .now) (s .args .defined .now) (s .args .limit) in
     let l = take (s .args .count) (valsAt is vs ws) in
-    let up = entries-rise u (s .pre .0 .0 .within) (s .args .op) l (first-wf (s .args .limit) is vs (s .args .count) (valueAt ws 0) (valueAt ws 1) (valueAt ws 2) (s .pre .1)) in
+    let up = entries-rise u (s .args .limit) (s .pre .0 .0 .within) (s .args .op) l (first-wf (s .args .limit) is vs (s .args .count) (valueAt ws 0) (valueAt ws 1) (valueAt ws 2) (s .pre .1)) in
     small-outcome (s .args .limit) (s .pre .0 .0 .small) (gives (listResult u (s .args .op) l)) _ (rw (c .before .before .before .before .before .before .before .before .before .operand-at .ensures, c .before .before .before .before .before .before .before .before .operand-at2 .ensures, c .before .before .before .before .before .before .before .operand-at3 .ensures) at (c .before .before .before .before .list .ensures .answered))
     (rising-length (s .args .limit) (entriesFor u (s .args .op) l) up)
 

@@ -2,7 +2,7 @@
 //! Every slice that is lent is filled with a pattern first, with more of the pattern before and after it.
 use crate::asks::{Ask, Owed, RESULT, WORK};
 use ink_oracle::sys::*;
-use ink_oracle::values::{Defs, Val};
+use ink_oracle::values::{Defs, INTERSECT, LIST, SUBTRACT, Val};
 
 const GUARD: usize = 8;
 
@@ -50,7 +50,7 @@ fn clear<T: Default>(len: usize, i: usize, pattern: impl Fn(usize) -> T) -> T {
 }
 
 /// Mistakes made on purpose after the port has answered, to see that each is noticed.
-pub const MISTAKES: [&str; 16] = [
+pub const MISTAKES: [&str; 20] = [
     "another number",
     "another index",
     "a word of a value",
@@ -67,6 +67,10 @@ pub const MISTAKES: [&str; 16] = [
     "a forecast on refusal",
     "16 for a List of 256 entries",
     "a 257th entry",
+    "an emptied list without its origins",
+    "the right operand's origins",
+    "the left operand's origins with something left",
+    "the left operand's origins after Intersect",
 ];
 
 pub struct Port {
@@ -368,6 +372,24 @@ impl Port {
             13 if vet && refused && self.forecast.len > 0 => self.forecast.inside()[0] = 0,
             14 if length == RESULT => self.number = 16,
             15 if length == RESULT => self.result_items.all[GUARD + RESULT] = 0,
+            16.. => self.err_in_origins(mistake, ask, owed),
+            _ => {}
+        }
+    }
+
+    /// After Subtract or Intersect of two lists.
+    fn err_in_origins(&mut self, mistake: usize, ask: &Ask, owed: &Owed) {
+        let (Ask::Call { op, operands, .. }, Some(Val::List(result))) = (ask, &owed.value) else { return };
+        let [left, right] = [operands[0], operands[1]];
+        if right[0] != LIST as u64 {
+            return;
+        }
+        let empty = result.entries.is_empty();
+        match mistake {
+            16 if *op == SUBTRACT && empty => self.answer[2] = 0,
+            17 if *op == SUBTRACT && empty => self.answer[2] = right[1],
+            18 if *op == SUBTRACT && !empty => self.answer[2] = left[1],
+            19 if *op == INTERSECT && empty => self.answer[2] = left[1],
             _ => {}
         }
     }

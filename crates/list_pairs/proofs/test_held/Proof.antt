@@ -1,12 +1,12 @@
--- `list_operators::test_held` meets its contract. Assumes nothing.
+-- `list_pairs::test_held` meets its contract. Assumes nothing.
 use mathlib.Core.Path.{_∙_}
 use Rattle.ink_list.specs.Entries.{itemNumbers}
 use Rattle.slices.proofs.Lists.{ap2}
 use Rattle.ink_value.proofs.Parts.{cut-lent, cut-entries}
 use Rattle.list_pairs.specs.Pairs.{testL}
 use borrow.Author.Needs.{needs}
-use Rattle.list_operators.proofs.test_held.Statement.{statement}
-use Rattle.list_operators.proofs.test_held.Tie as tie
+use Rattle.list_pairs.proofs.test_held.Statement.{statement}
+use Rattle.list_pairs.proofs.test_held.Tie as tie
 
 add-e : tie.Need-add-e
 add-e c = search needs

@@ -1,0 +1,2 @@
+-- The laws that crates above cite.
+pub mod Rule

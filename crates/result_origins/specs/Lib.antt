@@ -1,0 +1,2 @@
+-- The origin set of a result.
+pub mod Origins
