@@ -3,7 +3,7 @@
 use ink_oracle::{
     generate::{self, Rng},
     pack::{self, Builder, Ins},
-    values::{Defs, KIND_NAMES, LIST, OP_NAMES, RANGE, Val, arity},
+    values::{ALL, Defs, INVERT, KIND_NAMES, LIST, OP_NAMES, RANGE, SUBTRACT, Val, arity},
 };
 use std::{fmt::Write, fs};
 
@@ -159,6 +159,21 @@ fn on_edges(s: &mut Sample) {
     s.calls("increments", &defs, &calls);
 }
 
+/// Each edge list less itself, and then All or Invert of it.
+fn on_emptied(s: &mut Sample) {
+    let mut b = Builder::new(&generate::edge_defs());
+    for list in generate::edge_lists() {
+        for then in [ALL, INVERT] {
+            let mut code = Vec::new();
+            b.push(&mut code, &list).unwrap();
+            code.extend_from_within(..);
+            code.extend([SUBTRACT, then]);
+            b.sheets.push(code);
+        }
+    }
+    s.put("emptied lists", &b.bytes());
+}
+
 /// Lists of up to 256 entries. Few of the answers are long, so that they stay readable.
 fn on_sizes(s: &mut Sample, r: &mut Rng) {
     for (n, defs) in generate::full_defs().iter().enumerate() {
@@ -208,6 +223,7 @@ fn main() {
         assert!(s.kinds[op as usize].iter().step_by(every).all(|n| *n > 0), "operator {op} on every pair of kinds");
     }
     on_edges(&mut s);
+    on_emptied(&mut s);
     on_sizes(&mut s, &mut r);
     pack::at_limits().iter().for_each(|(name, bytes)| s.put(name, bytes));
     let edges = generate::floats();
