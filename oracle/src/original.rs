@@ -393,9 +393,9 @@ pub mod bare {
     }
 
     /// What the runtime does when it pushes a list, reconstructed, since that file is not among the published ones: the
-    /// list's origins become those of its items.
+    /// list's origins become those of its items. An empty list keeps those it has: the left operand's after `without`.
     pub fn set_origins(world: &World, o: &Rc<dyn RTObject>) {
-        if let Some(list) = as_list(o) {
+        if let Some(list) = as_list(o).filter(|l| !l.items.is_empty()) {
             let names = list.get_origin_names();
             let mut origins = list.origins.borrow_mut();
             origins.clear();

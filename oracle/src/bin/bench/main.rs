@@ -293,9 +293,10 @@ fn lists(bench: &mut Bench, n: usize) {
     let c = list(&defs, &every[from..from + n]); // overlaps a
     let half = list(&defs, &every[..n].iter().copied().step_by(2).collect::<Vec<_>>());
     let i = Val::Int;
-    let rows: [(&str, u8, Vec<Val>); 16] = [
+    let rows: [(&str, u8, Vec<Val>); 17] = [
         ("union", 0, vec![a.clone(), c.clone()]),
         ("without", 1, vec![a.clone(), half.clone()]),
+        ("without itself", 1, vec![a.clone(), a.clone()]),
         ("intersect", 24, vec![a.clone(), c.clone()]),
         ("increment by 1", 0, vec![a.clone(), i(1)]),
         ("all", 27, vec![a.clone()]),
