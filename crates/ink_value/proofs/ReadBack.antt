@@ -16,7 +16,7 @@ use Rattle.slices.proofs.Filled.{length-over}
 use Rattle.ink_value.specs.Val.{Val, bool, int, float, list, void}
 use Rattle.ink_number.specs.Answer.{Answer, gives, refuses}
 use Rattle.ink_value.specs.Convert.{entriesOf, originsIn}
-use Rattle.ink_value.specs.Value.{valOf, startOf, lenOf, placedVal, placed, written, Gave, Formed, outcomeOf, Wf, AllWf, FirstFormed, formedIn, eachFormed, InPack, AllInPack, GivesInPack}
+use Rattle.ink_value.specs.Value.{valOf, firstOf, startOf, lenOf, placedVal, placed, written, Gave, Formed, outcomeOf, AllWf, FirstFormed, formedIn, eachFormed, InPack, AllInPack, GivesInPack}
 use Rattle.ink_value.specs.declared.Outcome.{Outcome}
 use Rattle.ink_value.specs.declared.Value.{Value}
 use Rattle.ink_value.proofs.Reading.{rising-in, entries-in, set-in}
@@ -60,7 +60,7 @@ formed-back limit o es r oi oi′ ov ov′ g f h k =
 
 -- the first n of three values that are formed in the slices are well formed
 pub first-wf : (limit : ℕ) (is : List ℕ) (vs : List ℤ) (n : ℕ) (a b c : Value) → FirstFormed limit is vs n a b c
-    → AllWf limit (take n (valOf is vs a ∷ valOf is vs b ∷ valOf is vs c ∷ []))
+    → AllWf limit (firstOf is vs n a b c)
 first-wf limit is vs zero a b c f = tt
 first-wf limit is vs (suc zero) a b c f = (rising-in limit is vs a (f .one (omega arith)), tt)
 first-wf limit is vs (suc (suc zero)) a b c f = (rising-in limit is vs a (f .one (omega arith)), (rising-in limit is vs b (f .two (omega arith)), tt))

@@ -1,15 +1,14 @@
 -- The words of the contracts for values whose entries stand in lent slices. Assumes nothing.
-use mathlib.Core.List.{List, [], _∷_}
+use mathlib.Core.List.{List}
 use Prim.Native.Nat.{ℕ}
 use denote.Ref.{now}
 use lib.IntN.{ℤ}
 use lib.Ieee.{Float}
-use lib.ListN.{take}
 use Rattle.ink_number.specs.Answer.{Answer, gives}
 use Rattle.slices.specs.Slices.{Slice}
 use Rattle.ink_list.specs.Entries.{Entry}
 use Rattle.ink_value.specs.Val.{Val}
-use Rattle.ink_value.specs.Value.{valOf, entriesAt, ofParts, Gave}
+use Rattle.ink_value.specs.Value.{valOf, firstOf, entriesAt, ofParts, Gave}
 use Rattle.ink_value.specs.declared.Value.{Value}
 use Rattle.ink_value.specs.declared.Outcome.{Outcome}
 use Rattle.ink_value.specs.declared.Outcome.the-variants as Out
@@ -20,7 +19,7 @@ valIn items values v = valOf (now (items .entry)) (now (values .entry)) v
 
 -- the first n of three values
 abbrev pub firstIn : Slice ℕ → Slice ℤ → ℕ → Value → Value → Value → List Val
-firstIn items values n a b c = take n (valIn items values a ∷ valIn items values b ∷ valIn items values c ∷ [])
+firstIn items values n a b c = firstOf (now (items .entry)) (now (values .entry)) n a b c
 
 -- n entries from s on, as the slices hold them at entry
 abbrev pub entriesIn : Slice ℕ → Slice ℤ → ℕ → ℕ → List Entry

@@ -6,7 +6,7 @@ use Prim.Native.Nat.{ℕ, _+_, _≤_}
 use lib.Dec.{ltb, leb, eqb}
 use lib.IntN.{ℤ, pos}
 use lib.Ieee.{Float}
-use lib.ListN.{length}
+use lib.ListN.{length, take}
 use Rattle.ink_number.specs.Answer.{Answer, gives, refuses}
 use Rattle.binary32.specs.Real.{ofInt32}
 use Rattle.slices.specs.Every.{_and_}
@@ -26,6 +26,10 @@ valOf is vs (Is.Int z) = int z
 valOf is vs (Is.Float x) = float x
 valOf is vs (Is.List o s n) = list o (entries (part s n is) (part s n vs))
 valOf is vs Is.Void = void
+
+-- the first n of three
+abbrev pub firstOf : List ℕ → List ℤ → ℕ → Value → Value → Value → List Val
+firstOf is vs n a b c = take n (valOf is vs a ∷ valOf is vs b ∷ valOf is vs c ∷ [])
 
 abbrev pub codeOfValue : Value → ℕ
 codeOfValue (Is.Bool b) = codeOf boolK

@@ -122,7 +122,8 @@ fn list_int(
     requires { ⌜ Room (definitions (now ends) (now defined) limit) (now oi) (now ov) ⌝ }
     requires { ⌜ Formed limit (now items) (now values) a × Formed limit (now items) (now values) b ⌝ }
     requires { ⌜ (codeOfValue b ≡ codeOf listK → ⊥) ⌝ }
-    ensures { λ r. ⌜ Answers (entriesFor (definitionsIn ends defined limit) op (valIn items values a ∷ valIn items values b ∷ [])) r oi ov ⌝ }
+    ensures { λ r. ⌜ Answers (entriesFor (definitionsIn ends defined limit) op
+        (valIn items values a ∷ valIn items values b ∷ [])) r oi ov ⌝ }
 {
     let i = ink_value::start_of(a);
     let m = ink_value::len_of(a);
@@ -156,7 +157,8 @@ fn list2(
 ) -> usize
     requires { ⌜ Room (definitions (now ends) (now defined) limit) (now oi) (now ov) ⌝ }
     requires { ⌜ Formed limit (now items) (now values) a × Formed limit (now items) (now values) b ⌝ }
-    ensures { λ r. ⌜ Answers (entriesFor (definitionsIn ends defined limit) op (valIn items values a ∷ valIn items values b ∷ [])) r oi ov ⌝ }
+    ensures { λ r. ⌜ Answers (entriesFor (definitionsIn ends defined limit) op
+        (valIn items values a ∷ valIn items values b ∷ [])) r oi ov ⌝ }
 {
     if ink_value::kind(b) == kind_code::LIST {
         return list_list(op, a, b, items, values, oi, ov);

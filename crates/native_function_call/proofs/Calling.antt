@@ -10,7 +10,7 @@ use lib.ListN.{take}
 use Rattle.ink_number.specs.Answer.{Answer, gives, refuses, ask}
 use Rattle.ink_value.specs.Val.{Val, Kind, boolK, intK, floatK, listK, voidK, kindOf, isList, kindAt}
 use Rattle.ink_value.specs.Convert.{asInt}
-use Rattle.ink_value.specs.Value.{valOf, codeOfValue, placed, written, Gave}
+use Rattle.ink_value.specs.Value.{valOf, codeOfValue, placed, written, Gave, firstOf}
 use Rattle.ink_value.specs.declared.Value.{Value}
 use Rattle.ink_value.specs.declared.Outcome.{Outcome}
 use Rattle.slices.proofs.Lists.{ap3}
@@ -61,14 +61,14 @@ kinds-of (suc (suc (suc (suc n)))) a b c = refl
 
 -- and of three values of the code, by their codes
 pub codes-of : (is : List ℕ) (vs : List ℤ) (n : ℕ) (a b c : Value)
-    → map kindOf (take n (valOf is vs a ∷ valOf is vs b ∷ valOf is vs c ∷ []))
+    → map kindOf (firstOf is vs n a b c)
     ≡ take n (kindAt (codeOfValue a) ∷ kindAt (codeOfValue b) ∷ kindAt (codeOfValue c) ∷ [])
 codes-of is vs n a b c =
     sym (kinds-of n (valOf is vs a) (valOf is vs b) (valOf is vs c))
     ∙ ap3 (λ (x y z : Kind). take n (x ∷ y ∷ z ∷ [])) (sym (code-in is vs a)) (sym (code-in is vs b)) (sym (code-in is vs c))
 
 pub codes-are : (is : List ℕ) (vs : List ℤ) (n : ℕ) (a b c : Value) (i j k : ℕ) → i ≡ codeOfValue a → j ≡ codeOfValue b → k ≡ codeOfValue c
-    → map kindOf (take n (valOf is vs a ∷ valOf is vs b ∷ valOf is vs c ∷ [])) ≡ take n (kindAt i ∷ kindAt j ∷ kindAt k ∷ [])
+    → map kindOf (firstOf is vs n a b c) ≡ take n (kindAt i ∷ kindAt j ∷ kindAt k ∷ [])
 codes-are is vs n a b c i j k p q r =
     codes-of is vs n a b c ∙ sym (ap3 (λ (x y z : ℕ). take n (kindAt x ∷ kindAt y ∷ kindAt z ∷ [])) p q r)
 

@@ -9,7 +9,7 @@ use lib.ListN.{take}
 use Rattle.ink_number.specs.Answer.{Answer, refuses}
 use Rattle.ink_list.specs.Entries.{itemNumbers}
 use Rattle.ink_value.specs.Val.{Val, Kind, kindAt, kindOf}
-use Rattle.ink_value.specs.Value.{codeOfValue, startOf, lenOf, wholeIn, realIn, Spans, Formed}
+use Rattle.ink_value.specs.Value.{codeOfValue, startOf, lenOf, wholeIn, realIn, Spans, Formed, firstOf}
 use Rattle.ink_value.specs.declared.Value.{Value}
 use Rattle.ink_value.proofs.Parts.{parts-of, spans-of, Operand}
 use Rattle.operator_kinds.specs.Kinds.{operandCount, kindCall, decoded, KindsGiven}
@@ -18,7 +18,7 @@ use Rattle.native_function_call.specs.Apply.{compute, applyOp, call}
 use Rattle.operator_kinds.proofs.Counting.{takes, decoded-kind, decoded-no}
 use Rattle.native_function_call.proofs.Calling.{codes-are, call-gives, call-refuses, two-of}
 use Rattle.pack.specs.declared.format.Format.{Format}
-use Rattle.operating.specs.Stacked.{Answered, taken}
+use Rattle.operating.specs.Stacked.{Answered}
 use Rattle.operating.specs.declared.Step.{Step}
 
 -- ---- an operand in parts, as an operator on parts asks for it
@@ -36,16 +36,16 @@ module _ (is : List ℕ) (vs : List ℤ) (a b c : Value) (u : ListDefinitions) (
   -- by the codes of the operands' kinds
   module _ {i j l k : ℕ} (p : i ≡ codeOfValue a) (q : j ≡ codeOfValue b) (r : l ≡ codeOfValue c)
       (g : KindsGiven o n (take n (kindAt i ∷ kindAt j ∷ kindAt l ∷ [])) k) where
-    kinds-are : kindCall o n (map kindOf (taken is vs a b c n)) ≡ decoded k
+    kinds-are : kindCall o n (map kindOf (firstOf is vs n a b c)) ≡ decoded k
     kinds-are = ap (kindCall o n) (codes-are is vs n a b c i j l p q r) ∙ sym (g .answered)
 
-    pub call-computes : k < 5 → call u o n (taken is vs a b c n) ≡ compute u o (taken is vs a b c n) (kindAt k)
-    call-computes h = call-gives u o n (taken is vs a b c n) (kindAt k) (kinds-are ∙ decoded-kind k h)
+    pub call-computes : k < 5 → call u o n (firstOf is vs n a b c) ≡ compute u o (firstOf is vs n a b c) (kindAt k)
+    call-computes h = call-gives u o n (firstOf is vs n a b c) (kindAt k) (kinds-are ∙ decoded-kind k h)
 
-    pub call-stops : 4 < k → call u o n (taken is vs a b c n) ≡ refuses k
-    call-stops h = call-refuses u o n (taken is vs a b c n) k (kinds-are ∙ decoded-no k h)
+    pub call-stops : 4 < k → call u o n (firstOf is vs n a b c) ≡ refuses k
+    call-stops h = call-refuses u o n (firstOf is vs n a b c) k (kinds-are ∙ decoded-no k h)
 
-  pub call-applies : 1 ≤ n → operandCount o ≡ n → call u o n (taken is vs a b c n) ≡ applyOp u o (taken is vs a b c n)
+  pub call-applies : 1 ≤ n → operandCount o ≡ n → call u o n (firstOf is vs n a b c) ≡ applyOp u o (firstOf is vs n a b c)
   unfolding call
   call-applies h e = let t = takes o n h e in rw (t .is-known, t .arity-is, eq-eqb n n refl)
 

@@ -12,7 +12,7 @@ use Rattle.slices.specs.Filled.{fill}
 use Rattle.slices.proofs.Filled.{fill-nothing}
 use Rattle.ink_value.specs.Val.{Val, bool, int, float, void}
 use Rattle.ink_value.specs.Convert.{entriesOf}
-use Rattle.ink_value.specs.Value.{valOf, codeOfValue, startOf, lenOf, setIn, placedVal, Formed, FirstFormed, Gave}
+use Rattle.ink_value.specs.Value.{valOf, codeOfValue, startOf, lenOf, setIn, placedVal, Formed, FirstFormed, Gave, firstOf}
 use Rattle.ink_value.specs.declared.Value.{Value}
 use Rattle.ink_value.specs.declared.Value.the-variants as Is
 use Rattle.ink_value.specs.declared.Outcome.the-variants as Out
@@ -23,7 +23,7 @@ use Rattle.list_operators.proofs.Listing.{entries-rise}
 use Rattle.pack.specs.Read.{PackLists}
 use Rattle.pack.specs.declared.format.Format.{Format}
 use Rattle.machine.specs.Machine.{stackLimit}
-use Rattle.operating.specs.Stacked.{workLimit, placedAt, Put, taken, startAt, Answered}
+use Rattle.operating.specs.Stacked.{workLimit, placedAt, Put, startAt, Answered}
 use Rattle.operating.specs.declared.Step.the-variants as St
 
 -- a place of the stack has room for a list
@@ -72,11 +72,11 @@ module _ (F : Format) (is : List ℕ) (vs : List ℤ) (v : Value) (f : Formed (F
 
 -- a List that its operator made in lent slices stands there well formed
 pub made-formed : (F : Format) (ends : List ℕ) (defined : List ℤ) (o n : ℕ) (a b c v : Value) (wi : List ℕ) (wv : List ℤ) (oi oi′ : List ℕ) (ov ov′ : List ℤ)
-    → Gave (gives (listResult (definitions ends defined (F .limit)) o (taken wi wv a b c n))) (Out.Value v) oi oi′ ov ov′
+    → Gave (gives (listResult (definitions ends defined (F .limit)) o (firstOf wi wv n a b c))) (Out.Value v) oi oi′ ov ov′
     → PackLists (F .limit) ends defined → FirstFormed (F .limit) wi wv n a b c → F .limit ≤ length oi → F .limit ≤ length ov → Formed (F .limit) oi′ ov′ v
 made-formed F ends defined o n a b c v wi wv oi oi′ ov ov′ g t f hi hv =
     let u = definitions ends defined (F .limit) in
-    let vs = taken wi wv a b c n in
+    let vs = firstOf wi wv n a b c in
     let up = entries-rise u (F .limit) (t .within) o vs (first-wf (F .limit) wi wv n a b c f) in
     let s : v ≡ placedVal (listResult u o vs) = cc in
     subst (Formed (F .limit) oi′ ov′) (sym s) (formed-back (F .limit) _ (entriesFor u o vs) (Out.Value v) oi oi′ ov ov′ g up hi hv)

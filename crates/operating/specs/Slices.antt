@@ -1,7 +1,6 @@
 -- The words of the contracts of an operator, of lent slices. In an `ensures` a slice is what it was at entry and what it is at exit.
 -- Assumes nothing.
 -- For inner steps alone: no entry point's contract cites it.
-use mathlib.Core.List.{List}
 use Prim.Native.Nat.{ℕ}
 use denote.Ref.{now}
 use lib.IntN.{ℤ}
@@ -12,7 +11,7 @@ use Rattle.ink_value.specs.Val.{Val}
 use Rattle.ink_value.specs.Value.{Formed}
 use Rattle.ink_value.specs.declared.Value.{Value}
 use Rattle.pack.specs.declared.format.Format.{Format}
-use Rattle.operating.specs.Stacked.{startAt, Put, Answered, taken}
+use Rattle.operating.specs.Stacked.{startAt, Put, Answered}
 use Rattle.operating.specs.declared.Step.{Step}
 
 -- a value that two slices hold well formed is put into two others, from `to` on, in every format
@@ -28,7 +27,3 @@ PutIn F x place r wi wv = Put F x (startAt F place) r (now (wi .entry)) (now (wi
 -- the answer is put at a place of the stack, its entries in the work slices; or it is a no, and nothing is written
 abbrev pub AnsweredIn : Format → Answer Val → ℕ → Step → Slice ℕ → Slice ℤ → Type 0
 AnsweredIn F a place r wi wv = Answered F a place r (now (wi .entry)) (now (wi .exit)) (now (wv .entry)) (now (wv .exit))
-
--- the first n of three operands, as the work slices hold them
-abbrev pub takenIn : Slice ℕ → Slice ℤ → Value → Value → Value → ℕ → List Val
-takenIn wi wv a b c n = taken (now (wi .entry)) (now (wv .entry)) a b c n

@@ -2,16 +2,15 @@
 -- Assumes nothing.
 -- For inner steps: no entry point's contract cites it, but for `workLimit`.
 use mathlib.Core.Path.{_≡_}
-use mathlib.Core.List.{List, [], _∷_}
+use mathlib.Core.List.{List}
 use Prim.Native.Nat.{ℕ, _*_, _≤_, _<_}
 use lib.IntN.{ℤ}
-use lib.ListN.{length, take}
+use lib.ListN.{length}
 use Rattle.ink_number.specs.Answer.{Answer, gives, refuses}
 use Rattle.ink_list.specs.Entries.{items, values, Rising}
 use Rattle.slices.specs.Filled.{fill}
 use Rattle.ink_value.specs.Val.{Val, bool, int, float, list, void}
 use Rattle.ink_value.specs.Convert.{entriesOf}
-use Rattle.ink_value.specs.Value.{valOf}
 use Rattle.ink_value.specs.declared.Value.{Value}
 use Rattle.ink_value.specs.declared.Value.the-variants as Is
 use Rattle.pack.specs.Format.{Runnable}
@@ -54,10 +53,6 @@ pub record Put (F : Format) (x : Val) (at : ℕ) (r : Value) (oi oi′ : List �
   pub rising : Rising (F .limit) (entriesOf x)
 
 -- ---- an operator
-
--- the first n of three operands, their entries in two slices
-abbrev pub taken : List ℕ → List ℤ → Value → Value → Value → ℕ → List Val
-taken wi wv a b c n = take n (valOf wi wv a ∷ valOf wi wv b ∷ valOf wi wv c ∷ [])
 
 -- a no: the question's number, and nothing is written
 pub record Refuses {X : Type 0} (a : Answer X) (q : ℕ) (wi wi′ : List ℕ) (wv wv′ : List ℤ) : Type 0 where

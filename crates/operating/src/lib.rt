@@ -23,7 +23,8 @@ ghost use Rattle.list_operators.specs.Lists.{listResult, definitionsIn};
 ghost use Rattle.machine.specs.Machine.{stackLimit};
 ghost use Rattle.operating.specs.Stacked.{Bare, Roomy};
 ghost use Rattle.pack.specs.Read.{PackLists};
-ghost use Rattle.operating.specs.Slices.{StoredIn, PutIn, AnsweredIn, takenIn};
+ghost use Rattle.ink_value.specs.Slices.{firstIn};
+ghost use Rattle.operating.specs.Slices.{StoredIn, PutIn, AnsweredIn};
 
 // What an instruction does to the stack: a value is put at a place, which is then the top; or a question says no.
 pub enum Step {
@@ -91,7 +92,7 @@ fn scalar_result(
 ) -> Step
     requires { ⌜ (kind ≡ 3 → ⊥) × (1 ≤ n) × (n ≤ 2) × (place < stackLimit) ⌝ }
     requires { ⌜ Formed itemNumbers (now items) (now values) a × (n ≡ 2 → Formed itemNumbers (now items) (now values) b) ⌝ }
-    ensures { λ r. ⌜ ((u : ListDefinitions) (c : Value) → Bare (compute u op (takenIn items values a b c n) (kindAt kind)) place r) ⌝ }
+    ensures { λ r. ⌜ ((u : ListDefinitions) (c : Value) → Bare (compute u op (firstIn items values n a b c) (kindAt kind)) place r) ⌝ }
 {
     let ka = ink_value::kind(a);
     let za = ink_value::whole_in(a);
@@ -150,7 +151,7 @@ fn list_through(
     requires { ⌜ FirstFormed (format .limit) (now «work_items») (now «work_values») count a b c ⌝ }
     requires { ⌜ (format .limit ≤ length (now items)) × (format .limit ≤ length (now values)) ⌝ }
     ensures { λ r. ⌜ PutIn format (listResult (definitionsIn ends defined (format .limit)) op
-        (takenIn «work_items» «work_values» a b c count)) place r «work_items» «work_values» ⌝ }
+        (firstIn «work_items» «work_values» count a b c)) place r «work_items» «work_values» ⌝ }
 {
     let v = list_operators::list(
         op,
@@ -188,7 +189,7 @@ fn list_result(
         × (1 ≤ count) × (count ≤ 3) × (place < stackLimit) ⌝ }
     requires { ⌜ FirstFormed (format .limit) (now «work_items») (now «work_values») count a b c ⌝ }
     ensures { λ r. ⌜ PutIn format (listResult (definitionsIn ends defined (format .limit)) op
-        (takenIn «work_items» «work_values» a b c count)) place r «work_items» «work_values» ⌝ }
+        (firstIn «work_items» «work_values» count a b c)) place r «work_items» «work_values» ⌝ }
 {
     if format.limit <= SHORT_LIMIT {
         let mut items = [0u16; SHORT_LIMIT];
@@ -246,7 +247,7 @@ pub fn operate(
         × (place < stackLimit) × (op < 32) × (count ≡ operandCount op) × (1 ≤ count) ⌝ }
     requires { ⌜ FirstFormed (format .limit) (now «work_items») (now «work_values») count a b c ⌝ }
     ensures { λ r. ⌜ AnsweredIn format (call (definitionsIn ends defined (format .limit)) op count
-        (takenIn «work_items» «work_values» a b c count)) place r «work_items» «work_values» ⌝ }
+        (firstIn «work_items» «work_values» count a b c)) place r «work_items» «work_values» ⌝ }
 {
     let kind = operator_kinds::answer(
         op,

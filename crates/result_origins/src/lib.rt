@@ -5,9 +5,9 @@ ghost use mathlib.Core.Path.{_≡_};
 ghost use mathlib.Core.List.{List, [], _∷_};
 ghost use Prim.Native.Nat.{ℕ, _≤_};
 ghost use lib.IntN.{ℤ};
-ghost use lib.ListN.{length, take};
+ghost use lib.ListN.{length};
 ghost use Rattle.ink_list.specs.Entries.{itemNumbers, Ascends};
-ghost use Rattle.ink_value.specs.Value.{valOf};
+ghost use Rattle.ink_value.specs.Value.{valOf, firstOf};
 ghost use Rattle.ink_value.specs.declared.Value.{Value};
 ghost use Rattle.result_origins.specs.Origins.{originsKept, originsAfter};
 
@@ -28,7 +28,7 @@ fn origins_kept(op: u8, a: Value, b: Value) -> u64
 pub fn origins_after(op: u8, count: usize, a: Value, b: Value, items: &[u16], ends: &[u16]) -> u64
     requires { ⌜ Ascends 0 itemNumbers (now items) × (length (now ends) ≤ 64) ⌝ }
     ensures { λ r. ⌜ ((is : List ℕ) (vs : List ℤ) (c : Value)
-        → r ≡ originsAfter (now (ends .entry)) op (take count (valOf is vs a ∷ valOf is vs b ∷ valOf is vs c ∷ [])) (now (items .entry))) ⌝ }
+        → r ≡ originsAfter (now (ends .entry)) op (firstOf is vs count a b c) (now (items .entry))) ⌝ }
 {
     if 0 < items.len() {
         return list_definitions::origins_of(items, ends);

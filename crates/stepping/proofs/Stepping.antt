@@ -9,7 +9,7 @@ use lib.IntN.{ℤ}
 use lib.ListN.{length, getD, List·getD-map}
 use Rattle.ink_number.specs.Answer.{Answer, gives, ask}
 use Rattle.ink_value.specs.Val.{Val, void}
-use Rattle.ink_value.specs.Value.{valOf}
+use Rattle.ink_value.specs.Value.{valOf, firstOf}
 use Rattle.ink_value.specs.declared.Value.{Value}
 use Rattle.ink_value.specs.declared.Value.the-variants as Is
 use Rattle.slices.proofs.Lists.{ap3}
@@ -26,7 +26,7 @@ use Rattle.machine.specs.Machine.{stackLimit, topped, stepOp, stepPush, step}
 use Rattle.machine.specs.Stack.{stackOf}
 use Rattle.machine.proofs.Stack.{op-unknown, op-few, op-one, op-two, op-three, stack-length, getD-any}
 use Rattle.stepping.specs.Steps.{StepCase, Steps, Operands, pushed, Inputs}
-use Rattle.operating.specs.Stacked.{AnswerCase, Answered, taken, startAt, Put}
+use Rattle.operating.specs.Stacked.{AnswerCase, Answered, startAt, Put}
 use Rattle.operating.specs.declared.Step.{Step}
 use Rattle.operating.specs.declared.Step.the-variants as St
 use Rattle.operating.proofs.Operating.{call-applies}
@@ -60,7 +60,7 @@ push-topped n x f = rw (stack-length f n) (go (ltb n stackLimit))
 -- an operator's operands are the topmost
 module _ (wi : List ℕ) (wv : List ℤ) (a b c : Value) (f : ℕ → Val) (u : ListDefinitions) (o n : ℕ) where
   pub operands-topped : (count : ℕ) → Operands wi wv a b c n count f → operandCount o ≡ count → 1 ≤ count → count ≤ n
-      → topped (stackOf f (n - count)) (call u o count (taken wi wv a b c count)) ≡ stepOp (applyOp u) o (stackOf f n)
+      → topped (stackOf f (n - count)) (call u o count (firstOf wi wv count a b c)) ≡ stepOp (applyOp u) o (stackOf f n)
   operands-topped zero t e h l = absurd (omega arith)
   operands-topped (suc zero) t e h l =
       let x : valOf wi wv a ≡ f (n - 1) = sym (t .one h l) in

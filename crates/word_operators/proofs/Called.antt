@@ -11,7 +11,7 @@ use Rattle.ink_number.specs.Answer.{refuses}
 use Rattle.ink_list.specs.Entries.{itemNumbers}
 use Rattle.slices.proofs.Every.{and-both}
 use Rattle.ink_value.specs.Val.{Val, kindOf, kindAt}
-use Rattle.ink_value.specs.Value.{valOf, Formed, FirstFormed}
+use Rattle.ink_value.specs.Value.{valOf, Formed, FirstFormed, firstOf}
 use Rattle.ink_value.specs.declared.Value.{Value}
 use Rattle.ink_value.proofs.Reading.{formed-limit}
 use Rattle.operator_kinds.specs.Kinds.{kindCall, decoded}
@@ -41,7 +41,7 @@ module _ (L : ℕ) (some : 1 ≤ L) (small : L < itemNumbers) (ends : List ℕ) 
     (t : PackLists L ends defined) (ok : operandsOk (definitions ends defined L) is vs (take n (a ∷ b ∷ c ∷ [])) ≡ true)
     (hi : L ≤ length oi) (hv : L ≤ length ov) where
   abbrev pub operandVals : List Val
-  operandVals = take n (valOf is vs a ∷ valOf is vs b ∷ valOf is vs c ∷ [])
+  operandVals = firstOf is vs n a b c
 
   pub room : Room (definitions ends defined L) oi ov
   room = record { tables = t .tables; few = t .few; within = t .within; some = some; small = small; items-room = hi; values-room = hv }

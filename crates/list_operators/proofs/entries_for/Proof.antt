@@ -1,11 +1,9 @@
 -- `list_operators::entries_for` meets its contract. Assumes nothing.
 use mathlib.Core.Path.{_≡_, ap}
-use mathlib.Core.List.{[], _∷_}
 use Prim.Native.Nat.{ℕ, _≤_}
 use native.Mathlib.Omega.{arith}
-use lib.ListN.{take}
 use Rattle.ink_list.specs.Entries.{room}
-use Rattle.ink_value.specs.Value.{valOf}
+use Rattle.ink_value.specs.Value.{firstOf}
 use Rattle.ink_value.proofs.Reading.{formed-limit, wrote-is}
 use Rattle.list_operators.specs.Lists.{definitions, entriesFor}
 use borrow.Author.Needs.{needs}
@@ -28,7 +26,7 @@ returns c =
     let s = c .before .before .before .before .before .before .before .before .before .before in
     let is = s .args .items .now in
     let vs = s .args .values .now in
-    wrote-is (ap (λ (n : ℕ). entriesFor (definitions (s .args .ends .now) (s .args .defined .now) (s .args .limit)) (s .args .op) (take n (valOf is vs (s .args .a) ∷ valOf is vs (s .args .b) ∷ valOf is vs (s .args .c) ∷ []))) (c .before .before .before .before .before .before .if1 .taken)) (c .before .before .before .list1 .ensures)
+    wrote-is (ap (λ (n : ℕ). entriesFor (definitions (s .args .ends .now) (s .args .defined .now) (s .args .limit)) (s .args .op) (firstOf is vs n (s .args .a) (s .args .b) (s .args .c))) (c .before .before .before .before .before .before .if1 .taken)) (c .before .before .before .list1 .ensures)
 
 list2-requires : tie.Need-list2-requires
 list2-requires c κs =
@@ -47,7 +45,7 @@ returns-2 c =
     let s = c .before .before .before .before .before .before .before .before .before .before .before in
     let is = s .args .items .now in
     let vs = s .args .values .now in
-    wrote-is (ap (λ (n : ℕ). entriesFor (definitions (s .args .ends .now) (s .args .defined .now) (s .args .limit)) (s .args .op) (take n (valOf is vs (s .args .a) ∷ valOf is vs (s .args .b) ∷ valOf is vs (s .args .c) ∷ []))) (c .before .before .before .before .before .before .if2 .taken)) (c .before .before .before .list2 .ensures)
+    wrote-is (ap (λ (n : ℕ). entriesFor (definitions (s .args .ends .now) (s .args .defined .now) (s .args .limit)) (s .args .op) (firstOf is vs n (s .args .a) (s .args .b) (s .args .c))) (c .before .before .before .before .before .before .if2 .taken)) (c .before .before .before .list2 .ensures)
 
 range-requires : tie.Need-range-requires
 range-requires c κs =
@@ -73,7 +71,7 @@ returns-3 c =
     let is = s .args .items .now in
     let vs = s .args .values .now in
     let three : s .args .count ≡ 3 = omega (arith, c .before .before .before .before .before .before .before .if1 .left, c .before .before .before .before .before .before .if2 .left, s .pre .1 .1 .0, s .pre .1 .1 .1) in
-    wrote-is (ap (λ (n : ℕ). entriesFor (definitions (s .args .ends .now) (s .args .defined .now) (s .args .limit)) (s .args .op) (take n (valOf is vs (s .args .a) ∷ valOf is vs (s .args .b) ∷ valOf is vs (s .args .c) ∷ []))) three)
+    wrote-is (ap (λ (n : ℕ). entriesFor (definitions (s .args .ends .now) (s .args .defined .now) (s .args .limit)) (s .args .op) (firstOf is vs n (s .args .a) (s .args .b) (s .args .c))) three)
     (c .before .before .before .range .ensures (s .args .limit) (s .pre .1 .0 .one (s .pre .1 .1 .0)))
 
 pub entries-for-spec : {M : Type 1} → statement M

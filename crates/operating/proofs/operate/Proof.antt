@@ -3,12 +3,12 @@
 use mathlib.Core.Path.{_≡_, refl, ap, _∙_}
 use Prim.Native.Nat.{ℕ}
 use native.Mathlib.Omega.{arith}
+use Rattle.ink_value.specs.Value.{firstOf}
 use Rattle.ink_list.specs.Entries.{itemNumbers}
 use Rattle.ink_value.specs.Val.{kindAt}
 use Rattle.native_function_call.specs.Apply.{compute}
 use Rattle.list_operators.specs.Lists.{definitions}
 use Rattle.ink_value.proofs.Reading.{formed-limit}
-use Rattle.operating.specs.Stacked.{taken}
 use Rattle.operating.proofs.Operating.{call-computes, call-stops, answered-is}
 use Rattle.operating.proofs.Putting.{result-put}
 use borrow.Author.Needs.{needs}
@@ -56,7 +56,7 @@ returns-2 c =
     let vs = s .args .work-values .now in
     let u = definitions (s .args .ends .now) (s .args .defined .now) (s .args .format .limit) in
     let few = c .before .before .before .before .before .before .before .if1 .left in
-    let e = call-computes is vs (s .args .a) (s .args .b) (s .args .c) u (s .args .op) (s .args .count) (c .before .before .before .before .before .before .before .before .before .before .before .kind .ensures .0) (c .before .before .before .before .before .before .before .before .before .before .kind2 .ensures .0) (c .before .before .before .before .before .before .before .before .before .kind3 .ensures .0) (c .before .before .before .before .before .before .before .before .answer .ensures) (omega arith) ∙ ap (λ (j : ℕ). compute u (s .args .op) (taken is vs (s .args .a) (s .args .b) (s .args .c) (s .args .count)) (kindAt j)) (c .before .before .before .before .before .before .if2 .taken) in
+    let e = call-computes is vs (s .args .a) (s .args .b) (s .args .c) u (s .args .op) (s .args .count) (c .before .before .before .before .before .before .before .before .before .before .before .kind .ensures .0) (c .before .before .before .before .before .before .before .before .before .before .kind2 .ensures .0) (c .before .before .before .before .before .before .before .before .before .kind3 .ensures .0) (c .before .before .before .before .before .before .before .before .answer .ensures) (omega arith) ∙ ap (λ (j : ℕ). compute u (s .args .op) (firstOf is vs (s .args .count) (s .args .a) (s .args .b) (s .args .c)) (kindAt j)) (c .before .before .before .before .before .before .if2 .taken) in
     result-put _ _ _ _ _ _ _ _ (s .pre .0 .2) e (c .before .before .before .list-result .ensures)
 
 scalar-result-requires : tie.Need-scalar-result-requires
