@@ -146,6 +146,7 @@ EMPTIED = [
     (sheet(BOTH, BOTH, SUBTRACT, BOTH, ADD, INVERT), 'L 3 1=2 2=3 4=20'),
     (sheet(BOTH, BOTH, SUBTRACT, BOTH, BOTH, SUBTRACT, ADD, INVERT), 'L 0'),  # nor an empty union
     (sheet(WIDE, RIGHT, INTERSECT, INVERT), 'L 0'),  # nor Intersect
+    (sheet(BOTH, ALL, INVERT, INVERT), 'L 0'),  # nor Invert
     (sheet(BOTH, BOTH, SUBTRACT, LIST_MAX, INVERT), 'L 0'),
     (sheet(BOTH, BOTH, SUBTRACT, integer(0), integer(9), RANGE, INVERT), 'L 0'),
     (sheet(BOTH, BOTH, SUBTRACT, COUNT), 'I 0'),

@@ -1,2 +1,3 @@
--- The laws of the work on a sheet's instructions.
+-- The laws of the work on a sheet's instructions, and of what a run ends in.
 pub mod Working
+pub mod Formed
