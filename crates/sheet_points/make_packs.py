@@ -1,5 +1,6 @@
 #!/usr/bin/env python3
-"""Writes the sample packs of sheet_points to the file stdin beside this script, and what document 01 says of each sheet to the file stdout.
+"""Writes the sample packs of sheet_points to the file stdin beside this script, and what document 01 says of each sheet to the file stdout;
+the pack of sheets on a List in slot 0 goes to src/slot_pack.rt.
 Each pack comes after its name; a name after its length of one byte, a pack after its length of three, little-endian."""
 import os
 import struct
@@ -151,6 +152,15 @@ EMPTIED = [
     (sheet(BOTH, BOTH, SUBTRACT, integer(0), integer(9), RANGE, INVERT), 'L 0'),
     (sheet(BOTH, BOTH, SUBTRACT, COUNT), 'I 0'),
 ]
+# on a List in slot 0, items 0 and 1 with the origins of both definitions (src/main.rt has it); literal 0 is item 0
+SLOT = slot(0)
+SLOT_LITERALS = [(1, [(0, 1)])]
+SLOTS = [
+    (sheet(SLOT, SLOT, SUBTRACT, INVERT), WHOLE),
+    (sheet(SLOT, literal(0), SUBTRACT, INVERT), 'L 2 0=1 2=3'),  # something left
+    (sheet(SLOT, SLOT, SUBTRACT, SLOT, SUBTRACT, INVERT), WHOLE),
+    (sheet(SLOT, SLOT, SUBTRACT, integer(1), ADD, INVERT), 'L 0'),
+]
 DOCUMENT = bytes.fromhex(
     '01010102 14000d00 21000d00 2e000800 36000b00 03 01000000 02000000 03000000 0100000000000000 01 02000000'
     ' 2300 21 01000000 00 21 07000000 21 00000000 02')
@@ -188,3 +198,12 @@ with open(os.path.join(HERE, 'stdin'), 'wb') as packs, open(os.path.join(HERE, '
             continue
         lines.write('sheets %d\n' % len(answers))
         lines.writelines('%d %s\n' % (k, a) for k, a in enumerate(answers))
+    lines.write('a list in slot 0:\n')
+    lines.writelines('%d %s\n' % (k, a) for k, (_, a) in enumerate(SLOTS))
+
+with open(os.path.join(HERE, 'src', 'slot_pack.rt'), 'w') as source:
+    slot_pack, _ = sheets(SLOTS, SLOT_LITERALS)
+    source.write('// The pack of sheets on a List in slot 0; make_packs.py writes it.\n')
+    source.write('pub const PACK: [u8; %d] = [\n' % len(slot_pack))
+    source.writelines('    %d,\n' % b for b in slot_pack)
+    source.write('];\n')

@@ -28,10 +28,16 @@ fn answer(o: Output, out: &mut [u8], r: Ran, items: &[u16], values: &[i32]) -> O
     }
 }
 
-// The line of one sheet.
-fn sheet_line(o: Output, out: &mut [u8], pack: &[u8], sheet: usize) -> Output {
-    let no_items = [0u16; 1];
-    let no_values = [0i32; 1];
+// The line of one sheet, run on these slots, whose lists' entries stand in the two slices.
+pub fn sheet_line(
+    o: Output,
+    out: &mut [u8],
+    pack: &[u8],
+    sheet: usize,
+    slots: [Value; 16],
+    slot_items: &[u16],
+    slot_values: &[i32],
+) -> Output {
     let mut work_items = [0u16; WORK_LIMIT];
     let mut work_values = [0i32; WORK_LIMIT];
     let mut items = [0u16; ITEM_LIMIT];
@@ -39,15 +45,30 @@ fn sheet_line(o: Output, out: &mut [u8], pack: &[u8], sheet: usize) -> Output {
     let r = run_bytes::run(
         pack,
         sheet,
-        [Value::Void; 16],
-        &no_items,
-        &no_values,
+        slots,
+        slot_items,
+        slot_values,
         &mut work_items,
         &mut work_values,
         &mut items,
         &mut values,
     );
     answer(natural(o, out, sheet as u64), out, r, &items, &values).text(out, b"\n")
+}
+
+// The same with all slots Void.
+fn void_line(o: Output, out: &mut [u8], pack: &[u8], sheet: usize) -> Output {
+    let no_items = [0u16; 1];
+    let no_values = [0i32; 1];
+    sheet_line(
+        o,
+        out,
+        pack,
+        sheet,
+        [Value::Void; 16],
+        &no_items,
+        &no_values,
+    )
 }
 
 // How many sheets there are.
@@ -65,7 +86,7 @@ fn sheet_lines(o: Output, out: &mut [u8], pack: &[u8]) -> Output
         if told.failed {
             return told;
         }
-        told = sheet_line(told, out, pack, s);
+        told = void_line(told, out, pack, s);
         s += 1;
     }
     told

@@ -27,8 +27,8 @@ same-length c = search needs
 returns : tie.Need-returns Inv-loop μ-loop
 returns c = search needs
 
-sheet-line-requires : tie.Need-sheet-line-requires Inv-loop μ-loop
-sheet-line-requires c κs = search needs
+void-line-requires : tie.Need-void-line-requires Inv-loop μ-loop
+void-line-requires c κs = search needs
 
 add-s : tie.Need-add-s Inv-loop μ-loop
 add-s c = search needs
@@ -56,7 +56,7 @@ sheet-lines-spec =
     loop-holds
     same-length
     returns
-    sheet-line-requires
+    void-line-requires
     add-s
     loop-less
     loop-again
