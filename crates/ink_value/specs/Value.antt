@@ -172,10 +172,12 @@ AllWf limit (v ∷ vs) = Wf limit v × AllWf limit vs
 abbrev pub InPack : ℕ → ℕ → Val → Type 0
 InPack total d v = formed total d (originsIn v) (items (entriesOf v)) ≡ true
 
+-- each of these is
 abbrev pub AllInPack : ℕ → ℕ → List Val → Type 0
 AllInPack total d [] = Unit {0}
 AllInPack total d (v ∷ vs) = InPack total d v × AllInPack total d vs
 
+-- the value that is answered is, if one is
 abbrev pub GivesInPack : ℕ → ℕ → Answer Val → Type 0
 GivesInPack total d (gives v) = InPack total d v
 GivesInPack total d (refuses r) = Unit {0}

@@ -8,7 +8,8 @@ use Rattle.list_definitions.specs.Defs.{originsOf}
 use Rattle.ink_value.specs.Val.{Val, kindOf, isList}
 use Rattle.ink_value.specs.Convert.{originsIn}
 
--- the set that a result without items keeps: "Subtract on two Lists with an empty result now keeps the left operand's origin set", others none
+-- the set that a result without items keeps: "Subtract on two Lists with an empty result now keeps the left operand's origin set". Others keep
+-- none, and a left operand that is no List has none
 unfoldable pub originsKept : ℕ → List Val → ℕ
 originsKept o [] = 0
 originsKept o (a ∷ []) = 0
