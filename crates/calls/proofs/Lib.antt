@@ -2,3 +2,4 @@
 pub mod Forms
 pub mod Standing
 pub mod Formed
+pub mod Again
