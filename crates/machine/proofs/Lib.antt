@@ -1,4 +1,4 @@
--- Demand 3, and the laws that vetting and running cite.
+-- Demand 3, and the laws that vetting and running cite; Emptied has the run of request 02.3.
 pub mod Demand
 pub mod Whole
 pub mod Numbers
