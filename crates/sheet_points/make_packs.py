@@ -8,7 +8,7 @@ import struct
 HERE = os.path.dirname(os.path.abspath(__file__))
 
 ADD, SUBTRACT, DIVIDE, MULTIPLY, MOD, NEGATE, EQUAL, GREATER, LESS = range(9)
-NOT, AND, OR, MIN, MAX = range(12, 17)
+NOT_EQUALS, NOT, AND, OR, MIN, MAX = range(11, 17)
 TO_INT, TO_FLOAT, HAS, HASNT, INTERSECT, LIST_MIN, LIST_MAX, ALL, COUNT, VALUE_OF_LIST, INVERT, RANGE = range(20, 32)
 VOID = bytes([37])
 
@@ -87,7 +87,6 @@ ENDS = [
     (sheet(integer(1), integer(1), HAS), 'R 13 2'),
     (sheet(ONE, NEGATE), 'R 13 1'),
     (sheet(integer(1), integer(1), integer(1), RANGE), 'R 13 3'),
-    (sheet(ONE, ONE, EQUAL), 'R 14 2'),
     (sheet(integer(7), integer(0), DIVIDE), 'R 15 2'),
     (sheet(integer(LOWEST), integer(-1), MOD), 'R 15 2'),
 ]
@@ -122,6 +121,29 @@ LISTS = [
     (sheet(EMPTY, NOT), 'I 1'),
     (sheet(ONE, boolean(1), AND), 'B 1'),
     (sheet(ONE, ALL, INVERT, OTHER, ADD, COUNT, integer(0), DIVIDE), 'R 15 7'),
+]
+# literals of its own: OTHERWISE has items 0 and 2 with other values and origins, FIRST the first of them alone, NEAR as many
+OTHERWISE, FIRST, NEAR, NO_ITEMS, NO_ITEMS_OF_BOTH = [literal(n) for n in range(1, 6)]
+EQUAL_LITERALS = [(1, [(0, 1), (2, 3)]), (2, [(0, 9), (2, -3)]), (1, [(0, 1)]), (1, [(0, 1), (1, 2)]), (0, []), (3, [])]
+EQUALITY = [
+    (sheet(ONE, ONE, EQUAL), 'B 1'),
+    (sheet(ONE, ONE, NOT_EQUALS), 'B 0'),
+    (sheet(ONE, OTHERWISE, EQUAL), 'B 1'),  # values and origins are not looked at
+    (sheet(ONE, OTHERWISE, NOT_EQUALS), 'B 0'),
+    (sheet(ONE, FIRST, EQUAL), 'B 0'),  # a part is not the same
+    (sheet(FIRST, ONE, EQUAL), 'B 0'),
+    (sheet(FIRST, ONE, NOT_EQUALS), 'B 1'),
+    (sheet(ONE, NEAR, EQUAL), 'B 0'),  # nor as many
+    (sheet(NO_ITEMS, NO_ITEMS_OF_BOTH, EQUAL), 'B 1'),
+    (sheet(NO_ITEMS, ONE, EQUAL), 'B 0'),
+    (sheet(ONE, NO_ITEMS, NOT_EQUALS), 'B 1'),
+    (sheet(ONE, ONE, SUBTRACT, NO_ITEMS, EQUAL), 'B 1'),  # an emptied list, which has other origins than an empty one
+    (sheet(FIRST, ONE, ADD, OTHERWISE, EQUAL), 'B 1'),
+    (sheet(ONE, OTHERWISE, INTERSECT, ONE, EQUAL), 'B 1'),
+    (sheet(ONE, INVERT, INVERT, ONE, EQUAL), 'B 1'),
+    (sheet(ONE, ONE, EQUAL, ONE, EQUAL), 'R 12 4'),  # a Bool beside a List
+    (sheet(ONE, integer(2), NOT_EQUALS), 'R 12 2'),
+    (sheet(ONE, VOID, EQUAL), 'R 11 2'),
 ]
 # literals of its own: BOTH has items of both definitions, WIDE a wider set than its item, NARROW a narrower one
 BOTH, WIDE, NARROW = literal(0), literal(1), literal(2)
@@ -185,6 +207,7 @@ def samples():
     yield ('ends', *sheets(ENDS))
     yield ('numbers', *sheets(NUMBERS))
     yield ('lists', *sheets(LISTS))
+    yield ('equal lists', *sheets(EQUALITY, EQUAL_LITERALS))
     yield ('emptied lists', *sheets(EMPTIED, EMPTIED_LITERALS))
 
 

@@ -18,11 +18,11 @@
  * A List's entries are `length` places from `start` on of two slices that are passed beside the value: item numbers, and the items'
  * values. Its origin set has bit i for definition i. The List of an answer starts at place 0 of the two result slices and has at most 256
  * entries. An operator's List has the origins of its items; where Subtract of two Lists leaves nothing, it keeps the left one's set, so
- * that All and Invert of it give that set's items. Any other three words are no value: question 7 says no to them, where the call gets
- * to it.
+ * that All and Invert of it give that set's items. Two Lists are equal where they have the same items: their values and origin sets are
+ * not compared. Any other three words are no value: question 7 says no to them, where the call gets to it.
  *
- * ANSWERS. A function returns 0 and writes a value to `answer`; or it returns the number of the question that said no (1 to 15, 17 or 18),
- * and writes {index, 0, 0}, the index being the instruction's (0 for questions 1 to 7 and 18 and for all direct calls).
+ * ANSWERS. A function returns 0 and writes a value to `answer`; or it returns the number of the question that said no (1 to 13, 15, 17 or
+ * 18), and writes {index, 0, 0}, the index being the instruction's (0 for questions 1 to 7 and 18 and for all direct calls).
  *
  * MEMORY. The library keeps nothing, allocates nothing and has no state: whatever is passed stays the caller's, is read and written
  * during the call alone, and calls on different memory may run at the same time. A pointer that comes with a length points to that many
@@ -51,7 +51,7 @@ extern "C" {
 /* Asks questions 1 to 5 of any bytes. Returns 0, or the number of the first no. Writes nothing. */
 uint32_t ink_check(const uint8_t *pack, size_t pack_len);
 
-/* Vets sheet `sheet` of any bytes for slots of sixteen kind codes: questions 1 to 14 and 17.
+/* Vets sheet `sheet` of any bytes for slots of sixteen kind codes: questions 1 to 13 and 17.
  * Passed: returns 0, writes two bytes for each instruction to the start of `forecast` (how many values are stacked after it, and the kind
  * code of the topmost) and the count of instructions to `*index`. Every run on slots of those kinds then ends in one value of the kind
  * forecast last, or stops with 15. Refused: returns the number, writes the instruction's index to `*index` and leaves `forecast`
@@ -60,7 +60,7 @@ uint32_t ink_vet(const uint8_t *pack, size_t pack_len, size_t sheet, const uint8
                  uint8_t *forecast, size_t forecast_len, uint64_t *index);
 
 /* Runs sheet `sheet` of any bytes with sixteen slots (three words each), whose Lists' entries stand in `slot_items` and `slot_values`:
- * questions 1 to 15 and 17. A List that it ends in is written to the start of the result slices; other places of them, and all of them after
+ * questions 1 to 13, 15 and 17. A List that it ends in is written to the start of the result slices; other places of them, and all of them after
  * another end or a refusal, are left as they were. The work slices are scratch: after questions 1 to 7 said yes, the first 16,384 places
  * of each are left zero and the later ones as they were; before that all are untouched. `answer` is always written. */
 uint32_t ink_run(const uint8_t *pack, size_t pack_len, size_t sheet, const uint64_t slots[48],
@@ -70,8 +70,8 @@ uint32_t ink_run(const uint8_t *pack, size_t pack_len, size_t sheet, const uint6
                  uint64_t answer[3]);
 
 /* Calls operator `op` (0 to 31; 31 is range) on the first `count` of three operands, whose Lists' entries stand in `items` and `values`:
- * questions 1 to 5, 7, 8, 10 to 15. The words of operands from `count` on are not looked at. A List is written to the result slices as by
- * ink_run. `answer` is always written. */
+ * questions 1 to 5, 7, 8, 10 to 13 and 15. The words of operands from `count` on are not looked at. A List is written to the result slices
+ * as by ink_run. `answer` is always written. */
 uint32_t ink_call(const uint8_t *pack, size_t pack_len, uint8_t op, size_t count, const uint64_t operands[9],
                   const uint16_t *items, size_t items_len, const int32_t *values, size_t values_len,
                   uint16_t *result_items, size_t result_items_len, int32_t *result_values, size_t result_values_len,

@@ -1,5 +1,7 @@
 //! The rows of docs/DIFFERENCES.md, asked of the original: `cargo test --release --offline --lib`.
 use crate::{
+    ink_list::InkList,
+    ink_list_item::InkListItem,
     native_function_call::NativeFunctionCall,
     object::RTObject,
     original::{OPS, World},
@@ -55,6 +57,16 @@ fn equality_of_lists_looks_at_items_alone() {
     assert_eq!(says(&w, 6, &[list(1, &[(0, 1)]), list(0, &[(0, 9)])]), "B 1");
     assert_eq!(says(&w, 6, &[list(0, &[]), list(3, &[])]), "B 1");
     assert_eq!(says(&w, 11, &[list(3, &[(0, 1)]), list(3, &[(2, 1)])]), "B 1");
+    // a key has its origin's name: items of one name from two definitions are two items
+    let of = |origin: &str| {
+        let mut l = InkList::new();
+        l.items.insert(InkListItem::new(Some(origin.to_string()), "x".to_string()), 1);
+        l
+    };
+    assert!(of("a") == of("a") && of("a") != of("b"));
+    // a list is not equal to one that has its items and more, on either side
+    assert_eq!(says(&w, 6, &[list(1, &[(0, 1)]), list(1, &[(0, 1), (1, 2)])]), "B 0");
+    assert_eq!(says(&w, 6, &[list(1, &[(0, 1), (1, 2)]), list(1, &[(0, 1)])]), "B 0");
 }
 
 #[test]
@@ -75,7 +87,7 @@ fn cast_to_4_is_a_string() {
 
 /// Origins, and the names remembered where there are none.
 fn names(o: &Rc<dyn RTObject>) -> (Vec<String>, Vec<String>) {
-    let l = Value::get_value::<&crate::ink_list::InkList>(o.as_ref()).unwrap();
+    let l = Value::get_value::<&InkList>(o.as_ref()).unwrap();
     let mut origins: Vec<String> = l.origins.borrow().iter().map(|d| d.get_name().to_string()).collect();
     let mut remembered = l.get_origin_names();
     origins.sort();

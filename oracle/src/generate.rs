@@ -1,5 +1,5 @@
 //! Operands: all edge scalars and lists under every operator, and random ones by seed.
-use crate::values::{CARRIED, Defs, LIST, List, RANGE, Val, arity};
+use crate::values::{CARRIED, Defs, EQUAL, LIST, List, NOT_EQUALS, RANGE, Val, arity};
 
 pub struct Rng(u64);
 
@@ -353,6 +353,26 @@ fn related(r: &mut Rng, defs: &Defs, a: &List) -> List {
     l
 }
 
+/// The same items with other values and another origin set; often with an entry less, or with another item for one.
+fn of_same_items(r: &mut Rng, defs: &Defs, a: &List) -> List {
+    let mut l = a.clone();
+    if r.chance(50) {
+        l.entries.iter_mut().for_each(|e| e.1 = random_value(r));
+    }
+    if r.chance(50) {
+        l.origins = random_list(r, defs).origins;
+    }
+    if !l.entries.is_empty() && r.chance(50) {
+        let (k, _) = l.entries.remove(r.below(l.entries.len()));
+        let other = (k + 1) % defs.items() as u16;
+        if r.chance(50) && l.entries.iter().all(|e| e.0 != other) {
+            l.entries.push((other, random_value(r)));
+            l.entries.sort();
+        }
+    }
+    l
+}
+
 pub fn random_operands(r: &mut Rng, defs: &Defs, edges: &[u32], op: u8) -> Vec<Val> {
     let n = if r.chance(1) { r.below(4) } else { arity(op) };
     let kinds: [u8; 3] = match r.below(10) {
@@ -369,7 +389,9 @@ pub fn random_operands(r: &mut Rng, defs: &Defs, edges: &[u32], op: u8) -> Vec<V
     let mut v: Vec<Val> = (0..n).map(|i| random_val(r, defs, edges, *kinds.get(i).unwrap_or(&1))).collect();
     if n >= 2 && r.chance(50) {
         if let (Val::List(a), Val::List(_)) = (&v[0], &v[1]) {
-            v[1] = Val::List(related(r, defs, &a.clone()));
+            let a = a.clone();
+            let alike = [EQUAL, NOT_EQUALS].contains(&op) && r.chance(80);
+            v[1] = Val::List(if alike { of_same_items(r, defs, &a) } else { related(r, defs, &a) });
         }
     }
     if n == 2 && op <= 1 && r.chance(90) {

@@ -210,13 +210,10 @@ impl World {
     /// The original's answer in the form the port owes it: tied items become the
     /// smallest tied item number (after checking that the item given is tied), a NaN
     /// is 7fc00000, a zero from Min or Max is the left operand, a panic is 15, and
-    /// what document 01 leaves out is refused (8, 14, 18).
+    /// what document 01 leaves out is refused (8, 18).
     pub fn call(&self, op: u8, operands: &[Val]) -> Answer {
         if !(op <= 16 || (20..=RANGE).contains(&op)) {
             return Answer::Refused(8);
-        }
-        if let (6 | 11, [Val::List(_), Val::List(_)]) = (op, operands) {
-            return Answer::Refused(14);
         }
         match self.call_raw(op, operands) {
             Answer::Panic => Answer::Refused(15),

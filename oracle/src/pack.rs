@@ -3,7 +3,7 @@
 use crate::{
     generate::{self, Rng},
     original::{World, kind},
-    values::{Answer, CARRIED, Defs, LIST, List, RANGE, SUBTRACT, VOID, Val, arity},
+    values::{Answer, BOOL, CARRIED, Defs, EQUAL, LIST, List, NOT_EQUALS, RANGE, SUBTRACT, VOID, Val, arity},
 };
 use std::fmt::Write;
 
@@ -114,7 +114,7 @@ fn parse_sheet(body: &[u8], literals: usize) -> Option<Vec<Ins>> {
 }
 
 impl Pack {
-    /// Questions 8 to 15 and 17: the value left, or (number, index).
+    /// Questions 8 to 13, 15 and 17: the value left, or (number, index).
     pub fn run(&self, sheet: usize, slots: &[Val; 16]) -> Result<Val, (u8, usize)> {
         let mut stack: Vec<Val> = Vec::new();
         for (index, ins) in self.sheets[sheet].iter().enumerate() {
@@ -315,12 +315,12 @@ fn leaf(r: &mut Rng, b: &mut Builder, slots: &SlotKinds, edges: &[u32], kind: u8
     b.push(code, &v).unwrap();
 }
 
-/// A list less itself: empty, with the list's origins.
-fn emptied(r: &mut Rng, b: &mut Builder, slots: &SlotKinds, edges: &[u32], code: &mut Vec<u8>) {
+/// A list and itself under an operator: less itself it is empty, with the list's origins.
+fn with_itself(r: &mut Rng, b: &mut Builder, slots: &SlotKinds, edges: &[u32], op: u8, code: &mut Vec<u8>) {
     let from = code.len();
     leaf(r, b, slots, edges, LIST, code);
     code.extend_from_within(from..);
-    code.push(SUBTRACT);
+    code.push(op);
 }
 
 /// An expression of the wanted kind, in the order of a sheet.
@@ -329,14 +329,18 @@ fn expression(r: &mut Rng, b: &mut Builder, slots: &SlotKinds, edges: &[u32], ki
         return leaf(r, b, slots, edges, kind, code);
     }
     if kind == LIST && r.chance(8) {
-        return emptied(r, b, slots, edges, code);
+        return with_itself(r, b, slots, edges, SUBTRACT, code);
+    }
+    if kind == BOOL && r.chance(4) {
+        let op = *r.pick(&[EQUAL, NOT_EQUALS]);
+        return with_itself(r, b, slots, edges, op, code);
     }
     let number = |r: &mut Rng| *r.pick(&[0u8, 1, 1, 1, 2, 2]);
     let any = |r: &mut Rng| *r.pick(&[0u8, 1, 2, 3]);
     let (op, operands): (u8, Vec<u8>) = match kind {
         0 => match r.below(5) {
             0 => (*r.pick(&[6, 7, 8, 9, 10, 11]), vec![number(r), number(r)]),
-            1 => (*r.pick(&[7, 8, 9, 10, 22, 23]), vec![3, 3]),
+            1 => (*r.pick(&[6, 7, 8, 9, 10, 11, 22, 23]), vec![3, 3]),
             2 => (*r.pick(&[13, 14]), vec![any(r), any(r)]),
             3 => (12, vec![number(r)]),
             _ => (*r.pick(&[22, 23]), vec![3, 3]),

@@ -45,6 +45,8 @@ pub const OP_NAMES: [&str; 32] = [
 pub const CARRIED: [u8; 29] =
     [0, 1, 2, 3, 4, 5, 6, 7, 8, 9, 10, 11, 12, 13, 14, 15, 16, 20, 21, 22, 23, 24, 25, 26, 27, 28, 29, 30, 31];
 pub const SUBTRACT: u8 = 1;
+pub const EQUAL: u8 = 6;
+pub const NOT_EQUALS: u8 = 11;
 pub const INTERSECT: u8 = 24;
 pub const ALL: u8 = 27;
 pub const INVERT: u8 = 30;

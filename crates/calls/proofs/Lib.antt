@@ -3,3 +3,4 @@ pub mod Forms
 pub mod Standing
 pub mod Formed
 pub mod Again
+pub mod Equality

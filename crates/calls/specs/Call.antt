@@ -21,7 +21,7 @@ use Rattle.pack.specs.declared.format.Format.{Format}
 use Rattle.call_memory.specs.Lent.{operandsOk, resultsOk}
 
 module _ (is : List ℕ) (vs : List ℤ) where
-  -- operator o on the first n of three operands: 7, then 8 and 10 to 15
+  -- operator o on the first n of three operands: 7, then 8, 10 to 13 and 15
   unfoldable pub called : List ℕ → List ℤ → ℕ → ℕ → List Value → ListDefinitions → Answer Val
   called oi ov o n l u = ask 7 (operandsOk u is vs (take n l) and resultsOk u oi ov) (call u o n (map (valOf is vs) (take n l)))
 

@@ -22,7 +22,7 @@ ghost use Rattle.call_memory.specs.Lent.{operandsOk, packDefinitions};
 ghost use Rattle.calls.specs.Call.{ReturnedPlain};
 ghost use Rattle.calls.specs.Slices.{calledIn, castIn, coercedIn, onPackIn, Asked, ReturnedIn};
 
-// An operator on operands of which question 7 says yes, with the definitions at hand: questions 8 and 10 to 15.
+// An operator on operands of which question 7 says yes, with the definitions at hand: questions 8, 10 to 13 and 15.
 pub fn call_formed(
     op: u8,
     count: usize,
@@ -59,7 +59,7 @@ pub fn call_formed(
     )
 }
 
-// An operator with the definitions at hand: question 7, then 8 and 10 to 15.
+// An operator with the definitions at hand: question 7, then 8, 10 to 13 and 15.
 pub fn call_with(
     op: u8,
     count: usize,

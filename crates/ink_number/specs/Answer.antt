@@ -7,9 +7,9 @@ pub data Answer {ℓ} (X : Type ℓ) : Type ℓ where
   gives : X → Answer X
   refuses : ℕ → Answer X
 
--- the numbers of the questions: 1 to 18, but for 16, which is retired
+-- the numbers of the questions: 1 to 18, but for 14 and 16, which are retired
 abbrev pub inUse : ℕ → Bool
-inUse n = ltb 0 n && ltb n 19 && not (eqb n 16)
+inUse n = ltb 0 n && ltb n 19 && not (eqb n 14) && not (eqb n 16)
 
 -- question n, and what comes after a yes: "the first "no" ends the call with its number"
 abbrev pub ask {ℓ} : {X : Type ℓ} → ℕ → Bool → Answer X → Answer X

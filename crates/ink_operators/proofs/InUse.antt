@@ -1,8 +1,8 @@
--- Every number that an exported function returns is 0 or that of a question in use, whatever it is lent; so none is 16, which is retired. By
--- the contracts alone, in every format. Assumes nothing.
-use mathlib.Core.Path.{_≡_, refl}
+-- Every number that an exported function returns is 0 or that of a question in use, whatever it is lent; so none is 14 or 16, which are
+-- retired. By the contracts alone, in every format. Assumes nothing.
+use mathlib.Core.Path.{_≡_, refl, sym, _∙_}
 use mathlib.Core.Logic.{_⊎_, inl, inr}
-use mathlib.Core.Bool.{Bool, true, cond}
+use mathlib.Core.Bool.{Bool, true, false, cond}
 use mathlib.Core.List.{List, [], _∷_, map}
 use Prim.Native.Nat.{ℕ}
 use native.Mathlib.Omega.{arith}
@@ -12,6 +12,7 @@ use lib.ListN.{take}
 use Rattle.ink_number.specs.Answer.{Answer, gives, refuses, inUse, ask}
 use Rattle.ink_number.specs.Int.{eqZ}
 use Rattle.slices.specs.Every.{_and_}
+use Rattle.slices.proofs.Every.{not-both}
 use Rattle.ink_value.specs.Val.{Val, bool, int, float, Kind, floatK, listK, kindOf, codeOf}
 use Rattle.ink_value.specs.Convert.{asInt, asFloat}
 use Rattle.ink_value.specs.Value.{valOf}
@@ -42,9 +43,16 @@ use Rattle.answer_words.specs.Answers.{ranNumber, vettedNumber, RunSays, VetSay
 abbrev pub InUse : ℕ → Type 0
 InUse n = (n ≡ 0) ⊎ (inUse n ≡ true)
 
+-- a number that is retired is none that is returned
+not-retired : (r : ℕ) → inUse r ≡ false → (r ≡ 0 → ⊥) → (n : ℕ) → InUse n → n ≡ r → ⊥
+not-retired r retired above n (inl h) e = above (sym e ∙ h)
+not-retired r retired above n (inr h) e = not-both (sym retired ∙ (rw e at h))
+
+pub not-14 : (n : ℕ) → InUse n → n ≡ 14 → ⊥
+not-14 = not-retired 14 refl (λ e. omega arith)
+
 pub not-16 : (n : ℕ) → InUse n → n ≡ 16 → ⊥
-not-16 n (inl h) e = omega arith
-not-16 n (inr h) e = let q : inUse 16 ≡ true = rw e at h in let z : _≡_ {A = ℕ} 0 1 = cc in omega arith
+not-16 = not-retired 16 refl (λ e. omega arith)
 
 said-in-use : (a : Answer Val) (n : ℕ) (ws : List ℕ) → Numbered a → Says a n ws → InUse n
 said-in-use (gives x) n ws h w = inl (w .number)

@@ -13,10 +13,12 @@ pub fn test_entries(op: u8, ai: &[u16], av: &[i32], bi: &[u16], bv: &[i32]) -> b
     ensures { λ r. ⌜ r ≡ testL op (list ai av) (list bi bv) ⌝ }
 {
     match op {
+        op::EQUAL => list_equality::equal(ai, bi),
         op::GREATER => list_comparisons::greater(av, bv),
         op::LESS => list_comparisons::less(av, bv),
         op::GREATER_THAN_OR_EQUALS => list_comparisons::greater_or_equals(av, bv),
         op::LESS_THAN_OR_EQUALS => list_comparisons::less_or_equals(av, bv),
+        op::NOT_EQUALS => list_equality::not_equals(ai, bi),
         op::HAS => list_has::has(ai, bi),
         op::HASNT => list_has::hasnt(ai, bi),
         _ => false,

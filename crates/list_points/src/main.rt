@@ -1,7 +1,7 @@
 // The operators on lists that go by no definitions, on empty, small, tied and full lists, which make_cases.py beside this writes: for
 // each case the operands, then each operator with its answer.
 
-ghost use Rattle.ink_list.specs.Entries.{Lent};
+ghost use Rattle.ink_list.specs.Entries.{Ascends, Lent, itemNumbers};
 use extreme_values::lower_bound;
 use extreme_values::upper_bound;
 use extreme_values::value_of_list;
@@ -33,6 +33,8 @@ use list_comparisons::greater;
 use list_comparisons::greater_or_equals;
 use list_comparisons::less;
 use list_comparisons::less_or_equals;
+use list_equality::equal;
+use list_equality::not_equals;
 use list_extremes::list_max;
 use list_extremes::list_min;
 use list_has::has;
@@ -73,6 +75,16 @@ fn show_intersect(ai: &[u16], av: &[i32], bi: &[u16], bv: &[i32])
     result(b"intersect", n, &oi, &ov);
 }
 
+// The tests that go by items alone.
+fn item_tests(ai: &[u16], bi: &[u16])
+    requires { ⌜ Ascends 0 itemNumbers (now ai) × Ascends 0 itemNumbers (now bi) ⌝ }
+{
+    test(b"has", has(ai, bi));
+    test(b"hasnt", hasnt(ai, bi));
+    test(b"equal", equal(ai, bi));
+    test(b"not equals", not_equals(ai, bi));
+}
+
 // The operators of two lists.
 fn pair(ai: &[u16], av: &[i32], bi: &[u16], bv: &[i32]) {
     operand(b"a", ai, av);
@@ -88,8 +100,7 @@ fn pair(ai: &[u16], av: &[i32], bi: &[u16], bv: &[i32]) {
     show_union(ai, av, bi, bv);
     show_without(ai, av, bi, bv);
     show_intersect(ai, av, bi, bv);
-    test(b"has", has(ai, bi));
-    test(b"hasnt", hasnt(ai, bi));
+    item_tests(ai, bi);
     test(b"greater", greater(av, bv));
     test(b"greater or equals", greater_or_equals(av, bv));
     test(b"less", less(av, bv));

@@ -5,3 +5,4 @@ pub mod Numbers
 pub mod Stack
 pub mod Wellformed
 pub mod Emptied
+pub mod Equality

@@ -1,7 +1,7 @@
--- Every refusal has a number in use: it is above 0, so that 0 can stand for an answer that is none, and never 16, which is retired. Each
+-- Every refusal has a number in use: it is above 0, so that 0 can stand for an answer that is none, and never one that is retired. Each
 -- question's number is, and the machine adds none. Assumes nothing.
 use mathlib.Core.Path.{_≡_, refl}
-use mathlib.Core.Bool.{Bool, true, false, cond, _&&_, _||_}
+use mathlib.Core.Bool.{Bool, true, false, cond, _||_}
 use mathlib.Core.List.{List, [], _∷_, map}
 use mathlib.Core.Option.{Option, none, some}
 use Prim.Native.Nat.{ℕ, _+_}
@@ -9,7 +9,6 @@ use lib.Dec.{eqb, ltb}
 use lib.ListN.{length}
 use Rattle.ink_number.specs.Answer.{Answer, gives, refuses, inUse, ask, andThen}
 use Rattle.ink_value.specs.Val.{Val, Kind, listK, kindOf, isList}
-use Rattle.op.specs.Op.{opEqual, opNotEquals}
 use Rattle.operator_kinds.specs.Kinds.{known, arity, isVoid, common, available, resultKind, mixed, mixes, kindUnary, kindBinary, kindRange, kindApply}
 use Rattle.list_definitions.specs.Defs.{ListDefinitions}
 use Rattle.native_function_call.specs.Apply.{applyOp, Agree}
@@ -39,7 +38,7 @@ pub chosen : {X : Type 0} (b : Bool) (x y : Answer X) → Numbered x → Numbere
 chosen true x y h k = h
 chosen false x y h k = k
 
--- ---- questions 8 to 14, on kinds
+-- ---- questions 8 to 13, on kinds
 
 unary-numbered : (o : ℕ) (a : Kind) → Numbered (kindUnary o a)
 unfolding kindUnary
@@ -53,8 +52,7 @@ binary-numbered o a b =
     chosen (isVoid a || isVoid b) (refuses 11) _ refl
     (chosen (mixed a b) _ _
     (chosen (mixes o a b) (gives (resultKind o listK)) (refuses 12) tt refl)
-    (chosen (available o (common a b)) _ (refuses 13)
-    (chosen (isList a && (eqb o opEqual || eqb o opNotEquals)) (refuses 14) (gives (resultKind o (common a b))) refl tt) refl))
+    (chosen (available o (common a b)) (gives (resultKind o (common a b))) (refuses 13) tt refl))
 
 range-numbered : (a b c : Kind) → Numbered (kindRange a b c)
 unfolding kindRange

@@ -56,7 +56,7 @@ module _ {X : Type 0} where
   onward i (refuses r) k = record { stacks = []; end = stopped r i }
 
 module _ {X : Type 0} where
-  -- an operator: question 8, then 10 to 15. "An operator takes off its one, two or three operands .. and puts on top its result"
+  -- an operator: question 8, then 10 to 13 and 15. "An operator takes off its one, two or three operands .. and puts on top its result"
   abbrev pub stepOp : (ℕ → List X → Answer X) → ℕ → List X → Answer (List X)
   stepOp apply o st = ask 8 (known o) (worked (apply o) (popped (arity o) [] st))
 
@@ -66,7 +66,7 @@ module _ {X : Type 0} where
 
 -- `value` is what a push puts on the stack, and `apply` an operator's answer
 module _ {X : Type 0} (value : Push → X) (apply : ℕ → List X → Answer X) where
-  -- questions 8 to 15 of one instruction, on the stack as it stands (its top first)
+  -- questions 8 to 13 and 15 of one instruction, on the stack as it stands (its top first)
   unfoldable pub step : Instr → List X → Answer (List X)
   step (op o) st = stepOp apply o st
   step (push p) st = stepPush (value p) st

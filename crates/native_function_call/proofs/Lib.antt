@@ -4,3 +4,4 @@ pub mod Results
 pub mod Known
 pub mod Calling
 pub mod Emptied
+pub mod Equality

@@ -61,7 +61,7 @@ real o (a ∷ b ∷ c ∷ vs) = ofInt32 (pos 0)
 
 -- ---- an operator
 
--- the result, by its kind, where questions 8 to 14 say yes (no operator gives Void)
+-- the result, by its kind, where questions 8 to 13 say yes (no operator gives Void)
 unfoldable pub compute : ListDefinitions → ℕ → List Val → Kind → Answer Val
 compute u o vs boolK = gives (bool (test o vs))
 compute u o vs intK = whole o vs

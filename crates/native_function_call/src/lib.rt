@@ -306,7 +306,7 @@ fn computed(
     scalar(op, kind, count, a, b, items, values)
 }
 
-// An operator on the first `count` of three operands: questions 8 and 10 to 15, and the result.
+// An operator on the first `count` of three operands: questions 8, 10 to 13 and 15, and the result.
 pub fn apply(
     op: u8,
     count: usize,

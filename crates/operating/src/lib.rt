@@ -229,7 +229,7 @@ fn list_result(
     )
 }
 
-// An operator on as many of three operands as it takes: questions 11 to 15, and its result at a place of the stack.
+// An operator on as many of three operands as it takes: questions 11 to 13 and 15, and its result at a place of the stack.
 pub fn operate(
     op: u8,
     count: usize,

@@ -10,7 +10,6 @@ use Rattle.slices.proofs.Every.{every-at, not-both}
 use Rattle.ink_value.specs.Val.{Kind, boolK, intK, floatK, listK, voidK, kindAt, codeOf}
 use Rattle.ink_number.specs.Answer.{Answer, gives, refuses}
 use Rattle.operator_kinds.specs.Kinds.{kindEntry, operandCount, decoded, bitsOf}
-use Rattle.op.specs.Op.{opEqual, opNotEquals}
 
 abbrev pub same : Answer Kind → Answer Kind → Bool
 same (gives k) (gives j) = eqb (codeOf k) (codeOf j)
@@ -75,7 +74,7 @@ two-lists o a b = not (eqb (operandCount o) 0) && eqb a 3 && eqb b 3
 
 -- the code of an operator's answer on Lists, by a word in which Float's code stands for a refusal
 abbrev pub listCode : ℕ → ℕ → ℕ
-listCode w o = cond (eqb (bitsOf w o) (codeOf floatK)) (cond (eqb o opEqual) 14 (cond (eqb o opNotEquals) 14 13)) (bitsOf w o)
+listCode w o = cond (eqb (bitsOf w o) (codeOf floatK)) 13 (bitsOf w o)
 
 pub of-lists : (w o r : ℕ) → r ≡ listCode w o → Agree two-lists (λ o a b. listCode w o) 0 31 → o < 31 → 1 ≤ operandCount o → decoded r ≡ kindEntry o listK listK
 of-lists w o r e t l k =
@@ -86,14 +85,8 @@ module _ (w o k : ℕ) (bits : k ≡ bitsOf w o) where
   pub list-kind : (k ≡ 2 → ⊥) → k ≡ listCode w o
   list-kind ne = rw (ne-eqb (bitsOf w o) 2 (λ q. ne (bits ∙ q))) bits
 
-  pub list-equal : k ≡ 2 → o ≡ 6 → 14 ≡ listCode w o
-  list-equal two e = rw (eq-eqb (bitsOf w o) 2 (sym bits ∙ two), eq-eqb o 6 e) refl
-
-  pub list-not-equals : k ≡ 2 → (o ≡ 6 → ⊥) → o ≡ 11 → 14 ≡ listCode w o
-  list-not-equals two ne e = rw (eq-eqb (bitsOf w o) 2 (sym bits ∙ two), ne-eqb o 6 ne, eq-eqb o 11 e) refl
-
-  pub list-none : k ≡ 2 → (o ≡ 6 → ⊥) → (o ≡ 11 → ⊥) → 13 ≡ listCode w o
-  list-none two ne nn = rw (eq-eqb (bitsOf w o) 2 (sym bits ∙ two), ne-eqb o 6 ne, ne-eqb o 11 nn) refl
+  pub list-none : k ≡ 2 → 13 ≡ listCode w o
+  list-none two = rw (eq-eqb (bitsOf w o) 2 (sym bits ∙ two)) refl
 
 -- ---- just one List
 

@@ -1,10 +1,10 @@
--- Questions 8 and 10 to 14, which ask only for kinds, and the kind of each result.
+-- Questions 8 and 10 to 13, which ask only for kinds, and the kind of each result.
 use mathlib.Core.Bool.{Bool, true, false, cond, not, _&&_, _||_}
 use mathlib.Core.List.{List, [], _∷_}
 use mathlib.Core.Path.{_≡_}
 use Prim.Native.Nat.{ℕ, max, _<_, _≤_, _*_, _/_, _%_, _^_}
 use lib.Dec.{eqb, leb, ltb}
-use Rattle.op.specs.Op.{opSubtract, opNegate, opEqual, opNotEquals, opNot, opAnd, opOr, opMin, opMax, opInt, opFloat, opHas, opHasnt, opListMin, opCount, opValueOfList, opInvert, opRange}
+use Rattle.op.specs.Op.{opSubtract, opNegate, opEqual, opNot, opAnd, opOr, opMin, opMax, opInt, opFloat, opHas, opHasnt, opListMin, opCount, opValueOfList, opInvert, opRange}
 use Rattle.ink_value.specs.Val.{Kind, boolK, intK, floatK, listK, voidK, isList, codeOf, kindAt}
 use Rattle.ink_number.specs.Answer.{Answer, gives, refuses, ask}
 
@@ -70,14 +70,12 @@ mixed a b = not (cond (isList a) (isList b) (not (isList b)))
 abbrev pub mixes : ℕ → Kind → Kind → Bool
 mixes o a b = (leb o opSubtract && isList a && isInt b) || within opAnd o opOr
 
--- questions 11 to 14 of two operands
+-- questions 11 to 13 of two operands
 unfoldable pub kindBinary : ℕ → Kind → Kind → Answer Kind
 kindBinary o a b =
     cond (isVoid a || isVoid b) (refuses 11)
     (cond (mixed a b) (cond (mixes o a b) (gives (resultKind o listK)) (refuses 12))
-    (cond (available o (common a b))
-    (cond (isList a && (eqb o opEqual || eqb o opNotEquals)) (refuses 14) (gives (resultKind o (common a b))))
-    (refuses 13)))
+    (cond (available o (common a b)) (gives (resultKind o (common a b))) (refuses 13)))
 
 -- range: questions 11 and 13
 unfoldable pub kindRange : Kind → Kind → Kind → Answer Kind

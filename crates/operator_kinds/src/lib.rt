@@ -61,8 +61,8 @@ fn bits_of(word: u64, op: u8) -> u8
     ((word >> (2 * op)) % 4) as u8
 }
 
-// The kind that each operator gives on Lists, two bits for each from Invert down to Add; Float's code where question 13 or 14 says no.
-const ON_LISTS: u64 = 0b11_0101_111111_11_0000_10101010101010_0000_01_10_00000000_10_10101010_1111;
+// The kind that each operator gives on Lists, two bits for each from Invert down to Add; Float's code where question 13 says no.
+const ON_LISTS: u64 = 0b11_0101_111111_11_0000_10101010101010_0000_01_000000000000_10101010_1111;
 
 // The answer for an operator below range on Lists.
 fn lists(op: u8) -> u8
@@ -70,16 +70,10 @@ fn lists(op: u8) -> u8
     ensures { λ r. ⌜ decoded r ≡ kindEntry op listK listK ⌝ }
 {
     let kind = bits_of(ON_LISTS, op);
-    if kind != kind_code::FLOAT {
-        return kind;
+    if kind == kind_code::FLOAT {
+        return 13;
     }
-    if op == op::EQUAL {
-        return 14;
-    }
-    if op == op::NOT_EQUALS {
-        return 14;
-    }
-    13
+    kind
 }
 
 // The answer for an operator of two operands, a List and a number or a number and a List.
@@ -159,7 +153,7 @@ fn second(count: usize, left: u8, middle: u8) -> u8
     if count == 1 { left } else { middle }
 }
 
-// Questions 11 to 14 of an operator and as many kind codes as it takes, of three: the code of the answer.
+// Questions 11 to 13 of an operator and as many kind codes as it takes, of three: the code of the answer.
 pub fn answer(op: u8, count: usize, left: u8, middle: u8, right: u8) -> u8
     requires { ⌜ (op < 32) × (count ≡ operandCount op) × (1 ≤ count) × (left < 5) × (middle < 5) × (right < 5) ⌝ }
     ensures { λ r. ⌜ KindsGiven op count (take count (kindAt left ∷ kindAt middle ∷ kindAt right ∷ [])) r ⌝ }

@@ -31,7 +31,7 @@ StepsIn F n a f r wi wv = Steps F n a f r (now (wi .entry)) (now (wi .exit)) (no
 abbrev pub literalIn : Format → Slice ℕ → ℕ → Val
 literalIn F pack l = list (literalOf (decoded F (now (pack .entry))) l .origins) (literalOf (decoded F (now (pack .entry))) l .entries)
 
--- questions 8 to 15 of an instruction of the pack, with these slots, on a stack
+-- questions 8 to 13 and 15 of an instruction of the pack, with these slots, on a stack
 abbrev pub stepIn : Format → Slice ℕ → Slice ℕ → Slice ℤ → List Val → Instr → List Val → Answer (List Val)
 stepIn F pack ends defined slots =
     step (valuePushed (literalOf (decoded F (now (pack .entry)))) slots) (applyOp (definitionsIn ends defined (F .limit)))

@@ -61,7 +61,7 @@ fn vet_sheet(pack: &[u8], sheet: usize, kinds: [u8; 16], forecast: &mut [u8]) ->
     }
 }
 
-// Vets a sheet of any bytes for slots of sixteen kinds: questions 1 to 14 and 17.
+// Vets a sheet of any bytes for slots of sixteen kinds: questions 1 to 13 and 17.
 pub fn vet(pack: &[u8], sheet: usize, kinds: [u8; 16], forecast: &mut [u8]) -> Vetted
     ensures { λ r. ⌜ VetsAny format1 pack sheet kinds r forecast ⌝ }
 {

@@ -18,7 +18,7 @@ abbrev pub ScalarSays : ℕ → ℕ → ℕ → Slice ℕ → Slice ℕ → Slic
 ScalarSays op n kind ws is vs r answer =
     (u : ListDefinitions) → SaysIn (compute u op (take n (twoAt (now (is .entry)) (now (vs .entry)) (now (ws .entry)))) (kindAt kind)) r answer
 
--- an operator on the first n of three operands, with the tables of a pack: questions 7, 8 and 10 to 15
+-- an operator on the first n of three operands, with the tables of a pack: questions 7, 8, 10 to 13 and 15
 abbrev pub CallSays : ℕ → Slice ℕ → Slice ℤ → ℕ → ℕ → Slice ℕ → Slice ℕ → Slice ℤ → ℕ → Slice ℕ → Slice ℕ → Slice ℤ → Type 0
 CallSays limit ends defined op n ws is vs r answer ri rv =
     CallsIn (calledIn is vs ri rv op n (operandsIn (now (ws .entry))) (definitionsIn ends defined limit)) r answer ri rv

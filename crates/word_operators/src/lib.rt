@@ -64,7 +64,7 @@ fn scalar(
     }
 }
 
-// Questions 8 and 10 to 15 of operands of which question 7 says yes, and the result.
+// Questions 8, 10 to 13 and 15 of operands of which question 7 says yes, and the result.
 pub fn apply(
     op: u8,
     count: usize,

@@ -34,8 +34,8 @@ const FORECAST_BYTES: usize = 2048;
 const END_PLACES: usize = 64;
 const DEFINED_PLACES: usize = 256;
 
-/// The number of the first question that was answered no (1 to 15, 17 or 18; README.md has them), and the index of the instruction (0 for
-/// questions 1 to 7 and 18, and for direct calls and conversions).
+/// The number of the first question that was answered no (1 to 13, 15, 17 or 18; README.md has them), and the index of the instruction
+/// (0 for questions 1 to 7 and 18, and for direct calls and conversions).
 #[derive(Clone, Copy, Debug, PartialEq, Eq, Hash)]
 pub struct Refusal {
     pub number: u32,
@@ -171,7 +171,7 @@ impl Pack {
         self.defined.len()
     }
 
-    /// Vets a sheet for slots of these kinds: questions 6 to 14 and 17, and what every run on slots of those kinds has on its stack after
+    /// Vets a sheet for slots of these kinds: questions 6 to 13 and 17, and what every run on slots of those kinds has on its stack after
     /// each instruction. Passed, each such run ends in a value of the kind forecast last, or stops with 15; refused at an instruction, each
     /// stops there with that number, or before it with 15.
     pub fn vet(&self, sheet: usize, kinds: &[Kind; 16]) -> Result<Vec<Forecast>, Refusal> {
@@ -189,7 +189,7 @@ impl Pack {
         Ok(told.map(|two| Forecast { count: two[0], top: Kind::from_code(two[1]).expect("a forecast has kind codes") }).collect())
     }
 
-    /// Runs a sheet: questions 6 to 15 and 17.
+    /// Runs a sheet: questions 6 to 13, 15 and 17.
     pub fn run(&self, workspace: &mut Workspace, sheet: usize, slots: &[Value; 16]) -> Result<Value, Refusal> {
         let Workspace { items, values, slots: lists } = workspace;
         lists.clear();
@@ -229,7 +229,7 @@ impl Pack {
         answer.read(number)
     }
 
-    /// Calls an operator by its number in [`op`]: questions 7, 8, 10 to 15.
+    /// Calls an operator by its number in [`op`]: questions 7, 8, 10 to 13 and 15.
     pub fn call(&self, op: u8, operands: &[Value]) -> Result<Value, Refusal> {
         let mut lists = Entries::default();
         let mut words = [0; 9];

@@ -111,6 +111,48 @@ fn lists() {
     assert_eq!(p.cast(1, &a), Ok(Int(3)));
 }
 
+/// Equal and NotEquals of two Lists: the same items on both sides, whatever their values and origin sets.
+#[test]
+fn equal_lists() {
+    let p = six_items();
+    let equal = |a: &Value, b: &Value| {
+        let said = p.call(op::EQUAL, &[a.clone(), b.clone()]);
+        assert_eq!(said, p.call(op::EQUAL, &[b.clone(), a.clone()]));
+        match (said, p.call(op::NOT_EQUALS, &[a.clone(), b.clone()])) {
+            (Ok(Bool(yes)), Ok(Bool(no))) if yes != no => yes,
+            other => panic!("{other:?}"),
+        }
+    };
+    let one = Value::list(1, &[(0, 1), (2, 3)]);
+    assert!(equal(&one, &one));
+    assert!(equal(&one, &Value::list(1, &[(0, 7), (2, -3)])));
+    assert!(equal(&one, &Value::list(2, &[(0, 1), (2, 3)])));
+    assert!(equal(&Value::list(0, &[]), &Value::list(3, &[])));
+    for other in [&[][..], &[(0, 1)], &[(2, 3)], &[(0, 1), (1, 2)], &[(0, 1), (2, 3), (4, 2)]] {
+        assert!(!equal(&one, &Value::list(1, other)), "{other:?}");
+    }
+}
+
+/// Vetting foretells a Bool, and the run gives it.
+#[test]
+fn equal_slots() {
+    let sheets = [&[36, 0, 36, 1, op::EQUAL][..], &[36, 0, 36, 1, op::NOT_EQUALS]];
+    let p = pack(&[vec![1, 2], vec![3]], &[], &sheets.map(|s| s.to_vec()));
+    let mut workspace = Workspace::new();
+    let mut slots = VOID_SLOTS;
+    slots[0] = Value::list(1, &[(0, 1), (2, 3)]);
+    let mut kinds = [Kind::Void; 16];
+    kinds[..2].fill(Kind::List);
+    for (right, equal) in [(Value::list(2, &[(0, 5), (2, 3)]), true), (Value::list(3, &[(0, 1), (1, 3)]), false)] {
+        slots[1] = right;
+        for (sheet, answer) in [(0, equal), (1, !equal)] {
+            assert_eq!(p.run(&mut workspace, sheet, &slots), Ok(Bool(answer)));
+            let told: Vec<_> = p.vet(sheet, &kinds).unwrap().iter().map(|f| (f.count, f.top)).collect();
+            assert_eq!(told, [(1, Kind::List), (2, Kind::List), (1, Kind::Bool)]);
+        }
+    }
+}
+
 /// A list that Subtract empties keeps the left operand's origins; every other result has those of its items.
 #[test]
 fn emptied_lists() {

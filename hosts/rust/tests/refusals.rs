@@ -115,7 +115,7 @@ fn operators() {
     assert_eq!(p.call(op::ADD, &[Int(1), Void]), Err(no(11)));
     assert_eq!(p.call(op::MULTIPLY, &[Value::list(0, &[]), Int(1)]), Err(no(12)));
     assert_eq!(p.call(op::HAS, &[Int(1), Int(1)]), Err(no(13)));
-    assert_eq!(p.call(op::EQUAL, &[Value::list(0, &[]), Value::list(0, &[])]), Err(no(14)));
+    assert_eq!(p.call(op::EQUAL, &[Value::list(0, &[]), Int(0)]), Err(no(12)));
     assert_eq!(p.call(op::MOD, &[Int(1), Int(0)]), Err(no(15)));
     assert_eq!(p.call(op::RANGE, &[Bool(true), Int(0), Int(1)]), Err(no(13)));
 }

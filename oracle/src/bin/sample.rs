@@ -3,7 +3,7 @@
 use ink_oracle::{
     generate::{self, Rng},
     pack::{self, Builder, Ins},
-    values::{ALL, Defs, INVERT, KIND_NAMES, LIST, OP_NAMES, RANGE, SUBTRACT, Val, arity},
+    values::{ALL, Defs, EQUAL, INVERT, KIND_NAMES, LIST, NOT_EQUALS, OP_NAMES, RANGE, SUBTRACT, Val, arity},
 };
 use std::{fmt::Write, fs};
 
@@ -66,7 +66,7 @@ impl Sample {
         let mut t =
             format!("{} sheets. How they ended, by the instruction: with a value, or with which refusal.\n\n", self.sheets);
         write!(t, "{:22}{:>6}", "", "value").unwrap();
-        let shown = [8, 9, 10, 11, 12, 13, 14, 15, 17];
+        let shown = [8, 9, 10, 11, 12, 13, 15, 17];
         shown.iter().for_each(|n| write!(t, "{n:>6}").unwrap());
         for (row, n) in self.ended.iter().enumerate() {
             let name = OP_NAMES.get(row).copied().unwrap_or(if row == PUSH { "a push" } else { "the sheet's end" });
@@ -152,6 +152,7 @@ fn on_edges(s: &mut Sample) {
         .map(|n| (ops[n % ops.len()], vec![lists[n / lists.len()].clone(), lists[n % lists.len()].clone()]))
         .collect();
     s.calls("list pairs", &defs, &calls);
+    s.calls("equal lists", &defs, &pairs(&lists, &[EQUAL, NOT_EQUALS]));
     let calls: Vec<(u8, Vec<Val>)> = lists
         .iter()
         .flat_map(|l| [0, 1, -1, i32::MIN].map(|n| [0, 1].map(|op| (op, vec![l.clone(), Val::Int(n)]))).concat())
@@ -185,7 +186,7 @@ fn on_sizes(s: &mut Sample, r: &mut Rng) {
         for op in [7, 8, 9, 10, 22, 23] {
             (0..10).for_each(|_| calls.push((op, vec![r.pick(&lists).clone(), r.pick(&lists).clone()])));
         }
-        for op in [0, 1, 24] {
+        for op in [0, 1, 24, EQUAL, NOT_EQUALS] {
             (0..5).for_each(|_| calls.push((op, vec![r.pick(&lists).clone(), r.pick(&lists).clone()])));
             calls.push((op, vec![lists[18].clone(), lists[19].clone()]));
         }

@@ -54,11 +54,14 @@ show-without-requires c κs = (formed-sound 256 0 0 _ _ (sym (c .before .before 
 show-intersect-requires : tie.Need-show-intersect-requires
 show-intersect-requires c κs = (formed-sound 256 0 0 _ _ (sym (c .before .before .before .before .before .is-formed .ensures) ∙ not-false _ (c .before .before .before .before .if1 .left)) .0, formed-sound 256 0 0 _ _ (sym (c .before .before .before .is-formed2 .ensures) ∙ not-false _ (c .before .before .if2 .left)) .0)
 
+item-tests-requires : tie.Need-item-tests-requires
+item-tests-requires c κs = (lent-limit 256 itemNumbers _ _ (omega arith) (formed-sound 256 0 0 _ _ (sym (c .before .before .before .before .before .before .is-formed .ensures) ∙ not-false _ (c .before .before .before .before .before .if1 .left)) .0) .rising, lent-limit 256 itemNumbers _ _ (omega arith) (formed-sound 256 0 0 _ _ (sym (c .before .before .before .before .is-formed2 .ensures) ∙ not-false _ (c .before .before .before .if2 .left)) .0) .rising)
+
 slice-aggregate-test : tie.Need-slice-aggregate-test
 slice-aggregate-test c = search needs
 
-has-requires : tie.Need-has-requires
-has-requires c κs = (lent-limit 256 itemNumbers _ _ (omega arith) (formed-sound 256 0 0 _ _ (sym (c .before .before .before .before .before .before .before .is-formed .ensures) ∙ not-false _ (c .before .before .before .before .before .before .if1 .left)) .0) .rising, lent-limit 256 itemNumbers _ _ (omega arith) (formed-sound 256 0 0 _ _ (sym (c .before .before .before .before .before .is-formed2 .ensures) ∙ not-false _ (c .before .before .before .before .if2 .left)) .0) .rising)
+greater-requires : tie.Need-greater-requires
+greater-requires c κs = search needs
 
 test-requires : tie.Need-test-requires
 test-requires c κs = search needs
@@ -66,8 +69,8 @@ test-requires c κs = search needs
 slice-aggregate-test-2 : tie.Need-slice-aggregate-test-2
 slice-aggregate-test-2 c = search needs
 
-hasnt-requires : tie.Need-hasnt-requires
-hasnt-requires c κs = (lent-limit 256 itemNumbers _ _ (omega arith) (formed-sound 256 0 0 _ _ (sym (c .before .before .before .before .before .before .before .before .before .before .is-formed .ensures) ∙ not-false _ (c .before .before .before .before .before .before .before .before .before .if1 .left)) .0) .rising, lent-limit 256 itemNumbers _ _ (omega arith) (formed-sound 256 0 0 _ _ (sym (c .before .before .before .before .before .before .before .before .is-formed2 .ensures) ∙ not-false _ (c .before .before .before .before .before .before .before .if2 .left)) .0) .rising)
+greater-or-equals-requires : tie.Need-greater-or-equals-requires
+greater-or-equals-requires c κs = search needs
 
 test-requires-2 : tie.Need-test-requires-2
 test-requires-2 c κs = search needs
@@ -75,8 +78,8 @@ test-requires-2 c κs = search needs
 slice-aggregate-test-3 : tie.Need-slice-aggregate-test-3
 slice-aggregate-test-3 c = search needs
 
-greater-requires : tie.Need-greater-requires
-greater-requires c κs = search needs
+less-requires : tie.Need-less-requires
+less-requires c κs = search needs
 
 test-requires-3 : tie.Need-test-requires-3
 test-requires-3 c κs = search needs
@@ -84,29 +87,11 @@ test-requires-3 c κs = search needs
 slice-aggregate-test-4 : tie.Need-slice-aggregate-test-4
 slice-aggregate-test-4 c = search needs
 
-greater-or-equals-requires : tie.Need-greater-or-equals-requires
-greater-or-equals-requires c κs = search needs
-
-test-requires-4 : tie.Need-test-requires-4
-test-requires-4 c κs = search needs
-
-slice-aggregate-test-5 : tie.Need-slice-aggregate-test-5
-slice-aggregate-test-5 c = search needs
-
-less-requires : tie.Need-less-requires
-less-requires c κs = search needs
-
-test-requires-5 : tie.Need-test-requires-5
-test-requires-5 c κs = search needs
-
-slice-aggregate-test-6 : tie.Need-slice-aggregate-test-6
-slice-aggregate-test-6 c = search needs
-
 less-or-equals-requires : tie.Need-less-or-equals-requires
 less-or-equals-requires c κs = search needs
 
-test-requires-6 : tie.Need-test-requires-6
-test-requires-6 c κs = search needs
+test-requires-4 : tie.Need-test-requires-4
+test-requires-4 c κs = search needs
 
 returns-3 : tie.Need-returns-3
 returns-3 c = search needs
@@ -130,22 +115,17 @@ pair-spec =
     show-union-requires
     show-without-requires
     show-intersect-requires
+    item-tests-requires
     slice-aggregate-test
-    has-requires
+    greater-requires
     test-requires
     slice-aggregate-test-2
-    hasnt-requires
+    greater-or-equals-requires
     test-requires-2
     slice-aggregate-test-3
-    greater-requires
+    less-requires
     test-requires-3
     slice-aggregate-test-4
-    greater-or-equals-requires
-    test-requires-4
-    slice-aggregate-test-5
-    less-requires
-    test-requires-5
-    slice-aggregate-test-6
     less-or-equals-requires
-    test-requires-6
+    test-requires-4
     returns-3)

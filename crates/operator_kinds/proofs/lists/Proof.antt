@@ -2,7 +2,7 @@
 use mathlib.Core.Path.{refl}
 use Rattle.slices.specs.Every.{every, _and_}
 use Rattle.operator_kinds.specs.Kinds.{kindEntry, known, unary, arity, kindUnary, kindBinary, operandCount}
-use Rattle.operator_kinds.proofs.Agreed.{of-lists, list-kind, list-equal, list-not-equals, list-none}
+use Rattle.operator_kinds.proofs.Agreed.{of-lists, list-kind, list-none}
 use borrow.Author.Needs.{needs}
 use Rattle.operator_kinds.proofs.lists.Statement.{statement}
 use Rattle.operator_kinds.proofs.lists.Tie as tie
@@ -14,25 +14,13 @@ returns : tie.Need-returns
 unfolding kindEntry known unary arity kindUnary kindBinary operandCount every _and_
 returns c =
     let s = c .before .before in
-    of-lists _ _ _ (list-kind _ _ _ (c .before .bits-of .ensures) (c .if1 .taken)) refl (s .pre .0) (s .pre .1)
+    of-lists _ _ _ (list-none _ _ _ (c .before .bits-of .ensures) (c .if1 .taken)) refl (s .pre .0) (s .pre .1)
 
 returns-2 : tie.Need-returns-2
 unfolding kindEntry known unary arity kindUnary kindBinary operandCount every _and_
 returns-2 c =
-    let s = c .before .before .before in
-    of-lists _ _ _ (list-equal _ _ _ (c .before .before .bits-of .ensures) (c .before .if1 .left) (c .if2 .taken)) refl (s .pre .0) (s .pre .1)
-
-returns-3 : tie.Need-returns-3
-unfolding kindEntry known unary arity kindUnary kindBinary operandCount every _and_
-returns-3 c =
-    let s = c .before .before .before .before in
-    of-lists _ _ _ (list-not-equals _ _ _ (c .before .before .before .bits-of .ensures) (c .before .before .if1 .left) (c .before .if2 .left) (c .if3 .taken)) refl (s .pre .0) (s .pre .1)
-
-returns-4 : tie.Need-returns-4
-unfolding kindEntry known unary arity kindUnary kindBinary operandCount every _and_
-returns-4 c =
-    let s = c .before .before .before .before in
-    of-lists _ _ _ (list-none _ _ _ (c .before .before .before .bits-of .ensures) (c .before .before .if1 .left) (c .before .if2 .left) (c .if3 .left)) refl (s .pre .0) (s .pre .1)
+    let s = c .before .before in
+    of-lists _ _ _ (list-kind _ _ _ (c .before .bits-of .ensures) (c .if1 .left)) refl (s .pre .0) (s .pre .1)
 
 pub lists-spec : {M : Type 1} → statement M
-lists-spec = tie.close (tie.spec bits-of-requires returns returns-2 returns-3 returns-4)
+lists-spec = tie.close (tie.spec bits-of-requires returns returns-2)

@@ -7,12 +7,19 @@ mod timing;
 use ink_oracle::{
     original::bare::*,
     pack::Builder,
-    values::{Answer, Defs, List, RANGE, Val},
+    values::{Answer, Defs, EQUAL, List, NOT_EQUALS, RANGE, Val},
 };
 use port::{APPLY, CHECKED, Checked, Lent, Operands};
 use report::{Group, Row};
-use std::hint::black_box;
+use std::{
+    ffi::{c_int, c_void},
+    hint::black_box,
+};
 use timing::{Side, Times, race, side};
+
+unsafe extern "C" {
+    fn memcmp(a: *const c_void, b: *const c_void, bytes: usize) -> c_int;
+}
 
 /// What is asked for on the command line.
 struct Options {
@@ -143,6 +150,17 @@ impl Bench {
         }
     }
 
+    /// The items of two equal lists compared by the C library: the limit for Equal.
+    fn memcmp(&mut self, entries: usize) {
+        let items: Vec<u16> = (0..entries as u16).collect();
+        let (a, b) = (items.clone(), items);
+        let side = side(|| {
+            let [a, b] = [&a, &b].map(|l| black_box(l.as_ptr()).cast());
+            black_box(unsafe { memcmp(a, b, black_box(2 * entries)) });
+        });
+        self.measure(Group::Alone, "equal items", entries, 0, vec![Ours { through: "memcmp", aim: None, side }], None);
+    }
+
     fn check(&mut self, name: &str, pack: Vec<u8>) {
         let port = Checked::new(pack);
         let side = side(|| {
@@ -160,7 +178,8 @@ fn aim(group: Group, name: &str, entries: usize) -> Option<f64> {
         (Group::Numbers, _) => Some(8.0),
         (Group::Lists, "union") => by_size([20.0, 60.0, 80.0]),
         (Group::Lists, "increment by 1") => by_size([10.0, 20.0, 20.0]),
-        (Group::Lists, "has" | "listMin" | "listMax" | "valueOfList" | "greater" | "greaterOrEquals") => Some(4.0),
+        (Group::Lists, "equal") if entries == 250 => Some(20.0),
+        (Group::Lists, "has" | "equal" | "listMin" | "listMax" | "valueOfList" | "greater" | "greaterOrEquals") => Some(4.0),
         (Group::Sheets, "lists") if entries == 5 => Some(3.0),
         (Group::Sheets, "lists") if entries == 250 => Some(40.0),
         (Group::Checks, _) => Some(400.0),
@@ -293,7 +312,7 @@ fn lists(bench: &mut Bench, n: usize) {
     let c = list(&defs, &every[from..from + n]); // overlaps a
     let half = list(&defs, &every[..n].iter().copied().step_by(2).collect::<Vec<_>>());
     let i = Val::Int;
-    let rows: [(&str, u8, Vec<Val>); 17] = [
+    let rows: [(&str, u8, Vec<Val>); 19] = [
         ("union", 0, vec![a.clone(), c.clone()]),
         ("without", 1, vec![a.clone(), half.clone()]),
         ("without itself", 1, vec![a.clone(), a.clone()]),
@@ -303,6 +322,8 @@ fn lists(bench: &mut Bench, n: usize) {
         ("invert", 30, vec![half.clone()]),
         ("range", RANGE, vec![a.clone(), i(2), i((n as i32 / 2).min(32))]),
         ("has", 22, vec![a.clone(), half.clone()]),
+        ("equal", EQUAL, vec![a.clone(), a.clone()]),
+        ("notEquals at once", NOT_EQUALS, vec![a.clone(), c.clone()]),
         ("listMin", 25, vec![a.clone()]),
         ("listMax", 26, vec![a.clone()]),
         ("valueOfList", 29, vec![a.clone()]),
@@ -315,6 +336,7 @@ fn lists(bench: &mut Bench, n: usize) {
     for (name, op, operands) in rows {
         bench.operator(Group::Lists, name, n, &world, &port, op, &operands);
     }
+    bench.memcmp(n);
 }
 
 /// Union of n entries and n others, every second item in the one and in the other.

@@ -6,7 +6,7 @@ use crate::{
 use ink_oracle::{
     generate::{self, Rng},
     pack::{self, Builder},
-    values::{CARRIED, Defs, LIST, List, RANGE, Val, arity},
+    values::{CARRIED, Defs, EQUAL, LIST, List, NOT_EQUALS, RANGE, Val, arity},
 };
 
 const VOID: Words = [4, 0, 0];
@@ -72,7 +72,7 @@ fn sizes(t: &mut Tally) {
                 t.ask(&call(op, std::slice::from_ref(a)));
             }
             for b in &lists {
-                for op in [0, 1, 6, 7, 8, 9, 10, 13, 14, 22, 23, 24] {
+                for op in [0, 1, 6, 7, 8, 9, 10, 11, 13, 14, 22, 23, 24] {
                     t.ask(&call(op, &[a.clone(), b.clone()]));
                 }
                 t.ask(&call(RANGE, &[a.clone(), b.clone(), b.clone()]));
@@ -83,6 +83,30 @@ fn sizes(t: &mut Tally) {
             }
             (0..4).for_each(|code| t.ask(&cast(code, a)));
         }
+    }
+}
+
+/// Lists of every length, beside one with the same items and other values and origins, and beside lists that differ in one
+/// place: in each but the last, in the last, and by one item more.
+fn nearly_equal(t: &mut Tally) {
+    let defs = &generate::full_defs()[1];
+    t.pack(&Builder::new(defs).bytes());
+    let of = |items: &mut dyn Iterator<Item = u16>, by: i32, origins: u64| {
+        Val::List(List { origins, entries: items.map(|k| (k, k as i32 * by)).collect() })
+    };
+    let but = |k: u16| of(&mut (0..256).filter(|i| *i != k), 1, 15);
+    let mut ask = |a: &Val, b: &Val| {
+        for op in [EQUAL, NOT_EQUALS] {
+            t.ask(&call(op, &[a.clone(), b.clone()]));
+            t.ask(&call(op, &[b.clone(), a.clone()]));
+        }
+    };
+    for n in 0..256 {
+        let first = of(&mut (0..n), 1, 15);
+        ask(&first, &of(&mut (0..n), -7, 1));
+        ask(&first, &of(&mut (0..=n), 1, 15));
+        ask(&of(&mut (0..=n), 1, 15), &of(&mut (0..n).chain([255]), 1, 15));
+        ask(&but(n), &but(n.max(1) - 1));
     }
 }
 
@@ -286,6 +310,7 @@ pub fn edges(t: &mut Tally) {
     for (name, some) in [
         ("operators", operators as fn(&mut Tally)),
         ("sizes", sizes),
+        ("equality", nearly_equal),
         ("kinds", kinds),
         ("limits", limits),
         ("damage", damage),

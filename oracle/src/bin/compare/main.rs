@@ -159,10 +159,10 @@ impl Tally {
             }
         };
         println!("Cases by what is called and what it answers: a value, or the number of a refusal.\n");
-        table(&row_name, &self.counts, &[1, 2, 3, 4, 5, 6, 7, 8, 9, 10, 11, 12, 13, 14, 15, 17, 18]);
+        table(&row_name, &self.counts, &[1, 2, 3, 4, 5, 6, 7, 8, 9, 10, 11, 12, 13, 15, 17, 18]);
         println!("\nRuns that reached question 8, by the instruction at which they ended.\n");
         let name = |i: usize| if i < 32 { row_name(i) } else { ["   a push", "   the sheet's end"][i - 32].to_string() };
-        table(&name, &self.ended, &[8, 9, 10, 11, 12, 13, 14, 15, 17]);
+        table(&name, &self.ended, &[8, 9, 10, 11, 12, 13, 15, 17]);
         println!();
         if let Some(s) = &self.smallest {
             println!("the smallest that differs: {s}\n");

@@ -2,7 +2,7 @@
 //! Every slice that is lent is filled with a pattern first, with more of the pattern before and after it.
 use crate::asks::{Ask, Owed, RESULT, WORK};
 use ink_oracle::sys::*;
-use ink_oracle::values::{Defs, INTERSECT, LIST, SUBTRACT, Val};
+use ink_oracle::values::{Defs, EQUAL, INTERSECT, LIST, NOT_EQUALS, SUBTRACT, Val};
 
 const GUARD: usize = 8;
 
@@ -50,7 +50,7 @@ fn clear<T: Default>(len: usize, i: usize, pattern: impl Fn(usize) -> T) -> T {
 }
 
 /// Mistakes made on purpose after the port has answered, to see that each is noticed.
-pub const MISTAKES: [&str; 20] = [
+pub const MISTAKES: [&str; 21] = [
     "another number",
     "another index",
     "a word of a value",
@@ -71,6 +71,7 @@ pub const MISTAKES: [&str; 20] = [
     "the right operand's origins",
     "the left operand's origins with something left",
     "the left operand's origins after Intersect",
+    "14 for Equal or NotEquals of two Lists",
 ];
 
 pub struct Port {
@@ -372,7 +373,8 @@ impl Port {
             13 if vet && refused && self.forecast.len > 0 => self.forecast.inside()[0] = 0,
             14 if length == RESULT => self.number = 16,
             15 if length == RESULT => self.result_items.all[GUARD + RESULT] = 0,
-            16.. => self.err_in_origins(mistake, ask, owed),
+            16..20 => self.err_in_origins(mistake, ask, owed),
+            20 if !refused && compares_lists(ask) => self.number = 14,
             _ => {}
         }
     }
@@ -393,6 +395,12 @@ impl Port {
             _ => {}
         }
     }
+}
+
+/// Is Equal or NotEquals asked of two Lists.
+fn compares_lists(ask: &Ask) -> bool {
+    let Ask::Call { op: EQUAL | NOT_EQUALS, operands, .. } = ask else { return false };
+    operands[..2].iter().all(|w| w[0] == LIST as u64)
 }
 
 fn definitions_differ(defs: &Defs, ends: &[u16], defined: &[i32], counts: &[u64]) -> Option<String> {

@@ -1,0 +1,106 @@
+-- A direct call of Equal or NotEquals on two Lists, by its contract: it returns the Bool that ink_list.rs's tests give of their items as these
+-- stand in the lent slices, and writes nothing. Assumes nothing.
+use mathlib.Core.Path.{_≡_, refl, ap, _∙_}
+use mathlib.Core.Bool.{Bool, true, not}
+use mathlib.Core.List.{List, [], _∷_}
+use Prim.Native.Nat.{ℕ, _≤_}
+use native.Mathlib.Nat.{le-refl}
+use borrow.Author.Tests.{le-leb}
+use lib.IntN.{ℤ}
+use lib.ListN.{length}
+use lib.Pow.{pow-pos}
+use Rattle.op.specs.Op.{opEqual, opNotEquals}
+use Rattle.ink_number.specs.Answer.{gives}
+use Rattle.slices.specs.Every.{_and_}
+use Rattle.slices.specs.Filled.{part}
+use Rattle.slices.proofs.Every.{and-left, and-right}
+use Rattle.slices.proofs.Lists.{ap2}
+use Rattle.ink_list.specs.Entries.{items, Rising}
+use Rattle.ink_list.specs.ByFile.{eqInFile}
+use Rattle.ink_list.proofs.Formed.{formed-both}
+use Rattle.ink_list.proofs.Rests.{items-entries}
+use Rattle.list_definitions.specs.Defs.{ListDefinitions}
+use Rattle.ink_value.specs.Val.{bool}
+use Rattle.ink_value.specs.Value.{valOf, entriesAt, formedIn, Gave}
+use Rattle.ink_value.specs.declared.Outcome.{Outcome}
+use Rattle.ink_value.specs.declared.Outcome.the-variants as Out
+use Rattle.ink_value.specs.declared.Value.{Value}
+use Rattle.ink_value.specs.declared.Value.the-variants as Is
+use Rattle.ink_value.proofs.Forming.{formed-yes}
+use Rattle.ink_value.proofs.ReadBack.{in-pack, pack-rises}
+use Rattle.operator_kinds.specs.Kinds.{known, unary, arity}
+use Rattle.native_function_call.specs.Apply.{applyOp, call}
+use Rattle.native_function_call.proofs.Equality.{equals-as-file, not-equals-as-file}
+use Rattle.pack.specs.Bodies.{Pack}
+use Rattle.pack.specs.Judge.{judge}
+use Rattle.pack.specs.Read.{definedOf, endsOf, definitionsOf}
+use Rattle.pack.specs.declared.format.Format.{Format}
+use Rattle.call_memory.specs.Lent.{operandsOk, resultsOk}
+use Rattle.calls.specs.Call.{called, onPack, Returned}
+
+-- a List to which question 7 says yes: its items are those that stand in the slice, and they rise
+module _ (total d : ℕ) (is : List ℕ) (vs : List ℤ) (o s n : ℕ) (e : formedIn total d is vs (Is.List o s n) ≡ true) where
+  items-stand : items (entriesAt is vs s n) ≡ part s n is
+  items-stand = items-entries (part s n is) (part s n vs) (formed-yes total d is vs (Is.List o s n) total (le-refl total) e .lent .long)
+
+  items-rise : Rising total (entriesAt is vs s n)
+  items-rise = pack-rises total d (valOf is vs (Is.List o s n)) (in-pack total d is vs (Is.List o s n) e)
+
+module _ (F : Format) (p is : List ℕ) (vs : List ℤ) (oi oi′ : List ℕ) (ov ov′ : List ℤ) (d : Pack) (o s n o′ s′ n′ : ℕ) (c : Value) (r : Outcome) where
+  abbrev u : ListDefinitions
+  u = definitionsOf d F
+
+  abbrev left : Value
+  left = Is.List o s n
+
+  abbrev right : Value
+  right = Is.List o′ s′ n′
+
+  -- a call with three operand places, of which it takes the first two
+  abbrev Called : ℕ → Type 0
+  Called op = Returned (onPack F p (called is vs oi ov op 2 (left ∷ right ∷ c ∷ []))) r oi oi′ ov ov′
+
+  -- it returned this Bool, and the result slices are as they were
+  abbrev Returns : Bool → Type 0
+  Returns t = (r ≡ Out.Value (Is.Bool t)) × (oi′ ≡ oi) × (ov′ ≡ ov)
+
+  module _ (passed : judge F p ≡ gives d) (operands : operandsOk u is vs (left ∷ right ∷ []) ≡ true) (results : resultsOk u oi ov ≡ true) where
+    returned : (op : ℕ) (t : Bool) → known op ≡ true → arity op ≡ 2 → applyOp u op (valOf is vs left ∷ valOf is vs right ∷ []) ≡ gives (bool t)
+        → Called op → Returns t
+    unfolding called call _and_
+    returned op t is-known two g w =
+        let answer : onPack F p (called is vs oi ov op 2 (left ∷ right ∷ c ∷ [])) ≡ gives (bool t) = rw (passed, operands, results, is-known, two, g) in
+        let gave : Gave (gives (bool t)) r oi oi′ ov ov′ = rw answer at (w .gave) in
+        (gave .answered, gave .items-out, gave .values-out)
+
+    -- 7, of each of the two
+    first : formedIn (length (definedOf d)) (length (endsOf d)) is vs left ≡ true
+    first = and-left _ _ (and-right _ _ operands)
+
+    second : formedIn (length (definedOf d)) (length (endsOf d)) is vs right ≡ true
+    second = and-left _ _ (and-right _ _ (and-right _ _ operands))
+
+    -- the test of the items as they stand in the slices
+    same : eqInFile (items (entriesAt is vs s n)) (items (entriesAt is vs s′ n′)) ≡ eqInFile (part s n is) (part s′ n′ is)
+    same = ap2 eqInFile (items-stand _ _ is vs o s n first) (items-stand _ _ is vs o′ s′ n′ second)
+
+    pub equal-returned : Called opEqual → Returns (eqInFile (part s n is) (part s′ n′ is))
+    unfolding known unary arity
+    equal-returned =
+        returned opEqual _ refl refl
+        (equals-as-file u o o′ (entriesAt is vs s n) (entriesAt is vs s′ n′) (length (definedOf d)) (items-rise _ _ is vs o s n first) (items-rise _ _ is vs o′ s′ n′ second)
+        ∙ ap (λ (t : Bool). gives (bool t)) same)
+
+    pub not-equals-returned : Called opNotEquals → Returns (not (eqInFile (part s n is) (part s′ n′ is)))
+    unfolding known unary arity
+    not-equals-returned =
+        returned opNotEquals _ refl refl
+        (not-equals-as-file u o o′ (entriesAt is vs s n) (entriesAt is vs s′ n′) (length (definedOf d)) (items-rise _ _ is vs o s n first) (items-rise _ _ is vs o′ s′ n′ second)
+        ∙ ap (λ (t : Bool). gives (bool (not t))) same)
+
+-- what question 7 is to say yes to can be met: by two empty Lists, in every pack, with result slices that are long enough
+pub two-empty : (u : ListDefinitions) (oi : List ℕ) (ov : List ℤ) → u .limit ≤ length oi → u .limit ≤ length ov
+    → (operandsOk u [] [] (Is.List 0 0 0 ∷ Is.List 0 0 0 ∷ []) ≡ true) × (resultsOk u oi ov ≡ true)
+unfolding _and_
+two-empty u oi ov h k =
+    (rw (formed-both (length (u .defined)) (length (u .ends)) 0 [] (pow-pos (length (u .ends))) tt) refl, rw (le-leb (u .limit) (length oi) h, le-leb (u .limit) (length ov) k) refl)

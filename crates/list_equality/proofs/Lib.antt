@@ -1,0 +1,2 @@
+-- The laws of a comparison place by place.
+pub mod Places
