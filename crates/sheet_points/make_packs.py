@@ -142,7 +142,7 @@ EQUALITY = [
     (sheet(ONE, OTHERWISE, INTERSECT, ONE, EQUAL), 'B 1'),
     (sheet(ONE, INVERT, INVERT, ONE, EQUAL), 'B 1'),
     (sheet(ONE, ONE, EQUAL, ONE, EQUAL), 'R 12 4'),  # a Bool beside a List
-    (sheet(ONE, integer(2), NOT_EQUALS), 'R 12 2'),
+    (sheet(ONE, integer(2), EQUAL), 'R 12 2'),
     (sheet(ONE, VOID, EQUAL), 'R 11 2'),
 ]
 # literals of its own: BOTH has items of both definitions, WIDE a wider set than its item, NARROW a narrower one

@@ -1,6 +1,6 @@
--- A direct call of Equal or NotEquals on two Lists, by its contract: it returns the Bool that ink_list.rs's tests give of their items as these
--- stand in the lent slices, and writes nothing. Assumes nothing.
-use mathlib.Core.Path.{_≡_, refl, ap, _∙_}
+-- A direct call of Equal or NotEquals on two Lists: it answers the Bool that ink_list.rs's tests give of their items as these stand in the
+-- lent slices, and by its contract returns it and writes nothing. Assumes nothing.
+use mathlib.Core.Path.{_≡_, refl, ap, _∙_, subst}
 use mathlib.Core.Bool.{Bool, true, not}
 use mathlib.Core.List.{List, [], _∷_}
 use Prim.Native.Nat.{ℕ, _≤_}
@@ -10,7 +10,7 @@ use lib.IntN.{ℤ}
 use lib.ListN.{length}
 use lib.Pow.{pow-pos}
 use Rattle.op.specs.Op.{opEqual, opNotEquals}
-use Rattle.ink_number.specs.Answer.{gives}
+use Rattle.ink_number.specs.Answer.{Answer, gives}
 use Rattle.slices.specs.Every.{_and_}
 use Rattle.slices.specs.Filled.{part}
 use Rattle.slices.proofs.Every.{and-left, and-right}
@@ -20,7 +20,7 @@ use Rattle.ink_list.specs.ByFile.{eqInFile}
 use Rattle.ink_list.proofs.Formed.{formed-both}
 use Rattle.ink_list.proofs.Rests.{items-entries}
 use Rattle.list_definitions.specs.Defs.{ListDefinitions}
-use Rattle.ink_value.specs.Val.{bool}
+use Rattle.ink_value.specs.Val.{Val, bool}
 use Rattle.ink_value.specs.Value.{valOf, entriesAt, formedIn, Gave}
 use Rattle.ink_value.specs.declared.Outcome.{Outcome}
 use Rattle.ink_value.specs.declared.Outcome.the-variants as Out
@@ -46,7 +46,7 @@ module _ (total d : ℕ) (is : List ℕ) (vs : List ℤ) (o s n : ℕ) (e : form
   items-rise : Rising total (entriesAt is vs s n)
   items-rise = pack-rises total d (valOf is vs (Is.List o s n)) (in-pack total d is vs (Is.List o s n) e)
 
-module _ (F : Format) (p is : List ℕ) (vs : List ℤ) (oi oi′ : List ℕ) (ov ov′ : List ℤ) (d : Pack) (o s n o′ s′ n′ : ℕ) (c : Value) (r : Outcome) where
+module _ (F : Format) (p is : List ℕ) (vs : List ℤ) (oi : List ℕ) (ov : List ℤ) (d : Pack) (o s n o′ s′ n′ : ℕ) (c : Value) where
   abbrev u : ListDefinitions
   u = definitionsOf d F
 
@@ -56,22 +56,14 @@ module _ (F : Format) (p is : List ℕ) (vs : List ℤ) (oi oi′ : List ℕ) (o
   abbrev right : Value
   right = Is.List o′ s′ n′
 
-  -- a call with three operand places, of which it takes the first two
-  abbrev Called : ℕ → Type 0
-  Called op = Returned (onPack F p (called is vs oi ov op 2 (left ∷ right ∷ c ∷ []))) r oi oi′ ov ov′
-
-  -- it returned this Bool, and the result slices are as they were
-  abbrev Returns : Bool → Type 0
-  Returns t = (r ≡ Out.Value (Is.Bool t)) × (oi′ ≡ oi) × (ov′ ≡ ov)
+  -- the answer of a call with two operands, in the contracts of `call` and `ink_call`
+  abbrev answer : ℕ → Answer Val
+  answer op = onPack F p (called is vs oi ov op 2 (left ∷ right ∷ c ∷ []))
 
   module _ (passed : judge F p ≡ gives d) (operands : operandsOk u is vs (left ∷ right ∷ []) ≡ true) (results : resultsOk u oi ov ≡ true) where
-    returned : (op : ℕ) (t : Bool) → known op ≡ true → arity op ≡ 2 → applyOp u op (valOf is vs left ∷ valOf is vs right ∷ []) ≡ gives (bool t)
-        → Called op → Returns t
+    answered : (op : ℕ) (x : Val) → known op ≡ true → arity op ≡ 2 → applyOp u op (valOf is vs left ∷ valOf is vs right ∷ []) ≡ gives x → answer op ≡ gives x
     unfolding called call _and_
-    returned op t is-known two g w =
-        let answer : onPack F p (called is vs oi ov op 2 (left ∷ right ∷ c ∷ [])) ≡ gives (bool t) = rw (passed, operands, results, is-known, two, g) in
-        let gave : Gave (gives (bool t)) r oi oi′ ov ov′ = rw answer at (w .gave) in
-        (gave .answered, gave .items-out, gave .values-out)
+    answered op x is-known two g = rw (passed, operands, results, is-known, two, g)
 
     -- 7, of each of the two
     first : formedIn (length (definedOf d)) (length (endsOf d)) is vs left ≡ true
@@ -80,23 +72,38 @@ module _ (F : Format) (p is : List ℕ) (vs : List ℤ) (oi oi′ : List ℕ) (o
     second : formedIn (length (definedOf d)) (length (endsOf d)) is vs right ≡ true
     second = and-left _ _ (and-right _ _ (and-right _ _ operands))
 
-    -- the test of the items as they stand in the slices
-    same : eqInFile (items (entriesAt is vs s n)) (items (entriesAt is vs s′ n′)) ≡ eqInFile (part s n is) (part s′ n′ is)
-    same = ap2 eqInFile (items-stand _ _ is vs o s n first) (items-stand _ _ is vs o′ s′ n′ second)
+    -- the tests of the items as they stand in the slices
+    stand : eqInFile (items (entriesAt is vs s n)) (items (entriesAt is vs s′ n′)) ≡ eqInFile (part s n is) (part s′ n′ is)
+    stand = ap2 eqInFile (items-stand _ _ is vs o s n first) (items-stand _ _ is vs o′ s′ n′ second)
 
-    pub equal-returned : Called opEqual → Returns (eqInFile (part s n is) (part s′ n′ is))
-    unfolding known unary arity
-    equal-returned =
-        returned opEqual _ refl refl
-        (equals-as-file u o o′ (entriesAt is vs s n) (entriesAt is vs s′ n′) (length (definedOf d)) (items-rise _ _ is vs o s n first) (items-rise _ _ is vs o′ s′ n′ second)
-        ∙ ap (λ (t : Bool). gives (bool t)) same)
+    rise : Rising (length (definedOf d)) (entriesAt is vs s n) × Rising (length (definedOf d)) (entriesAt is vs s′ n′)
+    rise = (items-rise _ _ is vs o s n first, items-rise _ _ is vs o′ s′ n′ second)
 
-    pub not-equals-returned : Called opNotEquals → Returns (not (eqInFile (part s n is) (part s′ n′ is)))
+    pub equal-answered : answer opEqual ≡ gives (bool (eqInFile (part s n is) (part s′ n′ is)))
     unfolding known unary arity
-    not-equals-returned =
-        returned opNotEquals _ refl refl
-        (not-equals-as-file u o o′ (entriesAt is vs s n) (entriesAt is vs s′ n′) (length (definedOf d)) (items-rise _ _ is vs o s n first) (items-rise _ _ is vs o′ s′ n′ second)
-        ∙ ap (λ (t : Bool). gives (bool (not t))) same)
+    equal-answered =
+        answered opEqual _ refl refl (equals-as-file u o o′ _ _ _ (rise .0) (rise .1)) ∙ ap (λ (t : Bool). gives (bool t)) stand
+
+    pub not-equals-answered : answer opNotEquals ≡ gives (bool (not (eqInFile (part s n is) (part s′ n′ is))))
+    unfolding known unary arity
+    not-equals-answered =
+        answered opNotEquals _ refl refl (not-equals-as-file u o o′ _ _ _ (rise .0) (rise .1)) ∙ ap (λ (t : Bool). gives (bool (not t))) stand
+
+    -- what `call` returns, by its contract: the Bool, and the result slices are as they were
+    module _ (r : Outcome) (oi′ : List ℕ) (ov′ : List ℤ) where
+      abbrev Returns : Bool → Type 0
+      Returns t = (r ≡ Out.Value (Is.Bool t)) × (oi′ ≡ oi) × (ov′ ≡ ov)
+
+      returned : (op : ℕ) (t : Bool) → answer op ≡ gives (bool t) → Returned (answer op) r oi oi′ ov ov′ → Returns t
+      returned op t e w =
+          let gave : Gave (gives (bool t)) r oi oi′ ov ov′ = subst (λ (a : Answer Val). Gave a r oi oi′ ov ov′) e (w .gave) in
+          (gave .answered, gave .items-out, gave .values-out)
+
+      pub equal-returned : Returned (answer opEqual) r oi oi′ ov ov′ → Returns (eqInFile (part s n is) (part s′ n′ is))
+      equal-returned = returned opEqual _ equal-answered
+
+      pub not-equals-returned : Returned (answer opNotEquals) r oi oi′ ov ov′ → Returns (not (eqInFile (part s n is) (part s′ n′ is)))
+      not-equals-returned = returned opNotEquals _ not-equals-answered
 
 -- what question 7 is to say yes to can be met: by two empty Lists, in every pack, with result slices that are long enough
 pub two-empty : (u : ListDefinitions) (oi : List ℕ) (ov : List ℤ) → u .limit ≤ length oi → u .limit ≤ length ov

@@ -38,6 +38,7 @@ all-in a (x ∷ b) f =
     let m : member a x ≡ true = f x (first-in x b) in
     rw m (all-in a b (λ k h. f k (in-tail k x b h)))
 
+-- and then each is
 pub is-in : (a b : List ℕ) → subset a b ≡ true → (k : ℕ) → member b k ≡ true → member a k ≡ true
 is-in a [] s k h = absurd (not-both h)
 is-in a (x ∷ b) s k h = go (member a x) refl s (eqb x k) refl h (λ u m. is-in a b u k m)

@@ -10,7 +10,8 @@ ghost use Rattle.list_equality.specs.Alike.{Alike, Tells};
 // How many items are compared before an answer is looked for.
 const BLOCK: usize = 32;
 
-// Do the same items stand from place i up to place e.
+// Do the same items stand from place i up to place e. All of them are looked at: without a way out of the loop the compiler compares
+// several at a time.
 fn alike(ai: &[u16], bi: &[u16], i: usize, e: usize) -> bool
     requires { ⌜ (i ≤ e) × (e ≤ length (now ai)) × (e ≤ length (now bi)) ⌝ }
     ensures { λ r. ⌜ Tells (Alike (now (ai .entry)) (now (bi .entry)) i e) r ⌝ }
