@@ -60,9 +60,9 @@ uint32_t ink_vet(const uint8_t *pack, size_t pack_len, size_t sheet, const uint8
                  uint8_t *forecast, size_t forecast_len, uint64_t *index);
 
 /* Runs sheet `sheet` of any bytes with sixteen slots (three words each), whose Lists' entries stand in `slot_items` and `slot_values`:
- * questions 1 to 13, 15 and 17. A List that it ends in is written to the start of the result slices; other places of them, and all of them after
- * another end or a refusal, are left as they were. The work slices are scratch: after questions 1 to 7 said yes, the first 16,384 places
- * of each are left zero and the later ones as they were; before that all are untouched. `answer` is always written. */
+ * questions 1 to 13, 15 and 17. A List that it ends in is written to the start of the result slices; other places of them, and all of them
+ * after another end or a refusal, are left as they were. The work slices are scratch: after questions 1 to 7 said yes, the first 16,384
+ * places of each are left zero and the later ones as they were; before that all are untouched. `answer` is always written. */
 uint32_t ink_run(const uint8_t *pack, size_t pack_len, size_t sheet, const uint64_t slots[48],
                  const uint16_t *slot_items, size_t slot_items_len, const int32_t *slot_values, size_t slot_values_len,
                  uint16_t *work_items, size_t work_items_len, int32_t *work_values, size_t work_values_len,

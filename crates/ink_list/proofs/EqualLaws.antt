@@ -55,6 +55,7 @@ pub equal-self : (a : List ℕ) → equal a a ≡ true
 unfolding equal
 equal-self a = let s = all-in a a (λ k h. h) in and-both _ _ s s
 
+-- the right lacks one of the left's
 lacks : (a b : List ℕ) → subset b a ≡ false → equal a b ≡ false
 unfolding equal
 lacks a b h = and-no-right (subset a b) _ h

@@ -1,17 +1,19 @@
--- The same numbers place by place: one place more, and two lists that agree at every place. Assumes nothing.
-use mathlib.Core.Path.{_≡_, refl, sym, ap, _∙_, subst}
+-- The same numbers place by place: one place more, and what the places of two rising lists tell of their items. Assumes nothing.
+use mathlib.Core.Path.{_≡_, refl, sym, ap, subst}
 use mathlib.Core.Bool.{Bool, true, false}
 use mathlib.Core.Logic.{⊎-elim}
-use mathlib.Core.List.{List, [], _∷_}
-use Prim.Native.Nat.{ℕ, suc, _+_, _≤_, _<_}
+use mathlib.Core.List.{List}
+use Prim.Native.Nat.{ℕ, _+_, _≤_}
 use native.Mathlib.Omega.{arith}
 use lib.ListN.{length, getD}
 use Rattle.ink_list.specs.Entries.{Ascends}
 use Rattle.ink_list.specs.Ops.{equal}
+use Rattle.slices.specs.Every.{Tells}
 use Rattle.slices.proofs.Every.{not-both}
+use Rattle.slices.proofs.Lists.{by-place}
 use Rattle.ink_list.proofs.Laws.{lt-or-le}
 use Rattle.ink_list.proofs.EqualLaws.{equal-yes, equal-no}
-use Rattle.list_equality.specs.Alike.{Alike, Tells}
+use Rattle.list_equality.specs.Alike.{Alike}
 
 module _ (a b : List ℕ) (i : ℕ) where
   pub alike-none : Alike a b i i
@@ -31,14 +33,6 @@ module _ (a b : List ℕ) (i : ℕ) where
   pub tells-no : (k : ℕ) → i ≤ k → (getD a k 0 ≡ getD b k 0 → ⊥) → Tells (Alike a b i (k + 1)) false
   tells-no k h ne = record { yes = λ e. absurd (not-both e); no = λ e g. ne (g k h (omega arith)) }
 
--- lists that agree at every place are equal
-by-place : (a b : List ℕ) → length a ≡ length b → ((k : ℕ) → k < length a → getD a k 0 ≡ getD b k 0) → a ≡ b
-by-place [] [] e f = refl
-by-place [] (y ∷ b) e f = absurd (omega arith)
-by-place (x ∷ a) [] e f = absurd (omega arith)
-by-place (x ∷ a) (y ∷ b) e f =
-    ap {B = List ℕ} (λ n. n ∷ a) (f 0 (omega arith)) ∙ ap {B = List ℕ} (λ l. y ∷ l) (by-place a b (omega arith) (λ k h. f (suc k) (omega arith)))
-
 module _ (limit : ℕ) (a b : List ℕ) (ra : Ascends 0 limit a) (rb : Ascends 0 limit b) where
   pub unlike-long : (length a ≡ length b → ⊥) → false ≡ equal a b
   unlike-long ne = sym (equal-no limit a b ra rb (λ e. ne (ap length e)))
@@ -48,5 +42,5 @@ module _ (limit : ℕ) (a b : List ℕ) (ra : Ascends 0 limit a) (rb : Ascends 0
 
   -- what was alike so far, and what the rest tells
   pub told : length a ≡ length b → (i : ℕ) (t : Bool) → Alike a b 0 i → Tells (Alike a b i (length a)) t → t ≡ equal a b
-  told e i true f h = sym (equal-yes limit a b ra rb (by-place a b e (λ k l. alike-on a b 0 i (length a) f (h .yes refl) k (omega arith) l)))
+  told e i true f h = sym (equal-yes limit a b ra rb (by-place 0 a b e (λ k l. alike-on a b 0 i (length a) f (h .yes refl) k (omega arith) l)))
   told e i false f h = unlike-part i (length a) (h .no refl)

@@ -1,6 +1,5 @@
--- The same numbers at the same places, and a test's answer. Assumes nothing.
+-- The same numbers at the same places. Assumes nothing.
 use mathlib.Core.Path.{_≡_}
-use mathlib.Core.Bool.{Bool, true, false}
 use mathlib.Core.List.{List}
 use Prim.Native.Nat.{ℕ, _≤_, _<_}
 use lib.ListN.{getD}
@@ -8,8 +7,3 @@ use lib.ListN.{getD}
 -- the same numbers stand from place i up to place e
 abbrev pub Alike : List ℕ → List ℕ → ℕ → ℕ → Type 0
 Alike a b i e = (k : ℕ) → i ≤ k → k < e → getD a k 0 ≡ getD b k 0
-
--- a test's answer: yes where it holds, and no where it does not
-pub record Tells (P : Type 0) (answer : Bool) : Type 0 where
-  pub yes : answer ≡ true → P
-  pub no : answer ≡ false → P → ⊥

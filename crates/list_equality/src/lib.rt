@@ -5,7 +5,8 @@ ghost use Prim.Native.Nat.{_≤_};
 ghost use lib.ListN.{length};
 ghost use Rattle.ink_list.specs.Entries.{Ascends, itemNumbers};
 ghost use Rattle.ink_list.specs.Ops.{equal, notEquals};
-ghost use Rattle.list_equality.specs.Alike.{Alike, Tells};
+ghost use Rattle.slices.specs.Every.{Tells};
+ghost use Rattle.list_equality.specs.Alike.{Alike};
 
 // How many items are compared before an answer is looked for.
 const BLOCK: usize = 32;

@@ -3,8 +3,9 @@ use mathlib.Core.Path.{_≡_, sym}
 use Prim.Native.Nat.{_-_, _≤_}
 use native.Mathlib.Omega.{arith}
 use borrow.Author.Needs.{needs}
+use Rattle.slices.specs.Every.{Tells}
 use Rattle.slices.proofs.Every.{not-both}
-use Rattle.list_equality.specs.Alike.{Alike, Tells}
+use Rattle.list_equality.specs.Alike.{Alike}
 use Rattle.list_equality.proofs.Places.{alike-none, tells-yes, tells-no}
 use Rattle.list_equality.proofs.alike.Statement.{statement}
 use Rattle.list_equality.proofs.alike.Tie as tie
