@@ -33,7 +33,7 @@ module _ (is : List ℕ) (vs : List ℤ) where
   unfoldable pub coerced : (Val → Answer Val) → Value → ListDefinitions → Answer Val
   coerced f v u = ask 7 (operandsOk u is vs (v ∷ [])) (f (valOf is vs v))
 
--- questions 1 to 5 first: "a direct call 1 to 5, 7, 8, 10 to" 15; "a conversion 1 to 5, 7, 18"
+-- questions 1 to 5 first: "a direct call 1 to 5, 7, 8, 10 to" 13 and 15; "a conversion 1 to 5, 7, 18"
 abbrev pub onPack : Format → List ℕ → (ListDefinitions → Answer Val) → Answer Val
 onPack F p f = andThen (judge F p) (λ d. f (definitionsOf d F))
 

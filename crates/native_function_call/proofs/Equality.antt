@@ -2,24 +2,20 @@
 -- are. Assumes nothing.
 use mathlib.Core.Path.{_≡_, refl, ap, _∙_}
 use mathlib.Core.Bool.{Bool, not}
-use mathlib.Core.List.{List, [], _∷_, map}
+use mathlib.Core.List.{List, [], _∷_}
 use Prim.Native.Nat.{ℕ}
 use Rattle.op.specs.Op.{opEqual, opNotEquals}
-use Rattle.ink_number.specs.Answer.{Answer, gives}
+use Rattle.ink_number.specs.Answer.{gives}
 use Rattle.ink_list.specs.Entries.{Entry, items, Rising}
 use Rattle.ink_list.specs.Ops.{equal}
 use Rattle.ink_list.specs.ByFile.{eqInFile}
 use Rattle.ink_list.proofs.EqualLaws.{equal-as-file}
 use Rattle.list_definitions.specs.Defs.{ListDefinitions}
-use Rattle.ink_value.specs.Val.{Val, Kind, bool, list, boolK, kindOf}
+use Rattle.ink_value.specs.Val.{Val, bool, list, boolK}
 use Rattle.list_pairs.specs.Pairs.{testL}
 use Rattle.operator_kinds.specs.Kinds.{unary, arity, kindBinary, kindApply}
-use Rattle.native_function_call.specs.Apply.{applyOp, compute, guarded, test, testLists}
-
--- an operator whose result is a Bool
-gives-bool : (u : ListDefinitions) (o : ℕ) (vs : List Val) → kindApply o (map kindOf vs) ≡ gives boolK → applyOp u o vs ≡ gives (bool (test o vs))
-unfolding applyOp compute
-gives-bool u o vs e = ap (λ (k : Answer Kind). guarded k (compute u o vs)) e
+use Rattle.native_function_call.specs.Apply.{applyOp, compute, testLists}
+use Rattle.native_function_call.proofs.Calling.{apply-gives}
 
 module _ (u : ListDefinitions) (p q : ℕ) (a b : List Entry) where
   abbrev lists : List Val
@@ -27,12 +23,12 @@ module _ (u : ListDefinitions) (p q : ℕ) (a b : List Entry) where
 
   -- "The handbook's meaning is the same items on both sides"
   pub equals : applyOp u opEqual lists ≡ gives (bool (equal (items a) (items b)))
-  unfolding unary arity kindBinary kindApply testLists testL
-  equals = gives-bool u opEqual lists refl
+  unfolding compute unary arity kindBinary kindApply testLists testL
+  equals = apply-gives u opEqual lists boolK refl
 
   pub not-equals : applyOp u opNotEquals lists ≡ gives (bool (not (equal (items a) (items b))))
-  unfolding unary arity kindBinary kindApply testLists testL
-  not-equals = gives-bool u opNotEquals lists refl
+  unfolding compute unary arity kindBinary kindApply testLists testL
+  not-equals = apply-gives u opNotEquals lists boolK refl
 
   -- "as the equality in ink_list.rs answers": as many items, and each of the left among the right's
   module _ (limit : ℕ) (ra : Rising limit a) (rb : Rising limit b) where
