@@ -5,6 +5,7 @@ pub mod Values
 pub mod Grid
 pub mod Rounds
 pub mod Unique
+pub mod Integral
 pub mod Sums
 pub mod Remainder
 pub mod Orders

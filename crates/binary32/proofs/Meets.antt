@@ -1,7 +1,7 @@
 -- Each binary32 operation of lib.Ieee, which the language's own operators are, is exactly what specs/Operations.antt says: one
 -- theorem for each. Assumes nothing.
 use mathlib.Core.Path.{_≡_, refl, sym, ap, _∙_, subst}
-use mathlib.Core.Bool.{Bool, true, false, not, _||_, Bool·beq, cond}
+use mathlib.Core.Bool.{Bool, true, false, not, _||_, Bool·beq, Bool·not-not, cond}
 use Prim.Native.Nat.{ℕ, zero, suc, _-_, _*_, _/_, _%_, _^_, _≤_, _<_, min}
 use native.Mathlib.Nat.{zero-lt-suc, mul-pos, mod-eq-sub-div-mul}
 use native.Mathlib.Omega.{arith}
@@ -11,15 +11,17 @@ use lib.IntN.{ℤ, pos, negsuc, negℤ}
 use lib.Ieee.{Float, nan, inf, fin, binary32, up, down, round, neg, add, sub, mul, div, rem, lt, le, eq, ne, ofInt, toSigned, ofBits, toBits, fits}
 use lib.Ieee.Fits.{up-pos, down-pos, nan-fits, inf-fits, add-fits, mul-fits, div-fits, rem-fits, ofInt-fits}
 use lib.Ieee.Bits.{ofBits-fits}
-use Rattle.ink_number.specs.Int.{unlike}
+use Rattle.ink_number.specs.Int.{unlike, withSign}
 use Rattle.binary32.specs.Binary32.{numerator, denominator, Is, Binary32, Exactly, Only}
 use Rattle.binary32.specs.Nearest.{Rounded}
-use Rattle.binary32.specs.Operations.{Sum, opposite, Difference, Product, Quotient, Remainder, less, equal, lessOrEqual, notEqual, smaller, greater, truthy, OfInt, saturated, truncated, OfBits, ToBits}
+use Rattle.binary32.specs.Operations.{Sum, opposite, Difference, Product, Quotient, Remainder, atMost, Last, Integral, Floor, Ceiling, less, equal, lessOrEqual, notEqual, smaller, greater, truthy, OfInt, saturated, truncated, OfBits, ToBits}
+use Rattle.binary32.specs.Real.{floorF, ceilingF}
 use Rattle.binary32.proofs.Binary32.{num-is, den-is, is-of, fits-of, binary32-of}
 use Rattle.binary32.proofs.Rounds.{rounded}
 use Rattle.binary32.proofs.Unique.{is-unique, unique}
 use Rattle.binary32.proofs.Sums.{sum-meets}
 use Rattle.binary32.proofs.Remainder.{remains}
+use Rattle.binary32.proofs.Integral.{below, last-below, one-last, below-near, below-exact, opposite-fits, opposite-is, twice, from-above, from-below}
 use Rattle.binary32.proofs.Orders.{below-is, level-is}
 use Rattle.binary32.proofs.Tests.{self-differs, not-zero}
 use Rattle.binary32.proofs.Fields.{reads, reads-only, written, written-only}
@@ -142,6 +144,51 @@ rem-meets (fin s m e) (fin t (suc n) d) f g =
     (rw (other n nan r, num-is m e, num-is (suc n) d, den-is e, den-is d)
     (subst (λ (z : ℕ). Is r s z c) (mod-eq-sub-div-mul a b) (is-of r s (a % b) c (remains s m e t (suc n) d (zero-lt-suc n) f g))))
 
+-- ---- floor and ceiling
+
+-- the Float of the last integer at or below
+whole-below : (s : Bool) (m : ℕ) (e : ℤ) (v : Float) → T (fits binary32 v) → Is v s (below s m e) 1 → Exactly (Floor (fin s m e)) v
+unfolding Integral
+whole-below s m e v f i = record {
+  value = binary32-of v f;
+  holds = (below s m e, i, last);
+  only = λ r p h. is-unique s (below s m e) 1 r v (lit< tt) p (binary32-of v f)
+      (subst (λ (n : ℕ). Is r s n 1) (one-last s m e (h .0) (below s m e) (h .2) last) (h .1)) i;
+}
+  where
+    last : Last atMost s m e (withSign s (below s m e))
+    last = last-below m e (den-pos e) s
+
+pub floor-meets : (x : Float) → Binary32 x → Exactly (Floor x) (floorF x)
+unfolding floorF Integral
+floor-meets nan f = named refl (nan-fits binary32)
+floor-meets (inf s) f = named refl (inf-fits binary32 s)
+floor-meets (fin false m e) f =
+    let v = ofInt binary32 (pos (below false m e)) in
+    whole-below false m e v (ofInt-fits binary32 (pos (below false m e))) (below-exact false m e f)
+floor-meets (fin true m e) f =
+    let v = ofInt binary32 (pos (below true m e)) in
+    whole-below true m e (opposite v)
+    (fits-of (opposite v) (opposite-fits v (binary32-of v (ofInt-fits binary32 (pos (below true m e))))))
+    (opposite-is v false (below true m e) 1 (below-exact true m e f))
+
+pub ceiling-meets : (x : Float) → Binary32 x → Exactly (Ceiling x) (ceilingF x)
+ceiling-meets x f =
+    let v = floorF (opposite x) in
+    let h = floor-meets (opposite x) (opposite-fits x f) in
+    record {
+      value = opposite-fits v (h .value);
+      holds = from-below x v (h .holds);
+      only = λ r p k. sym (twice r) ∙ ap opposite (h .only (opposite r) (opposite-fits r p) (from-above x r k));
+    }
+
+-- a value whose exponent is not negative has no fraction, and is its own
+pub floor-whole : (s : Bool) (m k : ℕ) → Binary32 (fin s m (pos k)) → fin s m (pos k) ≡ floorF (fin s m (pos k))
+unfolding Integral
+floor-whole s m k f =
+    floor-meets (fin s m (pos k)) f .only (fin s m (pos k)) f
+    (below s m (pos k), (refl, ap (λ (z : ℕ). z * 1) (sym (below-near s m (pos k)))), last-below m (pos k) (den-pos (pos k)) s)
+
 -- ---- comparisons
 
 pub lt-meets : (x y : Float) → lt x y ≡ less x y
@@ -154,15 +201,11 @@ lt-meets (fin s m e) nan = refl
 lt-meets (fin s m e) (inf t) = refl
 lt-meets (fin s m e) (fin t n d) = rw (num-is m e, num-is n d, den-is e, den-is d) (below-is s (m * up e * down d) t (n * up d * down e))
 
-not-not : (b : Bool) → b ≡ not (not b)
-not-not true = refl
-not-not false = refl
-
 pub eq-meets : (x y : Float) → eq x y ≡ equal x y
 unfolding eq equal
 eq-meets nan y = refl
 eq-meets (inf s) nan = refl
-eq-meets (inf s) (inf t) = not-not (Bool·beq s t)
+eq-meets (inf s) (inf t) = sym (Bool·not-not (Bool·beq s t))
 eq-meets (inf s) (fin t n d) = refl
 eq-meets (fin s m e) nan = refl
 eq-meets (fin s m e) (inf t) = refl

@@ -5,8 +5,8 @@ use mathlib.Core.Path.{_≡_}
 use mathlib.Core.Bool.{Bool, true, false, not, _&&_, _||_, cond}
 use Prim.Native.Nat.{ℕ, zero, suc, _+_, _-_, _*_, _/_, _%_, _^_, _<_}
 use lib.Dec.{leb, eqb}
-use lib.IntN.{ℤ, pos, negsuc, natAbs, _+ℤ_}
-use lib.Signed.{ltZ}
+use lib.IntN.{ℤ, pos, negsuc, natAbs, _+ℤ_, _*ℤ_}
+use lib.Signed.{ltZ, leZ}
 use lib.Ieee.{Float, nan, inf, fin}
 use Rattle.ink_number.specs.Int.{lowest, greatest, withSign, negative, unlike, eqZ}
 use Rattle.binary32.specs.Binary32.{numerator, denominator, Is}
@@ -83,6 +83,35 @@ Remainder (fin s m e) (fin t (suc n) d) r =
     let a = numerator m e * denominator d in
     let b = numerator (suc n) d * denominator e in
     Is r s (a - a / b * b) (denominator e * denominator d)
+
+-- ---- Floor and Ceiling: "IEEE 754 rounding to an integral value, toward negative and toward positive infinity. Negative zero
+-- and infinities are kept."
+
+-- from below, and from above
+abbrev pub atMost : ℤ → ℤ → Bool
+atMost a b = leZ a b
+
+abbrev pub atLeast : ℤ → ℤ → Bool
+atLeast a b = leZ b a
+
+-- of all integers that lie on that side of fin s m e, or on it, z is the last; a fraction is compared by multiplying across
+pub record Last (side : ℤ → ℤ → Bool) (s : Bool) (m : ℕ) (e : ℤ) (z : ℤ) : Type 0 where
+  pub lies : side (z *ℤ pos (denominator e)) (withSign s (numerator m e)) ≡ true
+  pub last : (w : ℤ) → side (w *ℤ pos (denominator e)) (withSign s (numerator m e)) ≡ true → side w z ≡ true
+
+-- the integral value that is nearest from that side, with the operand's sign, also where it is a zero
+unfoldable pub Integral : (ℤ → ℤ → Bool) → Float → Float → Type 0
+Integral side nan r = r ≡ nan
+Integral side (inf s) r = r ≡ inf s
+Integral side (fin s m e) r = (n : ℕ) × Is r s n 1 × Last side s m e (withSign s n)
+
+-- roundToIntegralTowardNegative
+abbrev pub Floor : Float → Float → Type 0
+Floor x r = Integral atMost x r
+
+-- roundToIntegralTowardPositive
+abbrev pub Ceiling : Float → Float → Type 0
+Ceiling x r = Integral atLeast x r
 
 -- ---- comparisons: a NaN is not less than, greater than or equal to anything, and the two zeros are equal
 

@@ -1,11 +1,12 @@
 -- The Float operators under the names that definitions cite. Where a result is rounded or built the name is that of the prover's own
 -- binary32 operation, and the contract of the function that computes it says over whole numbers what it is; elsewhere it is that of
 -- the definition over whole numbers (Operations.antt beside this). Assumes nothing.
-use mathlib.Core.Bool.{Bool}
-use Prim.Native.Nat.{ℕ}
-use lib.IntN.{ℤ}
+use mathlib.Core.Bool.{Bool, true, false}
+use Prim.Native.Nat.{ℕ, _+_, _-_, _/_}
+use lib.IntN.{ℤ, pos}
 use lib.Ieee
-use lib.Ieee.{Float, binary32}
+use lib.Ieee.{Float, nan, inf, fin, binary32}
+use Rattle.binary32.specs.Binary32.{numerator, denominator}
 use Rattle.binary32.specs.Operations.{opposite, equal, notEqual, less, lessOrEqual, smaller, greater, truthy, truncated}
 
 abbrev pub addF : Float → Float → Float
@@ -25,6 +26,20 @@ remF x y = Ieee.rem binary32 x y
 
 abbrev pub negF : Float → Float
 negF x = opposite x
+
+-- Floor has no operation of the prover's: it is the Float of a magnitude's whole part or, below zero, of the next whole number up, which
+-- is exact. Ceiling is the same from the other side.
+abbrev pub upward : ℕ → ℕ → ℕ
+upward num den = (num + (den - 1)) / den
+
+unfoldable pub floorF : Float → Float
+floorF nan = nan
+floorF (inf s) = inf s
+floorF (fin false m e) = Ieee.ofInt binary32 (pos (numerator m e / denominator e))
+floorF (fin true m e) = opposite (Ieee.ofInt binary32 (pos (upward (numerator m e) (denominator e))))
+
+abbrev pub ceilingF : Float → Float
+ceilingF x = opposite (floorF (opposite x))
 
 abbrev pub eqF : Float → Float → Bool
 eqF x y = equal x y
