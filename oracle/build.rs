@@ -44,7 +44,7 @@ fn main() {
     // only these call the port
     let archive = folder("INK_LIB_DIR", "../target/staticlib").join("libink_operators.a");
     println!("cargo:rerun-if-changed={}", archive.display());
-    for bin in ["compare", "bench"] {
+    for bin in ["compare", "bench", "every"] {
         println!("cargo:rustc-link-arg-bin={bin}={}", archive.display());
         println!("cargo:rustc-link-arg-bin={bin}=-lm");
     }

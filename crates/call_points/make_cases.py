@@ -22,6 +22,9 @@ AND = 13
 OR = 14
 MIN = 15
 MAX = 16
+POW = 17
+FLOOR = 18
+CEILING = 19
 INT = 20
 FLOAT = 21
 HAS = 22
@@ -142,6 +145,22 @@ def cases():
     yield call('List == 1', EQUAL, entries(3, 0, 2), integer(1))
     yield call('true != List', NOT_EQUALS, TRUE, entries(3, 0, 2))
     yield call('List == Void', EQUAL, entries(3, 0, 2), VOID)
+    # document 02's FLOOR and CEILING
+    yield call('FLOOR of 2.5', FLOOR, real(0x40200000))
+    yield call('CEILING of 2.5', CEILING, real(0x40200000))
+    yield call('FLOOR of -2.5', FLOOR, real(0xc0200000))
+    yield call('CEILING of -2.5', CEILING, real(0xc0200000))
+    yield call('FLOOR of 0.5', FLOOR, real(0x3f000000))
+    yield call('CEILING of -0.5', CEILING, real(0xbf000000))
+    yield call('FLOOR of -0.0', FLOOR, real(0x80000000))
+    yield call('CEILING of -0.0', CEILING, real(0x80000000))
+    yield call('CEILING of 8388607.5', CEILING, real(0x4affffff))
+    yield call('FLOOR of -infinity', FLOOR, real(0xff800000))
+    yield call('CEILING of a NaN', CEILING, real(0xffc00001))
+    yield call('FLOOR of -7', FLOOR, integer(-7))
+    yield call('CEILING of true', CEILING, TRUE)
+    yield call('FLOOR of a List', FLOOR, entries(3, 0, 2))
+    yield call('CEILING of Void', CEILING, VOID)
     # questions 11 and 13
     yield call('List * List', MULTIPLY, entries(3, 0, 2), entries(3, 0, 2))
     yield call('1 Has 1', HAS, integer(1), integer(1))
@@ -150,11 +169,11 @@ def cases():
     yield call('Not of Void', NOT, VOID)
     yield call('range to Void', RANGE, entries(3, 0, 2), integer(1), VOID)
     # questions 8 and 10
-    yield call('POW', 17, integer(2), integer(2))
-    yield call('FLOOR', 18, real(0x40200000))
-    yield call('CEILING', 19, real(0x40200000))
+    yield call('POW', POW, integer(2), integer(2))
     yield call('operator 32', 32, integer(1), integer(1))
-    yield call('POW of none', 17)
+    yield call('POW of none', POW)
+    yield call('FLOOR of none', FLOOR)
+    yield call('CEILING of two', CEILING, integer(1), integer(1))
     yield call('Add of one', ADD, integer(1))
     yield call('Add of three', ADD, integer(1), integer(1), integer(1))
     yield call('Not of none', NOT)
@@ -165,7 +184,7 @@ def cases():
     yield call('an origin bit at D', NOT, entries(4, 0, 1))
     yield call('entries past the end', NOT, entries(3, 6, 2))
     yield call('the second ill-formed', ADD, entries(3, 0, 2), entries(3, 1, 2))
-    yield call('ill-formed, operator POW', 17, entries(3, 0, 2), entries(3, 1, 2))
+    yield call('ill-formed, operator POW', POW, entries(3, 0, 2), entries(3, 1, 2))
     yield call('ill-formed and not used', NOT, integer(0), entries(3, 1, 2), count=1)
     # result slices at and below 256 places
     yield call('result slices of 255 items', ADD, entries(3, 0, 2), entries(3, 0, 2), results=FEW_ITEMS)

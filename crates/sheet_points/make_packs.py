@@ -8,7 +8,7 @@ import struct
 HERE = os.path.dirname(os.path.abspath(__file__))
 
 ADD, SUBTRACT, DIVIDE, MULTIPLY, MOD, NEGATE, EQUAL, GREATER, LESS = range(9)
-NOT_EQUALS, NOT, AND, OR, MIN, MAX = range(11, 17)
+NOT_EQUALS, NOT, AND, OR, MIN, MAX, POW, FLOOR, CEILING = range(11, 20)
 TO_INT, TO_FLOAT, HAS, HASNT, INTERSECT, LIST_MIN, LIST_MAX, ALL, COUNT, VALUE_OF_LIST, INVERT, RANGE = range(20, 32)
 VOID = bytes([37])
 
@@ -71,8 +71,8 @@ VALUES = [
 ENDS = [
     (b'', 'R 17 0'),
     (sheet(integer(1), integer(2)), 'R 17 2'),
-    (sheet(17), 'R 8 0'),
-    (sheet(integer(1), 19), 'R 8 1'),
+    (sheet(POW), 'R 8 0'),
+    (sheet(integer(1), integer(1), POW), 'R 8 2'),
     (sheet(integer(1)) * 64, 'R 17 64'),
     (sheet(integer(1)) * 65, 'R 9 64'),
     (sheet(integer(1)) * 64 + sheet(*[ADD] * 63), 'I 64'),
@@ -101,6 +101,23 @@ NUMBERS = [
     (sheet(float_bits(0xc0200000), TO_INT), 'I -2'),
     (sheet(integer(1), float_bits(0x40000000), LESS), 'B 1'),
     (sheet(float_bits(0x3f800000), float_bits(0), DIVIDE), 'F 7f800000'),
+]
+ROUNDING = [
+    (sheet(float_bits(0x40200000), FLOOR), 'F 40000000'),  # 2.5: 2.0
+    (sheet(float_bits(0x40200000), CEILING), 'F 40400000'),  # 2.5: 3.0
+    (sheet(float_bits(0xc0200000), FLOOR), 'F c0400000'),  # -2.5: -3.0
+    (sheet(float_bits(0xc0200000), CEILING), 'F c0000000'),  # -2.5: -2.0
+    (sheet(float_bits(0x3f000000), FLOOR), 'F 00000000'),  # 0.5: 0.0
+    (sheet(float_bits(0xbf000000), CEILING), 'F 80000000'),  # -0.5: -0.0
+    (sheet(float_bits(0xbf000000), FLOOR), 'F bf800000'),  # -0.5: -1.0
+    (sheet(integer(7), FLOOR), 'I 7'),  # an Int stays an Int
+    (sheet(boolean(1), CEILING), 'I 1'),  # a Bool goes by its Int
+    (sheet(integer(7), float_bits(0x40000000), DIVIDE, FLOOR, TO_INT), 'I 3'),  # the Int of 7 / 2.0, rounded down
+    (sheet(float_bits(0x7f800000), CEILING), 'F 7f800000'),
+    (sheet(float_bits(0x7f800001), FLOOR), 'F 7fc00000'),
+    (sheet(ONE, FLOOR), 'R 13 1'),
+    (sheet(VOID, CEILING), 'R 11 1'),
+    (sheet(FLOOR), 'R 10 0'),
 ]
 LISTS = [
     (sheet(ONE, OTHER, ADD), 'L 3 0=1 2=30 3=-5'),
@@ -206,6 +223,7 @@ def samples():
     yield ('values', *sheets(VALUES))
     yield ('ends', *sheets(ENDS))
     yield ('numbers', *sheets(NUMBERS))
+    yield ('rounding', *sheets(ROUNDING))
     yield ('lists', *sheets(LISTS))
     yield ('equal lists', *sheets(EQUALITY, EQUAL_LITERALS))
     yield ('emptied lists', *sheets(EMPTIED, EMPTIED_LITERALS))

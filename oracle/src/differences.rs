@@ -6,7 +6,7 @@ use crate::{
     object::RTObject,
     original::{OPS, World},
     value::Value,
-    values::{Answer, Defs, List, Val},
+    values::{Answer, CEILING, Defs, FLOOR, List, POW, Val},
 };
 use std::{collections::BTreeSet, rc::Rc};
 
@@ -70,11 +70,24 @@ fn equality_of_lists_looks_at_items_alone() {
 }
 
 #[test]
-fn left_out_operators_are_carried_there() {
+fn the_left_out_operator_is_carried_there() {
     let w = world(&[]);
-    assert_eq!(says(&w, 17, &[Val::Int(2), Val::Int(3)]), "F 41000000");
-    assert_eq!(says(&w, 18, &[Val::Int(2)]), "I 2");
-    assert_eq!(says(&w, 19, &[Val::Float(0x3fc0_0000)]), "F 40000000");
+    assert_eq!(says(&w, POW, &[Val::Int(2), Val::Int(3)]), "F 41000000");
+    assert_eq!(w.call(POW, &[Val::Int(2), Val::Int(3)]).to_string(), "R 8");
+}
+
+#[test]
+fn floor_and_ceiling() {
+    let w = world(&[&[1]]);
+    let both = |v: Val| [FLOOR, CEILING].map(|op| says(&w, op, std::slice::from_ref(&v)));
+    assert_eq!(both(Val::Float(0xbf00_0000)), ["F bf800000", "F 80000000"]); // -0.5: -1.0, -0.0
+    assert_eq!(both(Val::Float(0x3f00_0000)), ["F 00000000", "F 3f800000"]); // 0.5: 0.0, 1.0
+    assert_eq!(both(Val::Float(0x8000_0000)), ["F 80000000", "F 80000000"]); // -0.0
+    assert_eq!(both(Val::Float(0xff80_0000)), ["F ff800000", "F ff800000"]); // -infinity
+    assert_eq!(both(Val::Int(-7)), ["I -7", "I -7"]);
+    assert_eq!(both(Val::Bool(true)), ["I 1", "I 1"]);
+    assert_eq!(both(list(1, &[(0, 1)])), ["R 13", "R 13"]);
+    assert_eq!(both(Val::Void), ["R 11", "R 11"]);
 }
 
 #[test]

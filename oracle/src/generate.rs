@@ -1,5 +1,5 @@
 //! Operands: all edge scalars and lists under every operator, and random ones by seed.
-use crate::values::{CARRIED, Defs, EQUAL, LIST, List, NOT_EQUALS, RANGE, Val, arity};
+use crate::values::{CARRIED, Defs, EQUAL, LIST, List, NOT_EQUALS, POW, RANGE, Val, arity};
 
 pub struct Rng(u64);
 
@@ -68,7 +68,7 @@ pub const INTS: [i32; 38] = [
 ];
 
 /// Bits of edge floats; the negatives are added by `floats`.
-const SIZES: [u32; 36] = [
+const SIZES: [u32; 39] = [
     0x0000_0000, // 0
     0x0000_0001, // least subnormal
     0x0000_0002,
@@ -94,6 +94,9 @@ const SIZES: [u32; 36] = [
     0x4020_0000, // 2.5
     0x4040_0000, // 3
     0x40e0_0000, // 7
+    0x4a7f_ffff, // 4194303.75
+    0x4aff_ffff, // 8388607.5, the greatest with a fraction
+    0x4b00_0000, // 8388608
     0x4b7f_ffff,
     0x4b80_0000, // 16777216
     0x4b80_0001,
@@ -176,7 +179,7 @@ pub fn few_values() -> Vec<Val> {
 }
 
 /// Every scalar pair under every two-operand operator, every value under every one-operand one, every list pair,
-/// list against a few scalars, Void anywhere, wrong operand counts, and the operators left out.
+/// list against a few scalars, Void anywhere, wrong operand counts, and POW, which is left out.
 pub fn edge_calls(mut put: impl FnMut(u8, &[Val])) {
     let (scalars, lists, few) = (scalars(), edge_lists(), few_values());
     for op in CARRIED {
@@ -210,7 +213,7 @@ pub fn edge_calls(mut put: impl FnMut(u8, &[Val])) {
     }
     for op in 0..=RANGE {
         for n in 0..=4 {
-            if n != arity(op) || (17..=19).contains(&op) {
+            if n != arity(op) || op == POW {
                 put(op, &vec![Val::Int(1); n]);
                 put(op, &vec![Val::Void; n]);
             }

@@ -4,13 +4,14 @@ use crate::{
     ink_list_item::InkListItem,
     list_definition::ListDefinition,
     list_definitions_origin::ListDefinitionsOrigin,
+    math,
     native_function_call::{NativeFunctionCall, Op},
     object::RTObject,
     remainder::remainder,
     story::error::StoryError,
     value::Value,
     value_type::ValueType,
-    values::{Answer, Defs, List, RANGE, SUBTRACT, Val, arity},
+    values::{Answer, Defs, FLOOR, List, POW, RANGE, SUBTRACT, Val, arity},
     void::Void,
 };
 use std::{
@@ -210,9 +211,9 @@ impl World {
     /// The original's answer in the form the port owes it: tied items become the
     /// smallest tied item number (after checking that the item given is tied), a NaN
     /// is 7fc00000, a zero from Min or Max is the left operand, a panic is 15, and
-    /// what document 01 leaves out is refused (8, 18).
+    /// what is left out is refused (8, 18).
     pub fn call(&self, op: u8, operands: &[Val]) -> Answer {
-        if !(op <= 16 || (20..=RANGE).contains(&op)) {
+        if op == POW || op > RANGE {
             return Answer::Refused(8);
         }
         match self.call_raw(op, operands) {
@@ -363,6 +364,11 @@ pub fn kind(op: u8, kinds: &[u8]) -> Result<u8, u8> {
     });
     let k = |i: usize| kinds.get(i).map_or(0, |k| *k as usize);
     table[op as usize * 125 + k(0) * 25 + k(1) * 5 + k(2)]
+}
+
+/// What the original's Floor or Ceiling calls on a Float.
+pub fn integral(op: u8, x: f32) -> f32 {
+    if op == FLOOR { math::floor(x) } else { math::ceil(x) }
 }
 
 /// The original's own calls and objects, for timing.

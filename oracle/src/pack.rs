@@ -3,7 +3,9 @@
 use crate::{
     generate::{self, Rng},
     original::{World, kind},
-    values::{Answer, BOOL, CARRIED, Defs, EQUAL, LIST, List, NOT_EQUALS, RANGE, SUBTRACT, VOID, Val, arity},
+    values::{
+        Answer, BOOL, CARRIED, CEILING, Defs, EQUAL, FLOOR, LIST, List, NOT_EQUALS, POW, RANGE, SUBTRACT, VOID, Val, arity,
+    },
 };
 use std::fmt::Write;
 
@@ -348,14 +350,14 @@ fn expression(r: &mut Rng, b: &mut Builder, slots: &SlotKinds, edges: &[u32], ki
         1 => match r.below(5) {
             0 | 1 => (*r.pick(&[0, 1, 2, 3, 4, 15, 16]), vec![r.below(2) as u8, r.below(2) as u8]),
             2 => (*r.pick(&[28, 29, 12]), vec![3]),
-            3 => (5, vec![1]),
+            3 => (*r.pick(&[5, FLOOR, CEILING]), vec![r.below(2) as u8]),
             _ => (20, vec![*r.pick(&[1, 2, 2])]),
         },
         2 => match r.below(4) {
             0 => (*r.pick(&[0, 1, 2, 3, 4, 15, 16]), vec![2, number(r)]),
             1 => (*r.pick(&[0, 1, 2, 3, 4, 15, 16]), vec![number(r), 2]),
             2 => (21, vec![number(r)]),
-            _ => (5, vec![2]),
+            _ => (*r.pick(&[5, FLOOR, CEILING]), vec![2]),
         },
         _ => match r.below(5) {
             0 => (*r.pick(&[0, 1]), vec![3, 1]),
@@ -392,7 +394,7 @@ pub fn random_sheet(r: &mut Rng, b: &mut Builder, slots: &SlotKinds, edges: &[u3
             let (kind, depth) = (r.below(4) as u8, r.below(6));
             expression(r, b, slots, edges, kind, depth, &mut code);
             if r.chance(20) {
-                code.push(*r.pick(&[17, 18, 19, 37, 12, 28, 0, 5, 6, 13, 22, 24, 31, 25]));
+                code.push(*r.pick(&[POW, FLOOR, CEILING, 37, 12, 28, 0, 5, 6, 13, 22, 24, 31, 25]));
             }
             if r.chance(5) {
                 code.extend([36, r.below(16) as u8]);

@@ -41,12 +41,15 @@ pub const OP_NAMES: [&str; 32] = [
     "Invert",
     "Range",
 ];
-/// Document 01's operators: 0..16, 20..30 and range.
-pub const CARRIED: [u8; 29] =
-    [0, 1, 2, 3, 4, 5, 6, 7, 8, 9, 10, 11, 12, 13, 14, 15, 16, 20, 21, 22, 23, 24, 25, 26, 27, 28, 29, 30, 31];
+/// The operators that are carried: all but POW, and range.
+pub const CARRIED: [u8; 31] =
+    [0, 1, 2, 3, 4, 5, 6, 7, 8, 9, 10, 11, 12, 13, 14, 15, 16, 18, 19, 20, 21, 22, 23, 24, 25, 26, 27, 28, 29, 30, 31];
 pub const SUBTRACT: u8 = 1;
 pub const EQUAL: u8 = 6;
 pub const NOT_EQUALS: u8 = 11;
+pub const POW: u8 = 17;
+pub const FLOOR: u8 = 18;
+pub const CEILING: u8 = 19;
 pub const INTERSECT: u8 = 24;
 pub const ALL: u8 = 27;
 pub const INVERT: u8 = 30;
@@ -55,7 +58,7 @@ pub const RANGE: u8 = 31;
 /// How many operands an operator takes.
 pub fn arity(op: u8) -> usize {
     match op {
-        5 | 12 | 18 | 19 | 20 | 21 | 25..=30 => 1,
+        5 | 12 | FLOOR | CEILING | 20 | 21 | 25..=30 => 1,
         RANGE => 3,
         _ => 2,
     }

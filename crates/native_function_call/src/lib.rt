@@ -139,6 +139,8 @@ fn whole1(op: u8, ka: u8, za: i32, xa: f32, sa: usize, na: usize, values: &[i32]
     match op {
         op::NEGATE => int::wrapping_neg(ink_value::int_from(ka, za, xa, sa, na, values)),
         op::NOT => ink_value::bit(!ink_value::truth_from(ka, za, xa, na)),
+        op::FLOOR => ink_value::int_from(ka, za, xa, sa, na, values),
+        op::CEILING => ink_value::int_from(ka, za, xa, sa, na, values),
         op::INT => ink_value::int_from(ka, za, xa, sa, na, values),
         op::COUNT => ink_value::len_from(ka, na) as i32,
         op::VALUE_OF_LIST => ink_value::int_from(ka, za, xa, sa, na, values),
@@ -181,11 +183,7 @@ fn real1(op: u8, ka: u8, za: i32, xa: f32, sa: usize, na: usize, values: &[i32])
     requires { ⌜ sa + na ≤ length (now values) ⌝ }
     ensures { λ r. ⌜ ((is : List ℕ) → sa + na ≤ length is → r ≡ realUnary op (partsWith is values ka za xa sa na)) ⌝ }
 {
-    match op {
-        op::NEGATE => ink_float::neg(ink_value::float_from(ka, za, xa, sa, na, values)),
-        op::FLOAT => ink_value::float_from(ka, za, xa, sa, na, values),
-        _ => float_conversions::int_to_float(0),
-    }
+    number_operators::unary_float(op, ink_value::float_from(ka, za, xa, sa, na, values))
 }
 
 // A result that is a Float.

@@ -7,11 +7,11 @@ use lib.IntN.{ℤ, pos, negℤ, _+ℤ_, _-ℤ_, _*ℤ_}
 use lib.ListN.{length}
 use lib.Signed.{ltZ, leZ}
 use lib.Ieee.{Float}
-use Rattle.op.specs.Op.{opAdd, opSubtract, opDivide, opMultiply, opMod, opNegate, opEqual, opGreater, opLess, opGreaterThanOrEquals, opLessThanOrEquals, opNotEquals, opNot, opAnd, opOr, opMin, opMax, opInt, opFloat, opCount, opValueOfList}
+use Rattle.op.specs.Op.{opAdd, opSubtract, opDivide, opMultiply, opMod, opNegate, opEqual, opGreater, opLess, opGreaterThanOrEquals, opLessThanOrEquals, opNotEquals, opNot, opAnd, opOr, opMin, opMax, opFloor, opCeiling, opInt, opFloat, opCount, opValueOfList}
 use Rattle.operator_kinds.specs.Kinds.{common}
 use Rattle.ink_number.specs.Answer.{Answer, gives}
 use Rattle.ink_number.specs.Int.{wrap, quotient, remainder, minZ, maxZ, eqZ, truthyZ}
-use Rattle.binary32.specs.Real.{addF, subF, mulF, divF, remF, negF, minF, maxF, eqF, neF, ltF, leF, truthyF, ofInt32}
+use Rattle.binary32.specs.Real.{addF, subF, mulF, divF, remF, negF, floorF, ceilingF, minF, maxF, eqF, neF, ltF, leF, truthyF, ofInt32}
 use Rattle.ink_value.specs.Val.{Val, Kind, boolK, intK, floatK, listK, voidK, kindOf}
 use Rattle.ink_value.specs.Convert.{bitZ, asInt, asFloat, truthy, entriesOf}
 
@@ -81,19 +81,27 @@ testTwo o a b = testNumbers (common (kindOf a) (kindOf b)) o a b
 
 -- ---- one operand
 
--- an Int: of a number or, with Not, Count and ValueOfList, of a List
+-- an Int: of a number or, with Not, Count and ValueOfList, of a List. "An Int stays an Int" under Floor and Ceiling
 unfoldable pub wholeUnary : ℕ → Val → ℤ
 wholeUnary o a =
     cond (eqb o opNegate) (wrap (negℤ (asInt a)))
     (cond (eqb o opNot) (bitZ (not (truthy a)))
+    (cond (eqb o opFloor) (asInt a)
+    (cond (eqb o opCeiling) (asInt a)
     (cond (eqb o opInt) (asInt a)
     (cond (eqb o opCount) (pos (length (entriesOf a)))
     (cond (eqb o opValueOfList) (asInt a)
-    (pos 0)))))
+    (pos 0)))))))
 
--- a Float
+-- a Float, of a Float
+unfoldable pub unaryF : ℕ → Float → Float
+unaryF o x =
+    cond (eqb o opNegate) (negF x)
+    (cond (eqb o opFloor) (floorF x)
+    (cond (eqb o opCeiling) (ceilingF x)
+    (cond (eqb o opFloat) x
+    (ofInt32 (pos 0)))))
+
+-- of any operand, as a Float
 unfoldable pub realUnary : ℕ → Val → Float
-realUnary o a =
-    cond (eqb o opNegate) (negF (asFloat a))
-    (cond (eqb o opFloat) (asFloat a)
-    (ofInt32 (pos 0)))
+realUnary o a = unaryF o (asFloat a)

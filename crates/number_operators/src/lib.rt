@@ -9,7 +9,7 @@ ghost use Rattle.ink_number.specs.Int.{divided};
 ghost use Rattle.ink_value.specs.Val.{codeOf, floatK};
 ghost use Rattle.ink_value.specs.Convert.{asInt, asFloat, truthy};
 ghost use Rattle.ink_value.specs.Value.{numberOf};
-ghost use Rattle.number_operators.specs.Numbers.{arithZ, arithF, testZ, testF, testTwo, wholeUnary, realUnary};
+ghost use Rattle.number_operators.specs.Numbers.{arithZ, arithF, unaryF, testZ, testF, testTwo, wholeUnary, realUnary};
 
 pub fn arith_int(op: u8, x: i32, y: i32) -> Divided
     ensures { λ r. ⌜ divided r ≡ arithZ op x y ⌝ }
@@ -37,6 +37,18 @@ pub fn arith_float(op: u8, x: f32, y: f32) -> f32
         op::MOD => ink_float::rem(x, y),
         op::MIN => ink_float::min(x, y),
         op::MAX => ink_float::max(x, y),
+        _ => float_conversions::int_to_float(0),
+    }
+}
+
+pub fn unary_float(op: u8, x: f32) -> f32
+    ensures { λ r. ⌜ r ≡ unaryF op x ⌝ }
+{
+    match op {
+        op::NEGATE => ink_float::neg(x),
+        op::FLOOR => integral_float::floor(x),
+        op::CEILING => integral_float::ceiling(x),
+        op::FLOAT => x,
         _ => float_conversions::int_to_float(0),
     }
 }
@@ -128,6 +140,8 @@ pub fn number_whole1(op: u8, ka: u8, za: i32, xa: f32) -> i32
     match op {
         op::NEGATE => int::wrapping_neg(ink_value::number_int(ka, za, xa)),
         op::NOT => ink_value::bit(!ink_value::number_truth(ka, za, xa)),
+        op::FLOOR => ink_value::number_int(ka, za, xa),
+        op::CEILING => ink_value::number_int(ka, za, xa),
         op::INT => ink_value::number_int(ka, za, xa),
         op::VALUE_OF_LIST => ink_value::number_int(ka, za, xa),
         _ => 0,
@@ -148,11 +162,7 @@ pub fn number_whole2(op: u8, ka: u8, za: i32, xa: f32, kb: u8, zb: i32, xb: f32)
 pub fn number_real1(op: u8, ka: u8, za: i32, xa: f32) -> f32
     ensures { λ r. ⌜ r ≡ realUnary op (numberOf ka za xa) ⌝ }
 {
-    match op {
-        op::NEGATE => ink_float::neg(ink_value::number_float(ka, za, xa)),
-        op::FLOAT => ink_value::number_float(ka, za, xa),
-        _ => float_conversions::int_to_float(0),
-    }
+    unary_float(op, ink_value::number_float(ka, za, xa))
 }
 
 pub fn number_real2(op: u8, ka: u8, za: i32, xa: f32, kb: u8, zb: i32, xb: f32) -> f32

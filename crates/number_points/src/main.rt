@@ -81,8 +81,12 @@ const FLOATS: [u32; 20] = [
     0x7fc0_0000,
 ];
 
-// Fractions next to a whole number, -2^31 and its neighbours, and NaN patterns.
-const PATTERNS: [u32; 12] = [
+// Halves, the greatest fraction and 2^23 after it, fractions next to a whole number, -2^31 and its neighbours, and NaN patterns.
+const PATTERNS: [u32; 16] = [
+    0x3f00_0000,
+    0xbf00_0000,
+    0x4aff_ffff,
+    0xcb00_0000,
     0x3f7f_ffff,
     0xbf7f_ffff,
     0x3fff_ffff,
@@ -166,10 +170,12 @@ fn int_pair(a: i32, b: i32) {
     int_tests(a, b);
 }
 
-// A Float and what is opposite, its truth and its Int.
+// A Float and what is opposite, the integral values below and above, its truth and its Int.
 fn float_forms(x: f32) {
     print_float(x);
     print_float(ink_float::neg(x));
+    print_float(integral_float::floor(x));
+    print_float(integral_float::ceiling(x));
     print_bool(ink_float::truthy(x));
     print_int(float_conversions::float_to_int(x));
 }
@@ -276,7 +282,7 @@ fn ints() {
 }
 
 fn floats() {
-    line(b"# pattern b: as Int; the Float x, -x, truthy, x to Int");
+    line(b"# pattern b: as Int; the Float x, -x, floor, ceiling, truthy, x to Int");
     rows(Row::Pattern, 0, &FLOATS);
     rows(Row::Pattern, 0, &PATTERNS);
     line(b"# float x y: + - * / % min max == != < <= > >=");

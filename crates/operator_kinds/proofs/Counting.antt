@@ -148,11 +148,7 @@ refused q h e = record { answered = decoded-no q h ∙ sym e; counted = λ k. ab
 
 pub above-all : (o n : ℕ) (ks : List Kind) → 32 ≤ o → KindsGiven o n ks 8
 unfolding known
-above-all o n ks h = refused 8 (omega arith) (no-operator o n ks (rw (lt-leb o 16 (omega arith), lt-leb o 31 (omega arith)) (last (leb 20 o))))
-  where
-    last : (t : Bool) → t && false ≡ false
-    last true = refl
-    last false = refl
+above-all o n ks h = refused 8 (omega arith) (no-operator o n ks (rw (ne-eqb o 17 (λ e. omega arith), lt-leb o 31 (omega arith)) refl))
 
 arity-some : (o : ℕ) → (arity o ≡ 1) ⊎ ((arity o ≡ 2) ⊎ (arity o ≡ 3))
 unfolding arity

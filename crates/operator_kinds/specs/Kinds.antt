@@ -4,7 +4,7 @@ use mathlib.Core.List.{List, [], _∷_}
 use mathlib.Core.Path.{_≡_}
 use Prim.Native.Nat.{ℕ, max, _<_, _≤_, _*_, _/_, _%_, _^_}
 use lib.Dec.{eqb, leb, ltb}
-use Rattle.op.specs.Op.{opSubtract, opNegate, opEqual, opNot, opAnd, opOr, opMin, opMax, opInt, opFloat, opHas, opHasnt, opListMin, opCount, opValueOfList, opInvert, opRange}
+use Rattle.op.specs.Op.{opSubtract, opNegate, opEqual, opNot, opAnd, opOr, opMin, opMax, opPow, opFloor, opCeiling, opInt, opFloat, opHas, opHasnt, opListMin, opCount, opValueOfList, opInvert, opRange}
 use Rattle.ink_value.specs.Val.{Kind, boolK, intK, floatK, listK, voidK, isList, codeOf, kindAt}
 use Rattle.ink_number.specs.Answer.{Answer, gives, refuses, ask}
 
@@ -12,13 +12,13 @@ use Rattle.ink_number.specs.Answer.{Answer, gives, refuses, ask}
 abbrev pub within : ℕ → ℕ → ℕ → Bool
 within lo o hi = leb lo o && leb o hi
 
--- question 8
+-- "Question 8 now says no only to POW and unknown numbers."
 unfoldable pub known : ℕ → Bool
-known o = leb o opMax || within opInt o opRange
+known o = not (eqb o opPow) && leb o opRange
 
--- Negate, Not, Int, Float and ListMin to Invert take one operand, range three, the others two
+-- Negate, Not, Floor to Float and ListMin to Invert take one operand, range three, the others two
 unfoldable pub unary : ℕ → Bool
-unary o = eqb o opNegate || eqb o opNot || eqb o opInt || eqb o opFloat || within opListMin o opInvert
+unary o = eqb o opNegate || eqb o opNot || within opFloor o opFloat || within opListMin o opInvert
 
 unfoldable pub arity : ℕ → ℕ
 arity o = cond (unary o) 1 (cond (eqb o opRange) 3 2)
@@ -46,12 +46,12 @@ abbrev pub available : ℕ → Kind → Bool
 available o k =
     cond (isList k)
     (leb o opSubtract || within opEqual o opOr || within opHas o opInvert)
-    (leb o opMax || within opInt o opFloat)
+    (leb o opMax || within opFloor o opFloat)
 
 -- the kind of the result, from the common kind
 abbrev pub resultKind : ℕ → Kind → Kind
 resultKind o k =
-    cond (leb o opNegate || within opMin o opMax) k
+    cond (leb o opNegate || within opMin o opMax || within opFloor o opCeiling) k
     (cond (eqb o opNot) (cond (isList k) intK boolK)
     (cond (leb o opOr || within opHas o opHasnt) boolK
     (cond (eqb o opInt || within opCount o opValueOfList) intK

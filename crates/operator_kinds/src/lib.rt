@@ -45,7 +45,10 @@ pub fn number_entry(op: u8, left: u8, right: u8) -> u8
         return 13;
     }
     if op < op::INT {
-        return 8;
+        if op == op::POW {
+            return 8;
+        }
+        return common(left, left);
     }
     if op == op::INT {
         return kind_code::INT;
@@ -136,7 +139,7 @@ pub fn range(list: u8, lower: u8, upper: u8) -> u8
 }
 
 // How many operands each operator takes, two bits for each from range down to Add.
-const TAKEN: u64 = 0b11_010101010101_101010_0101_000000_10101010_01_101010101010_01_1010101010;
+const TAKEN: u64 = 0b11_010101010101_101010_01010101_00_10101010_01_101010101010_01_1010101010;
 
 // How many operands an operator takes, 0 where there is no such operator.
 pub fn operands(op: u8) -> usize

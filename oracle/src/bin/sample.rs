@@ -3,7 +3,7 @@
 use ink_oracle::{
     generate::{self, Rng},
     pack::{self, Builder, Ins},
-    values::{ALL, Defs, EQUAL, INVERT, KIND_NAMES, LIST, NOT_EQUALS, OP_NAMES, RANGE, SUBTRACT, Val, arity},
+    values::{ALL, CEILING, Defs, EQUAL, FLOOR, INVERT, KIND_NAMES, LIST, NOT_EQUALS, OP_NAMES, RANGE, SUBTRACT, Val, arity},
 };
 use std::{fmt::Write, fs};
 
@@ -146,6 +146,10 @@ fn on_edges(s: &mut Sample) {
     s.calls("Int edges", &defs, &pairs(&INTS.map(Val::Int), &[0, 1, 2, 3, 4]));
     s.calls("Float edges", &defs, &pairs(&FLOATS.map(Val::Float), &[0, 1, 2, 3, 4, 15, 16]));
     s.calls("Float comparisons", &defs, &pairs(&[0, 1, 3, 6, 11, 13].map(|i| Val::Float(FLOATS[i])), &[6, 7, 8, 9, 10, 11]));
+    // by quarters, so that halves and whole numbers of both signs are there
+    let quarters: Vec<(u8, Vec<Val>)> =
+        [FLOOR, CEILING].iter().flat_map(|op| (-10..=10).map(|n| (*op, vec![Val::Float((n as f32 / 4.0).to_bits())]))).collect();
+    s.calls("Float quarters", &defs, &quarters);
     let ops = [0, 1, 7, 8, 9, 10, 13, 14, 22, 23, 24];
     let lists = generate::edge_lists();
     let calls: Vec<(u8, Vec<Val>)> = (0..lists.len() * lists.len())

@@ -5,10 +5,12 @@ use lib.Dec.{eqb}
 use lib.IntN.{ℤ, pos, negℤ}
 use lib.Ieee.{Float}
 use lib.ListN.{length}
-use Prim.Native.Nat.{ℕ}
+use Prim.Native.Nat.{ℕ, _^_, _<_}
 use borrow.Author.Tests.{ne-eqb}
 use Rattle.ink_number.specs.Int.{wrap}
-use Rattle.ink_number.proofs.Signed.{read, returned}
+use Rattle.ink_number.proofs.Signed.{back, read, returned}
+use lib.Signed.{mag}
+use mir.Syntax.{w32}
 use Rattle.ink_value.specs.Val.{int, float}
 use Rattle.ink_value.specs.Convert.{bitZ, asInt, truthy, entriesOf}
 use Rattle.ink_value.specs.Value.{numberOf}
@@ -45,6 +47,12 @@ number-int-requires-2 c κs = search needs
 number-int-requires-3 : tie.Need-number-int-requires-3
 number-int-requires-3 c κs = search needs
 
+number-int-requires-4 : tie.Need-number-int-requires-4
+number-int-requires-4 c κs = search needs
+
+number-int-requires-5 : tie.Need-number-int-requires-5
+number-int-requires-5 c κs = search needs
+
 returns : tie.Need-returns
 unfolding wholeUnary
 returns c =
@@ -59,23 +67,35 @@ returns-2 c =
     at (λ p. wholeUnary p (numberOf (s .args .ka) (s .args .za) (s .args .xa))) (c .before .before .match .keys2)
     (returned (c .bit .ok) ∙ c .bit .ensures ∙ ap (λ (t : Bool). bitZ (not t)) (c .before .number-truth .ensures ∙ read (λ (z : ℤ). truthy (numberOf (s .args .ka) z (s .args .xa))) (s .args .za) (s .fits .za)))
 
+-- at an operator that leaves the Int as it is
+kept : (s : tie.Start) {k : ℕ} {z : ℤ} → s .args .op ≡ k → mag z < 2 ^ 31 → z ≡ asInt (numberOf (s .args .ka) (back w32 (s .args .za)) (s .args .xa))
+    → asInt (numberOf (s .args .ka) (s .args .za) (s .args .xa)) ≡ wholeUnary k (numberOf (s .args .ka) (s .args .za) (s .args .xa))
+    → back w32 z ≡ wholeUnary (s .args .op) (numberOf (s .args .ka) (s .args .za) (s .args .xa))
+kept s e f h as-is =
+    at (λ p. wholeUnary p (numberOf (s .args .ka) (s .args .za) (s .args .xa))) e
+    (returned f ∙ h ∙ read (λ (z : ℤ). asInt (numberOf (s .args .ka) z (s .args .xa))) (s .args .za) (s .fits .za) ∙ as-is)
+
 returns-3 : tie.Need-returns-3
 unfolding wholeUnary
-returns-3 c =
-    let s = c .before .before in
-    at (λ p. wholeUnary p (numberOf (s .args .ka) (s .args .za) (s .args .xa))) (c .before .match .keys3) (returned (c .number-int2 .ok) ∙ c .number-int2 .ensures ∙ read (λ (z : ℤ). asInt (numberOf (s .args .ka) z (s .args .xa))) (s .args .za) (s .fits .za))
+returns-3 c = kept (c .before .before) (c .before .match .keys3) (c .number-int2 .ok) (c .number-int2 .ensures) refl
 
 returns-4 : tie.Need-returns-4
 unfolding wholeUnary
-returns-4 c =
-    let s = c .before .before in
-    at (λ p. wholeUnary p (numberOf (s .args .ka) (s .args .za) (s .args .xa))) (c .before .match .keys4) (returned (c .number-int3 .ok) ∙ c .number-int3 .ensures ∙ read (λ (z : ℤ). asInt (numberOf (s .args .ka) z (s .args .xa))) (s .args .za) (s .fits .za))
+returns-4 c = kept (c .before .before) (c .before .match .keys4) (c .number-int3 .ok) (c .number-int3 .ensures) refl
 
 returns-5 : tie.Need-returns-5
 unfolding wholeUnary
-returns-5 c =
+returns-5 c = kept (c .before .before) (c .before .match .keys5) (c .number-int4 .ok) (c .number-int4 .ensures) refl
+
+returns-6 : tie.Need-returns-6
+unfolding wholeUnary
+returns-6 c = kept (c .before .before) (c .before .match .keys6) (c .number-int5 .ok) (c .number-int5 .ensures) refl
+
+returns-7 : tie.Need-returns-7
+unfolding wholeUnary
+returns-7 c =
     let s = c .before in
-    rw (ne-eqb _ _ (c .match .rest .0 .0 .0 .1), ne-eqb _ _ (c .match .rest .0 .0 .1), ne-eqb _ _ (c .match .rest .0 .1), ne-eqb _ _ (c .match .rest .1)) (uncounted (s .args .ka) (s .args .za) (s .args .xa) (eqb (s .args .op) 28))
+    rw (ne-eqb _ _ (c .match .rest .0 .0 .0 .0 .0 .1), ne-eqb _ _ (c .match .rest .0 .0 .0 .0 .1), ne-eqb _ _ (c .match .rest .0 .0 .0 .1), ne-eqb _ _ (c .match .rest .0 .0 .1), ne-eqb _ _ (c .match .rest .0 .1), ne-eqb _ _ (c .match .rest .1)) (uncounted (s .args .ka) (s .args .za) (s .args .xa) (eqb (s .args .op) 28))
 
 pub number-whole1-spec : {M : Type 1} → statement M
 number-whole1-spec =
@@ -87,8 +107,12 @@ number-whole1-spec =
     bit-requires
     number-int-requires-2
     number-int-requires-3
+    number-int-requires-4
+    number-int-requires-5
     returns
     returns-2
     returns-3
     returns-4
-    returns-5)
+    returns-5
+    returns-6
+    returns-7)

@@ -51,20 +51,29 @@ returns-5 c =
 returns-6 : tie.Need-returns-6
 unfolding kindEntry known unary arity kindUnary kindBinary operandCount every _and_
 returns-6 c =
-    let s = c .before .before .before .before in
-    of-numbers (λ a b. 8) 17 3 refl (s .args .op) (s .args .left) (s .args .right) (omega (arith, s .pre .0, c .if6 .taken, c .before .if5 .left, c .before .before .if4 .left, c .before .before .before .if1 .left)) (omega (arith, s .pre .0, c .if6 .taken, c .before .if5 .left, c .before .before .if4 .left, c .before .before .before .if1 .left)) (s .pre .1) (s .pre .2) (s .pre .3)
+    let s = c .before .before .before .before .before in
+    of-numbers (λ a b. 8) 17 1 refl (s .args .op) (s .args .left) (s .args .right) (omega (arith, s .pre .0, c .if7 .taken, c .before .if6 .taken)) (omega (arith, s .pre .0, c .if7 .taken, c .before .if6 .taken)) (s .pre .1) (s .pre .2) (s .pre .3)
+
+common-requires-4 : tie.Need-common-requires-4
+common-requires-4 c κs = search needs
 
 returns-7 : tie.Need-returns-7
 unfolding kindEntry known unary arity kindUnary kindBinary operandCount every _and_
 returns-7 c =
-    let s = c .before .before .before .before .before in
-    of-numbers (λ a b. 1) 20 1 refl (s .args .op) (s .args .left) (s .args .right) (omega (arith, s .pre .0, c .if7 .taken, c .before .if6 .left, c .before .before .if5 .left, c .before .before .before .if4 .left, c .before .before .before .before .if1 .left)) (omega (arith, s .pre .0, c .if7 .taken, c .before .if6 .left, c .before .before .if5 .left, c .before .before .before .if4 .left, c .before .before .before .before .if1 .left)) (s .pre .1) (s .pre .2) (s .pre .3)
+    let s = c .before .before .before .before .before .before in
+    ap decoded (c .common4 .ensures) ∙ of-numbers (λ a b. max 1 (max a a)) 18 2 refl (s .args .op) (s .args .left) (s .args .right) (omega (arith, s .pre .0, c .before .if7 .left, c .before .before .if6 .taken, c .before .before .before .before .if4 .left)) (omega (arith, s .pre .0, c .before .if7 .left, c .before .before .if6 .taken, c .before .before .before .before .if4 .left)) (s .pre .1) (s .pre .2) (s .pre .3)
 
 returns-8 : tie.Need-returns-8
 unfolding kindEntry known unary arity kindUnary kindBinary operandCount every _and_
 returns-8 c =
     let s = c .before .before .before .before .before in
-    of-numbers (λ a b. 2) 21 1 refl (s .args .op) (s .args .left) (s .args .right) (omega (arith, s .pre .0, c .if7 .left, c .before .if6 .left, c .before .before .if5 .left, c .before .before .before .if4 .left, c .before .before .before .before .if1 .left)) (omega (arith, s .pre .0, c .if7 .left, c .before .if6 .left, c .before .before .if5 .left, c .before .before .before .if4 .left, c .before .before .before .before .if1 .left)) (s .pre .1) (s .pre .2) (s .pre .3)
+    of-numbers (λ a b. 1) 20 1 refl (s .args .op) (s .args .left) (s .args .right) (omega (arith, s .pre .0, c .if8 .taken)) (omega (arith, s .pre .0, c .if8 .taken)) (s .pre .1) (s .pre .2) (s .pre .3)
+
+returns-9 : tie.Need-returns-9
+unfolding kindEntry known unary arity kindUnary kindBinary operandCount every _and_
+returns-9 c =
+    let s = c .before .before .before .before .before in
+    of-numbers (λ a b. 2) 21 1 refl (s .args .op) (s .args .left) (s .args .right) (omega (arith, s .pre .0, c .if8 .left, c .before .if6 .left, c .before .before .if5 .left)) (omega (arith, s .pre .0, c .if8 .left, c .before .if6 .left, c .before .before .if5 .left)) (s .pre .1) (s .pre .2) (s .pre .3)
 
 pub number-entry-spec : {M : Type 1} → statement M
 number-entry-spec =
@@ -79,5 +88,7 @@ number-entry-spec =
     returns-4
     returns-5
     returns-6
+    common-requires-4
     returns-7
-    returns-8)
+    returns-8
+    returns-9)

@@ -2,7 +2,7 @@
 //! Every slice that is lent is filled with a pattern first, with more of the pattern before and after it.
 use crate::asks::{Ask, Owed, RESULT, WORK};
 use ink_oracle::sys::*;
-use ink_oracle::values::{Defs, EQUAL, INTERSECT, LIST, NOT_EQUALS, SUBTRACT, Val};
+use ink_oracle::values::{BOOL, CEILING, Defs, EQUAL, FLOAT, FLOOR, INTERSECT, LIST, NOT_EQUALS, SUBTRACT, Val};
 
 const GUARD: usize = 8;
 
@@ -50,7 +50,7 @@ fn clear<T: Default>(len: usize, i: usize, pattern: impl Fn(usize) -> T) -> T {
 }
 
 /// Mistakes made on purpose after the port has answered, to see that each is noticed.
-pub const MISTAKES: [&str; 21] = [
+pub const MISTAKES: [&str; 23] = [
     "another number",
     "another index",
     "a word of a value",
@@ -72,6 +72,8 @@ pub const MISTAKES: [&str; 21] = [
     "the left operand's origins with something left",
     "the left operand's origins after Intersect",
     "14 for Equal or NotEquals of two Lists",
+    "+0.0 for a -0.0 of Floor or Ceiling",
+    "a Bool for Floor or Ceiling of one",
 ];
 
 pub struct Port {
@@ -375,6 +377,8 @@ impl Port {
             15 if length == RESULT => self.result_items.all[GUARD + RESULT] = 0,
             16..20 => self.err_in_origins(mistake, ask, owed),
             20 if !refused && compares_lists(ask) => self.number = 14,
+            21 if rounds(ask, FLOAT) && owed.value == Some(Val::Float(1 << 31)) => self.answer[2] = 0,
+            22 if rounds(ask, BOOL) && !refused => self.answer[1] = BOOL as u64,
             _ => {}
         }
     }
@@ -401,6 +405,12 @@ impl Port {
 fn compares_lists(ask: &Ask) -> bool {
     let Ask::Call { op: EQUAL | NOT_EQUALS, operands, .. } = ask else { return false };
     operands[..2].iter().all(|w| w[0] == LIST as u64)
+}
+
+/// Is Floor or Ceiling asked of a value of this kind.
+fn rounds(ask: &Ask, kind: u8) -> bool {
+    let Ask::Call { op: FLOOR | CEILING, operands, .. } = ask else { return false };
+    operands[0][0] == kind as u64
 }
 
 fn definitions_differ(defs: &Defs, ends: &[u16], defined: &[i32], counts: &[u64]) -> Option<String> {
