@@ -11,7 +11,7 @@
 #include "ink_environment.h"
 #include "ink_operators.h"
 
-enum { ADD = 0, DIVIDE = 2, MULTIPLY = 3, MOD = 4 };
+enum { ADD = 0, DIVIDE = 2, MULTIPLY = 3, MOD = 4, FLOOR = 18, CEILING = 19 };
 
 static const struct {
     uint8_t op;
@@ -20,7 +20,7 @@ static const struct {
     {MULTIPLY, 0x00800000, 0x3f000000, 0x00400000}, {ADD, 0x3f800000, 0x33000001, 0x3f800000}, {ADD, 1, 2, 3},
     {MULTIPLY, 0x7f7fffff, 0x40000000, 0x7f800000}, {DIVIDE, 0x3f800000, 0x40400000, 0x3eaaaaab},
     {DIVIDE, 0x3f800000, 0, 0x7f800000},            {DIVIDE, 0, 0, 0x7fc00000},
-    {MOD, 0x00400001, 2, 1},
+    {MOD, 0x00400001, 2, 1},                        {FLOOR, 0x80000001, 0, 0xbf800000},        {CEILING, 1, 0, 0x3f800000},
 };
 
 static uint16_t items[INK_RESULT_PLACES];
@@ -30,7 +30,7 @@ static uint32_t call(uint8_t op, uint32_t a, uint32_t b, uint64_t answer[3]) {
     const uint64_t operands[9] = {2, a, 0, 2, b, 0, 4, 0, 0};
     const uint16_t ends[1] = {0};
     const int32_t defined[1] = {0};
-    return ink_call_checked(ends, 0, defined, 0, op, 2, operands, items, 0, values, 0, items, INK_RESULT_PLACES, values,
+    return ink_call_checked(ends, 0, defined, 0, op, op < FLOOR ? 2 : 1, operands, items, 0, values, 0, items, INK_RESULT_PLACES, values,
                             INK_RESULT_PLACES, answer);
 }
 

@@ -69,9 +69,9 @@ uint32_t ink_run(const uint8_t *pack, size_t pack_len, size_t sheet, const uint6
                  uint16_t *result_items, size_t result_items_len, int32_t *result_values, size_t result_values_len,
                  uint64_t answer[3]);
 
-/* Calls operator `op` (0 to 31; 31 is range) on the first `count` of three operands, whose Lists' entries stand in `items` and `values`:
- * questions 1 to 5, 7, 8, 10 to 13 and 15. The words of operands from `count` on are not looked at. A List is written to the result slices
- * as by ink_run. `answer` is always written. */
+/* Calls operator `op` (0 to 31 but 17, POW; 31 is range) on the first `count` of three operands, whose Lists' entries stand in `items` and
+ * `values`: questions 1 to 5, 7, 8, 10 to 13 and 15. The words of operands from `count` on are not looked at. A List is written to the
+ * result slices as by ink_run. `answer` is always written. */
 uint32_t ink_call(const uint8_t *pack, size_t pack_len, uint8_t op, size_t count, const uint64_t operands[9],
                   const uint16_t *items, size_t items_len, const int32_t *values, size_t values_len,
                   uint16_t *result_items, size_t result_items_len, int32_t *result_values, size_t result_values_len,

@@ -1,4 +1,4 @@
-//! The operators' numbers: the cases of `Op` in source order, and range. 17 to 19 (Pow, Floor, Ceiling) are refused with 8.
+//! The operators' numbers: the cases of `Op` in source order, and range. 17 (Pow) is refused with 8.
 
 pub const ADD: u8 = 0;
 pub const SUBTRACT: u8 = 1;
@@ -17,6 +17,10 @@ pub const AND: u8 = 13;
 pub const OR: u8 = 14;
 pub const MIN: u8 = 15;
 pub const MAX: u8 = 16;
+/// Toward negative infinity; an Int stays an Int.
+pub const FLOOR: u8 = 18;
+/// Toward positive infinity; an Int stays an Int.
+pub const CEILING: u8 = 19;
 pub const INT: u8 = 20;
 pub const FLOAT: u8 = 21;
 pub const HAS: u8 = 22;

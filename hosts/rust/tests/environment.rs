@@ -61,6 +61,9 @@ fn the_same_floats_under_every_control_word() {
         assert_eq!((bits(answer.unwrap()), left), (0x7f80_0000, word), "a run under {word:x}");
         let (answer, left) = under(word, || pack.cast(1, &x(0x4020_0000)));
         assert_eq!((answer.unwrap(), left), (Value::Int(2), word));
+        // with denormals as zeros it would be 0
+        let (answer, left) = under(word, || pack.call(op::CEILING, &[x(0x0000_0001)]));
+        assert_eq!((bits(answer.unwrap()), left), (0x3f80_0000, word), "Ceiling under {word:x}");
         let (answer, left) = under(word, || pack.coerce_to_float(&Value::Int(16_777_217)));
         assert_eq!((answer.unwrap().to_bits(), left), (0x4b80_0000, word));
     }

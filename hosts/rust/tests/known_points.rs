@@ -94,6 +94,52 @@ fn floats() {
     assert_eq!(p.call(op::NEGATE, &[Float(0.0)]).map(|v| matches!(v, Float(x) if x.to_bits() == 0x8000_0000)), Ok(true));
 }
 
+/// Floor and Ceiling of a Float, by their bits, beside Rust's own.
+#[test]
+fn rounding() {
+    let p = six_items();
+    let mut cases: Vec<u32> = (-40..=40).map(|n| (n as f32 / 8.0).to_bits()).collect();
+    cases.extend([0x8000_0000, 0x0000_0001, 0x8000_0001, 0x4aff_ffff, 0xcaff_ffff, 0x4b00_0000, 0x7f7f_ffff, 0x7f80_0000, 0xff80_0000]);
+    for x in cases.into_iter().map(f32::from_bits) {
+        for (op, owed) in [(op::FLOOR, x.floor()), (op::CEILING, x.ceil())] {
+            let Ok(Float(r)) = p.call(op, &[Float(x)]) else { panic!("a Float") };
+            assert_eq!(r.to_bits(), owed.to_bits(), "{op} of {x}");
+        }
+    }
+    for op in [op::FLOOR, op::CEILING] {
+        let Ok(Float(r)) = p.call(op, &[Float(-f32::NAN)]) else { panic!("a Float") };
+        assert_eq!(r.to_bits(), 0x7fc0_0000);
+        for z in [0, -7, i32::MIN, i32::MAX] {
+            assert_eq!(p.call(op, &[Int(z)]), Ok(Int(z)));
+        }
+        assert_eq!(p.call(op, &[Bool(true)]), Ok(Int(1)));
+    }
+}
+
+/// Vetting foretells the kind, and the run has it.
+#[test]
+fn a_rounded_slot() {
+    let p = pack(&[], &[], &[vec![36, 0, op::FLOOR], vec![36, 0, op::CEILING]]);
+    let mut workspace = Workspace::new();
+    let mut slots = VOID_SLOTS;
+    let mut kinds = [Kind::Void; 16];
+    let cases = [
+        (Float(-2.5), Kind::Float, Kind::Float, [Float(-3.0), Float(-2.0)]),
+        (Int(-7), Kind::Int, Kind::Int, [Int(-7), Int(-7)]),
+        (Bool(true), Kind::Bool, Kind::Int, [Int(1), Int(1)]),
+    ];
+    for (value, kind, top, answers) in cases {
+        (slots[0], kinds[0]) = (value, kind);
+        for (sheet, answer) in answers.into_iter().enumerate() {
+            assert_eq!(p.run(&mut workspace, sheet, &slots), Ok(answer));
+            let told: Vec<_> = p.vet(sheet, &kinds).unwrap().iter().map(|f| (f.count, f.top)).collect();
+            assert_eq!(told, [(1, kind), (1, top)]);
+        }
+    }
+    kinds[0] = Kind::List;
+    assert_eq!(p.vet(0, &kinds).err(), Some(Refusal { number: 13, index: 1 }));
+}
+
 #[test]
 fn lists() {
     let p = six_items();

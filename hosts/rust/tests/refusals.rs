@@ -105,8 +105,14 @@ fn malformed_lists() {
 #[test]
 fn operators() {
     let p = six_items();
-    for op in [17, 18, 19, 32, 200, 255] {
+    for op in [17, 32, 200, 255] {
         assert_eq!(p.call(op, &[Int(1), Int(2)]), Err(no(8)));
+    }
+    for op in [op::FLOOR, op::CEILING] {
+        assert_eq!(p.call(op, &[]), Err(no(10)));
+        assert_eq!(p.call(op, &[Int(1), Int(2)]), Err(no(10)));
+        assert_eq!(p.call(op, &[Void]), Err(no(11)));
+        assert_eq!(p.call(op, &[Value::list(1, &[(0, 1)])]), Err(no(13)));
     }
     assert_eq!(p.call(op::ADD, &[]), Err(no(10)));
     assert_eq!(p.call(op::ADD, &[Int(1)]), Err(no(10)));
