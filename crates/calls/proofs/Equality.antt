@@ -1,6 +1,6 @@
 -- A direct call of Equal or NotEquals on two Lists: it answers the Bool that ink_list.rs's tests give of their items as these stand in the
 -- lent slices, and by its contract returns it and writes nothing. Assumes nothing.
-use mathlib.Core.Path.{_≡_, refl, ap, _∙_, subst}
+use mathlib.Core.Path.{_≡_, refl, ap, _∙_}
 use mathlib.Core.Bool.{Bool, true, not}
 use mathlib.Core.List.{List, [], _∷_}
 use Prim.Native.Nat.{ℕ, _≤_}
@@ -21,7 +21,7 @@ use Rattle.ink_list.proofs.Formed.{formed-both}
 use Rattle.ink_list.proofs.Rests.{items-entries}
 use Rattle.list_definitions.specs.Defs.{ListDefinitions}
 use Rattle.ink_value.specs.Val.{Val, bool}
-use Rattle.ink_value.specs.Value.{valOf, entriesAt, formedIn, Gave}
+use Rattle.ink_value.specs.Value.{valOf, entriesAt, formedIn}
 use Rattle.ink_value.specs.declared.Outcome.{Outcome}
 use Rattle.ink_value.specs.declared.Outcome.the-variants as Out
 use Rattle.ink_value.specs.declared.Value.{Value}
@@ -29,7 +29,7 @@ use Rattle.ink_value.specs.declared.Value.the-variants as Is
 use Rattle.ink_value.proofs.Forming.{formed-yes}
 use Rattle.ink_value.proofs.ReadBack.{in-pack, pack-rises}
 use Rattle.operator_kinds.specs.Kinds.{known, unary, arity}
-use Rattle.native_function_call.specs.Apply.{applyOp, call}
+use Rattle.native_function_call.specs.Apply.{applyOp}
 use Rattle.native_function_call.proofs.Equality.{equals-as-file, not-equals-as-file}
 use Rattle.pack.specs.Bodies.{Pack}
 use Rattle.pack.specs.Judge.{judge}
@@ -37,6 +37,7 @@ use Rattle.pack.specs.Read.{definedOf, endsOf, definitionsOf}
 use Rattle.pack.specs.declared.format.Format.{Format}
 use Rattle.call_memory.specs.Lent.{operandsOk, resultsOk}
 use Rattle.calls.specs.Call.{called, onPack, Returned}
+use Rattle.calls.proofs.Answered.{answered, returned}
 
 -- a List to which question 7 says yes: its items are those that stand in the slice, and they rise
 module _ (total d : ℕ) (is : List ℕ) (vs : List ℤ) (o s n : ℕ) (e : formedIn total d is vs (Is.List o s n) ≡ true) where
@@ -61,9 +62,8 @@ module _ (F : Format) (p is : List ℕ) (vs : List ℤ) (oi : List ℕ) (ov : Li
   answer op = onPack F p (called is vs oi ov op 2 (left ∷ right ∷ c ∷ []))
 
   module _ (passed : judge F p ≡ gives d) (operands : operandsOk u is vs (left ∷ right ∷ []) ≡ true) (results : resultsOk u oi ov ≡ true) where
-    answered : (op : ℕ) (x : Val) → known op ≡ true → arity op ≡ 2 → applyOp u op (valOf is vs left ∷ valOf is vs right ∷ []) ≡ gives x → answer op ≡ gives x
-    unfolding called call _and_
-    answered op x is-known two g = rw (passed, operands, results, is-known, two, g)
+    applied : (op : ℕ) → known op ≡ true → arity op ≡ 2 → answer op ≡ applyOp u op (valOf is vs left ∷ valOf is vs right ∷ [])
+    applied op is-known two = answered F p is vs oi ov d op 2 (left ∷ right ∷ c ∷ []) passed operands results is-known two
 
     -- 7, of each of the two
     first : formedIn (length (definedOf d)) (length (endsOf d)) is vs left ≡ true
@@ -82,28 +82,23 @@ module _ (F : Format) (p is : List ℕ) (vs : List ℤ) (oi : List ℕ) (ov : Li
     pub equal-answered : answer opEqual ≡ gives (bool (eqInFile (part s n is) (part s′ n′ is)))
     unfolding known unary arity
     equal-answered =
-        answered opEqual _ refl refl (equals-as-file u o o′ _ _ _ (rise .0) (rise .1)) ∙ ap (λ (t : Bool). gives (bool t)) stand
+        applied opEqual refl refl ∙ equals-as-file u o o′ _ _ _ (rise .0) (rise .1) ∙ ap (λ (t : Bool). gives (bool t)) stand
 
     pub not-equals-answered : answer opNotEquals ≡ gives (bool (not (eqInFile (part s n is) (part s′ n′ is))))
     unfolding known unary arity
     not-equals-answered =
-        answered opNotEquals _ refl refl (not-equals-as-file u o o′ _ _ _ (rise .0) (rise .1)) ∙ ap (λ (t : Bool). gives (bool (not t))) stand
+        applied opNotEquals refl refl ∙ not-equals-as-file u o o′ _ _ _ (rise .0) (rise .1) ∙ ap (λ (t : Bool). gives (bool (not t))) stand
 
     -- what `call` returns, by its contract: the Bool, and the result slices are as they were
     module _ (r : Outcome) (oi′ : List ℕ) (ov′ : List ℤ) where
       abbrev Returns : Bool → Type 0
       Returns t = (r ≡ Out.Value (Is.Bool t)) × (oi′ ≡ oi) × (ov′ ≡ ov)
 
-      returned : (op : ℕ) (t : Bool) → answer op ≡ gives (bool t) → Returned (answer op) r oi oi′ ov ov′ → Returns t
-      returned op t e w =
-          let gave : Gave (gives (bool t)) r oi oi′ ov ov′ = subst (λ (a : Answer Val). Gave a r oi oi′ ov ov′) e (w .gave) in
-          (gave .answered, gave .items-out, gave .values-out)
-
       pub equal-returned : Returned (answer opEqual) r oi oi′ ov ov′ → Returns (eqInFile (part s n is) (part s′ n′ is))
-      equal-returned = returned opEqual _ equal-answered
+      equal-returned = returned _ equal-answered refl
 
       pub not-equals-returned : Returned (answer opNotEquals) r oi oi′ ov ov′ → Returns (not (eqInFile (part s n is) (part s′ n′ is)))
-      not-equals-returned = returned opNotEquals _ not-equals-answered
+      not-equals-returned = returned _ not-equals-answered refl
 
 -- what question 7 is to say yes to can be met: by two empty Lists, in every pack, with result slices that are long enough
 pub two-empty : (u : ListDefinitions) (oi : List ℕ) (ov : List ℤ) → u .limit ≤ length oi → u .limit ≤ length ov

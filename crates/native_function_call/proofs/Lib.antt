@@ -5,3 +5,4 @@ pub mod Known
 pub mod Calling
 pub mod Emptied
 pub mod Equality
+pub mod Rounding

@@ -4,13 +4,13 @@ use mathlib.Core.Path.{_≡_, refl, ap, _∙_, subst}
 use mathlib.Core.List.{List, [], _∷_, map}
 use Prim.Native.Nat.{ℕ, _^_, _≤_}
 use native.Mathlib.Omega.{arith}
-use borrow.Author.Tests.{le-leb, lt-ltb, eq-eqb}
+use borrow.Author.Tests.{le-leb, lt-ltb}
 use lib.IntN.{ℤ, pos}
 use lib.ListN.{length}
 use lib.Pow.{pow-pos}
 use Rattle.ink_number.specs.Answer.{Answer, gives}
 use Rattle.ink_number.specs.Int.{quotient, signed}
-use Rattle.slices.specs.Every.{_and_, every, table}
+use Rattle.slices.specs.Every.{_and_}
 use Rattle.ink_list.specs.Entries.{bitsBelow, formed}
 use Rattle.list_definitions.specs.Defs.{ListDefinitions}
 use Rattle.ink_value.specs.Val.{void, intK, voidK, kindOf, kindAt}
@@ -19,13 +19,13 @@ use Rattle.ink_value.specs.declared.Value.the-variants as Is
 use Rattle.operator_kinds.specs.Kinds.{known, unary, arity, kindUnary, kindBinary, kindApply}
 use Rattle.native_function_call.specs.Apply.{applyOp, compute}
 use Rattle.number_operators.specs.Numbers.{arithZ}
-use Rattle.pack.specs.Bodies.{Literal, Pack, itemsBelow, definitionOk, literalOk}
+use Rattle.pack.specs.Bodies.{Literal, Pack}
 use Rattle.pack.specs.Bytes.{number}
-use Rattle.pack.specs.Contents.{place}
 use Rattle.pack.specs.Instruction.{Instr, op, push, pushInt, instruction, instructions}
-use Rattle.pack.specs.Judge.{question1, question2, question3, question4, question5, judge}
+use Rattle.pack.specs.Judge.{judge}
 use Rattle.pack.specs.Read.{endsOf, definitionsOf, literalOf, sheetOf}
 use Rattle.pack.specs.declared.format.Format.{Format}
+use Rattle.pack.proofs.OneSheet.{oneSheet, packOf, one-passes}
 use Rattle.machine.specs.Foretold.{passed, verdict}
 use Rattle.machine.specs.Machine.{ended, stopped, step, runFrom, run, vet}
 use Rattle.machine.specs.Whole.{opened, Suffices, started, countOf}
@@ -85,15 +85,18 @@ unfolding step runFrom known unary arity kindUnary kindBinary kindApply applyOp 
 stops u l = refl
 
 -- a pack of that sheet alone, in any format
+abbrev code : List ℕ
+code = 33 ∷ 7 ∷ 0 ∷ 0 ∷ 0 ∷ 33 ∷ 0 ∷ 0 ∷ 0 ∷ 0 ∷ 2 ∷ []
+
 abbrev bytes : Format → List ℕ
-bytes F = F .tag ∷ 0 ∷ 0 ∷ 1 ∷ 8 ∷ 0 ∷ 11 ∷ 0 ∷ 33 ∷ 7 ∷ 0 ∷ 0 ∷ 0 ∷ 33 ∷ 0 ∷ 0 ∷ 0 ∷ 0 ∷ 2 ∷ []
+bytes F = oneSheet F code
 
 abbrev pack : Pack
-pack = record { definitions = []; literals = []; sheets = program ∷ [] }
+pack = packOf program
 
 pub accepted : (F : Format) → judge F (bytes F) ≡ gives pack
-unfolding number signed _and_ every table place instruction instructions itemsBelow definitionOk literalOk question1 question2 question3 question4 question5 judge
-accepted F = rw (eq-eqb (F .tag) (F .tag) refl, le-leb 0 (F .limit) (omega arith))
+unfolding number signed instruction instructions
+accepted F = one-passes F code program (omega arith) refl
 
 counted-three : (v : Vetted) → verdictOf v ≡ passed → CountIs v 3 → v ≡ Vet.Passed 3
 counted-three (Vet.Passed n) e c = ap Vet.Passed c

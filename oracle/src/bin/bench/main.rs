@@ -7,7 +7,7 @@ mod timing;
 use ink_oracle::{
     original::bare::*,
     pack::Builder,
-    values::{Answer, Defs, EQUAL, List, NOT_EQUALS, RANGE, Val},
+    values::{Answer, CEILING, Defs, EQUAL, FLOOR, List, NOT_EQUALS, RANGE, Val},
 };
 use port::{APPLY, CHECKED, Checked, Lent, Operands};
 use report::{Group, Row};
@@ -283,7 +283,7 @@ fn numbers(bench: &mut Bench) {
     let none = Defs::default();
     let (world, port) = (World::new(&none), Checked::new(Builder::new(&none).bytes()));
     let (i, f, b) = (Val::Int, |x: f32| Val::Float(x.to_bits()), Val::Bool);
-    let rows: [(&str, u8, Vec<Val>); 14] = [
+    let rows: [(&str, u8, Vec<Val>); 17] = [
         ("Int add", 0, vec![i(3), i(4)]),
         ("Int multiply", 3, vec![i(3), i(4)]),
         ("Int divide", 2, vec![i(1_000_003), i(7)]),
@@ -296,6 +296,9 @@ fn numbers(bench: &mut Bench) {
         ("Float remainder", 4, vec![f(30.1), f(4.7)]),
         ("Int + Float", 0, vec![i(3), f(4.7)]),
         ("Float min", 15, vec![f(3.1), f(4.7)]),
+        ("Float negate", 5, vec![f(3.7)]),
+        ("Float floor", FLOOR, vec![f(-3.7)]),
+        ("Float ceiling", CEILING, vec![f(-3.7)]),
         ("Int of Float", 20, vec![f(3.7)]),
         ("Float of Int", 21, vec![i(16_777_219)]),
     ];
