@@ -21,7 +21,7 @@ use Rattle.binary32.proofs.Grid.{Near, near, Full, best}
 abbrev pub Tall : ℕ → ℕ → Type 0
 Tall k q = (k ≡ 0) ⊎ (2 ^ 23 ≤ q)
 
-pow-inv : (i j : ℕ) → 2 ^ i < 2 ^ j → i < j
+pub pow-inv : (i j : ℕ) → 2 ^ i < 2 ^ j → i < j
 pow-inv i j h = lt-of-not-le (λ (g : j ≤ i). not-le-of-lt h (pow-mono g))
 
 tall-pow : (k q : ℕ) → 2 ^ 23 ≤ q → 2 ^ (23 + k) ≤ q * 2 ^ k

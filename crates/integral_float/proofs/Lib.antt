@@ -1,1 +1,3 @@
-pub mod Magnitudes
+pub mod Sums
+pub mod Tests
+pub mod Nearness

@@ -7,7 +7,7 @@ use Rattle.binary32.specs.Real.{floorF, ceilingF}
 use Rattle.binary32.proofs.Binary32.{fitting}
 use Rattle.binary32.proofs.Integral.{twice}
 use Rattle.binary32.proofs.Meets.{meant, neg-meets, lt-meets, floor-meets}
-use Rattle.integral_float.proofs.Magnitudes.{positive, neither}
+use Rattle.integral_float.proofs.Tests.{positive, neither}
 use Rattle.integral_float.proofs.floor.Statement.{statement}
 use Rattle.integral_float.proofs.floor.Tie as tie
 

@@ -1,0 +1,2 @@
+-- A whole number near a Float.
+pub mod Near
