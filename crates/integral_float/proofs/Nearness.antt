@@ -20,7 +20,7 @@ use Rattle.binary32.proofs.Binary32.{num-is, den-is, value-of}
 use Rattle.binary32.proofs.Integral.{up-ge, up-least, twice}
 use Rattle.integral_float.specs.Near.{Near}
 use Rattle.integral_float.proofs.Sums.{minus-mul, rounded-whole, Fin, fin-of, add-whole, sub-whole}
-use Rattle.integral_float.proofs.Tests.{Zero, Limit}
+use Rattle.integral_float.proofs.Tests.{Zero, Limit, Positive, below?, above-zero, under-limit}
 
 -- ---- a whole number less than 1 away
 
@@ -186,11 +186,14 @@ module _ (m : ℕ) (e : ℤ) (n : ℕ) (small : m * up e < 8388608 * down e) (cl
         up-is = add-whole r (ofInt binary32 (pos (bitOf u))) n (bitOf u) R (bit u) ∙ ceiling-is (n + bitOf u) (one-more u (sym (whole-less r n m e R)));
       }
 
-pub told : (x r : Float) → lt Zero x ≡ true → lt x Limit ≡ true → Near x r → Told x r
+told-of : (x r : Float) → lt Zero x ≡ true → lt x Limit ≡ true → Near x r → Told x r
 unfolding lt Near
-told nan r p q h = absurd h
-told (inf s) r p q h = absurd h
-told (fin true m e) r p q h = absurd (false≢true p)
-told (fin false m e) r p q (n, i, c) =
+told-of nan r p q h = absurd h
+told-of (inf s) r p q h = absurd h
+told-of (fin true m e) r p q h = absurd (false≢true p)
+told-of (fin false m e) r p q (n, i, c) =
     let h = ltb-true (m * up e * 1) (8388608 * down e) q in
     subst (Told (fin false m e)) (sym i) (told-fin m e n (omega arith) (rw (num-is m e, den-is e) at c))
+
+pub told : (x r : Float) → Positive x → below? x ≡ true → Near x r → Told x r
+told x r p q n = told-of x r (above-zero x p) (under-limit x true q) n

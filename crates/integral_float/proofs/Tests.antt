@@ -9,14 +9,16 @@ use borrow.Author.Tests.{ltb-true, ltb-false, lt-ltb}
 use lib.Dec.{lit<}
 use lib.IntN.{ℤ, pos, negsuc}
 use lib.Pow.{pow-pos}
-use lib.Ieee.{Float, nan, inf, fin, up, down, lt, neg}
+use lib.Ieee.{Float, nan, inf, fin, binary32, fits, ofInt, ofBits, up, down, lt, neg}
 use lib.Ieee.Fits.{up-pos}
 use Rattle.binary32.specs.Binary32.{Binary32}
-use Rattle.binary32.specs.Operations.{opposite}
-use Rattle.binary32.specs.Real.{floorF, ceilingF}
+use Rattle.binary32.specs.Operations.{opposite, less}
+use Rattle.binary32.specs.Real.{floorF, ceilingF, ofInt32}
 use Rattle.binary32.proofs.Values.{held}
 use Rattle.binary32.proofs.Integral.{twice, opposite-fits}
-use Rattle.binary32.proofs.Meets.{floor-whole}
+use Rattle.binary32.proofs.Binary32.{fitting}
+use Rattle.binary32.proofs.Meets.{floor-whole, lt-meets}
+use Rattle.integral_float.specs.Near.{fractionLimit}
 
 abbrev pub Zero : Float
 Zero = fin false 0 (pos 0)
@@ -24,6 +26,25 @@ Zero = fin false 0 (pos 0)
 -- 2^23
 abbrev pub Limit : Float
 Limit = fin false 1 (pos 23)
+
+-- the two tests, of a positive x: as the contracts say it, and as the machine's comparison with a constant does
+abbrev pub Positive : Float → Type 0
+Positive x = less (ofInt32 (pos 0)) x ≡ true
+
+abbrev pub below? : Float → Bool
+below? x = lt x (ofBits binary32 0x4b00_0000)
+
+pub above-zero : (x : Float) → Positive x → lt Zero x ≡ true
+unfolding ofInt
+above-zero x p = lt-meets Zero x ∙ p
+
+pub under-limit : (x : Float) (t : Bool) → below? x ≡ t → lt x Limit ≡ t
+unfolding ofBits
+under-limit x t e = e
+
+pub in-contract : (x : Float) → below? x ≡ true → less x (ofInt32 (pos fractionLimit)) ≡ true
+unfolding ofBits ofInt
+in-contract x e = sym (lt-meets x Limit) ∙ e
 
 -- ---- a Float that is its own
 
@@ -39,16 +60,19 @@ own s m k f =
 short : (m p : ℕ) → m < 2 ^ 24 → 0 < p → 8388608 * (p * 2) ≤ m * 1 * 1 → ⊥
 short m p h q l = omega arith
 
-pub large : (x : Float) → Binary32 x → lt Zero x ≡ true → lt x Limit ≡ false → Own x
+no-fraction : (x : Float) → Binary32 x → lt Zero x ≡ true → lt x Limit ≡ false → Own x
 unfolding lt floorF opposite
-large nan f p q = absurd (false≢true p)
-large (inf true) f p q = absurd (false≢true p)
-large (inf false) f p q = (refl, refl)
-large (fin true m e) f p q = absurd (false≢true p)
-large (fin false m (pos k)) f p q = own false m k f
-large (fin false m (negsuc k)) f p q =
+no-fraction nan f p q = absurd (false≢true p)
+no-fraction (inf true) f p q = absurd (false≢true p)
+no-fraction (inf false) f p q = (refl, refl)
+no-fraction (fin true m e) f p q = absurd (false≢true p)
+no-fraction (fin false m (pos k)) f p q = own false m k f
+no-fraction (fin false m (negsuc k)) f p q =
     absurd (short m (2 ^ k) (held false m (negsuc k) f .0) (pow-pos k)
     (subst (λ (z : ℕ). 8388608 * z ≤ m * 1 * 1) (pow-suc 2 k) (ltb-false (m * 1 * 1) (8388608 * 2 ^ suc k) q)))
+
+pub large : (x : Float) → fits binary32 x ≡ true → Positive x → below? x ≡ false → Own x
+large x f p q = no-fraction x (fitting x f) (above-zero x p) (under-limit x false q)
 
 -- a magnitude above 0 is below 0 or above it
 some : (m : ℕ) (e : ℤ) → 0 < suc m * up e * 1

@@ -1,37 +1,27 @@
 -- `integral_float::whole_below` meets its contract: below 2^23 it is the whole number nearby, or one less where that is above x; from there
 -- on there is no fraction. Assumes nothing.
-use mathlib.Core.Path.{sym, ap, _∙_}
+use mathlib.Core.Path.{ap, _∙_}
 use borrow.Author.Needs.{needs}
-use lib.Ieee.{binary32, sub, ofInt, ofBits}
-use Rattle.binary32.proofs.Binary32.{fitting}
-use Rattle.binary32.proofs.Meets.{lt-meets}
-use Rattle.integral_float.proofs.Tests.{large}
-use Rattle.integral_float.proofs.Nearness.{Told, told}
+use lib.Ieee.{binary32, sub}
+use Rattle.integral_float.proofs.Tests.{in-contract, large}
+use Rattle.integral_float.proofs.Nearness.{told}
 use Rattle.integral_float.proofs.whole_below.Statement.{statement}
 use Rattle.integral_float.proofs.whole_below.Tie as tie
 
 nearby-requires : tie.Need-nearby-requires
-unfolding ofBits ofInt
-nearby-requires c κs = (c .before .pre, sym (lt-meets (c .before .args .x) _) ∙ c .if1 .taken)
-
-near : (c : tie.After-nearby) → Told (c .before .before .args .x) (c .nearby .result)
-unfolding ofBits ofInt
-near c =
-    let s = c .before .before in
-    told (s .args .x) (c .nearby .result) (lt-meets _ (s .args .x) ∙ s .pre) (c .before .if1 .taken) (c .nearby .ensures)
+nearby-requires c κs = (c .before .pre, in-contract (c .before .args .x) (c .if1 .taken))
 
 one-where-requires : tie.Need-one-where-requires
 one-where-requires c κs = search needs
 
 returns : tie.Need-returns
 returns c =
-    ap (sub binary32 (c .before .nearby .result)) (c .one-where .ensures) ∙ near (c .before) .down-is
+    let s = c .before .before .before in
+    let whole = c .before .nearby .result in
+    ap (sub binary32 whole) (c .one-where .ensures) ∙ told (s .args .x) whole (s .pre) (c .before .before .if1 .taken) (c .before .nearby .ensures) .down-is
 
 returns-2 : tie.Need-returns-2
-unfolding ofBits ofInt
-returns-2 c =
-    let s = c .before in
-    large (s .args .x) (fitting (s .args .x) (s .good .0 .1)) (lt-meets _ (s .args .x) ∙ s .pre) (c .if1 .left) .0
+returns-2 c = let s = c .before in large (s .args .x) (s .good .0 .1) (s .pre) (c .if1 .left) .0
 
 pub whole-below-spec : {M : Type 1} → statement M
 whole-below-spec = tie.close (tie.spec nearby-requires one-where-requires returns returns-2)
