@@ -1,4 +1,6 @@
 // The answers of a run and of vetting as a number that is returned and words that are written.
+#![tactic(auto)]
+
 ghost use Rattle.std.specs.Prelude.{◌≡◌};
 ghost use Rattle.answer_words.specs.Answers.{ran_number, ran_words, SmallRan, vetted_number, vetted_index};
 

@@ -1,4 +1,6 @@
 // Question 7 of a direct call: its operands are formed, and its result slices long enough.
+#![tactic(auto)]
+
 ghost use Rattle.std.specs.Prelude.{◌≡◌, cond, [], ◌∷◌, take};
 ghost use Rattle.ink_value.specs.declared.Value.TheVariants as Is;
 ghost use Rattle.pack.specs.Format.{Runnable};

@@ -1,6 +1,8 @@
 // Makes the calls of the standard input (make_cases.py beside this writes them), a line for each: its name, then B and 0 or 1, I and a
 // decimal number, F and eight hexadecimal digits, L and its entries, V, or R and the number of the question that said no. Behind "then"
 // stands the first place of the two result slices after the entries, which held 9999 before.
+#![tactic(auto)]
+
 mod cases;
 
 use cases::{

@@ -1,7 +1,7 @@
 -- The words of the contracts for calls whose operands' and results' entries stand in lent slices, as they were lent. Assumes nothing.
 use Rattle.std.specs.Prelude.{◌≡◌, List, ℕ, ℤ}
 use Rattle.ink_number.specs.Answer.{Answer}
-use Rattle.slices.specs.Slices.{Slice}
+use Rattle.slices.specs.Slices.{Slice, MutSlice}
 use Rattle.list_definitions.specs.Defs.{ListDefinitions}
 use Rattle.ink_value.specs.Val.{Val}
 use Rattle.ink_value.specs.Slices.{val_in}
@@ -12,11 +12,11 @@ use Rattle.pack.specs.declared.Checked.{Checked}
 use Rattle.calls.specs.Call.{called, cast_to, coerced, on_pack, after_asked, Returned}
 
 -- an operator
-abbrev pub called_in : Slice ℕ → Slice ℤ → Slice ℕ → Slice ℤ → ℕ → ℕ → List Value → ListDefinitions → Answer Val
+abbrev pub called_in : Slice ℕ → Slice ℤ → MutSlice ℕ → MutSlice ℤ → ℕ → ℕ → List Value → ListDefinitions → Answer Val
 called_in is vs oi ov = called is.entry.now vs.entry.now oi.entry.now ov.entry.now
 
 -- `cast`
-abbrev pub cast_in : Slice ℕ → Slice ℤ → Slice ℕ → Slice ℤ → ℕ → Value → ListDefinitions → Answer Val
+abbrev pub cast_in : Slice ℕ → Slice ℤ → MutSlice ℕ → MutSlice ℤ → ℕ → Value → ListDefinitions → Answer Val
 cast_in is vs oi ov = cast_to is.entry.now vs.entry.now oi.entry.now ov.entry.now
 
 -- the three `coerce_to_`
@@ -32,5 +32,5 @@ abbrev pub Asked : Format → Slice ℕ → Slice ℕ → Slice ℤ → Value �
 Asked F pack is vs v r = (f : Val → Answer Val) → on_pack_in F pack (coerced_in is vs f v) ≡ after_asked r (f (val_in is vs v))
 
 -- an answer is returned, and written to the two result slices
-abbrev pub ReturnedIn : Answer Val → Outcome → Slice ℕ → Slice ℤ → Type 0
+abbrev pub ReturnedIn : Answer Val → Outcome → MutSlice ℕ → MutSlice ℤ → Type 0
 ReturnedIn a r oi ov = Returned a r oi.entry.now oi.exit.now ov.entry.now ov.exit.now

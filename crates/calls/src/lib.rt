@@ -1,4 +1,6 @@
 // Direct calls: one operator, or one conversion, on operands that are lists of a pack.
+#![tactic(auto)]
+
 ghost use Rattle.std.specs.Prelude.{◌≡◌, true, [], ◌∷◌, ◌≤◌, ◌<◌, length, take};
 ghost use Rattle.ink_list.specs.Entries.{item_numbers};
 ghost use Rattle.list_operators.specs.Lists.{definitions, definitions_in};

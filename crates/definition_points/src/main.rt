@@ -1,5 +1,6 @@
 // The operators on lists that go by definitions, on empty, small, tied and full lists, which make_cases.py beside this writes: for each
 // case the operands, then each operator with its answer. The second list of a case is the ends of the definitions and their values.
+#![tactic(auto)]
 
 ghost use Rattle.std.specs.Prelude.{◌≡◌, true, ◌≤◌, length};
 ghost use Rattle.ink_list.specs.Entries.{Lent};

@@ -1,4 +1,6 @@
 // The definitions of a pack that has passed, read into two slices of a host.
+#![tactic(auto)]
+
 ghost use Rattle.pack.specs.Format.{Narrow};
 ghost use Rattle.definition_tables.specs.Tables.{Passed};
 ghost use Rattle.definition_tables.specs.Slices.{ReadsAny};

@@ -1,4 +1,5 @@
 // The least and the greatest of a list's values: the value of a List, and a List as a bound of a range.
+#![tactic(auto)]
 
 ghost use Rattle.std.specs.Prelude.{◌≡◌};
 ghost use Rattle.ink_list.specs.Ops.{beats, extreme_value, value_of_list, lower_bound, upper_bound};

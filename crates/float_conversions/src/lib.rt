@@ -1,4 +1,5 @@
 // Conversions between Int, Float and bit patterns.
+#![tactic(auto)]
 
 ghost use Rattle.std.specs.Prelude.{◌≡◌};
 ghost use Rattle.binary32.specs.Binary32.{Exactly, Only};

@@ -1,5 +1,7 @@
 // Int to Float as a C function by itself, for tests and timing: tests/no_division looks at its machine code, and oracle/bench times it
 // beside the processor's own conversion. Hosts have ink_operators.
+#![tactic(auto)]
+
 ghost use Rattle.std.specs.Prelude.{◌≡◌};
 ghost use Rattle.binary32.specs.Binary32.{Exactly};
 ghost use Rattle.binary32.specs.Operations.{OfInt};

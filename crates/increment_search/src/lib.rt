@@ -1,5 +1,6 @@
 // Increment's search within one definition, whose values are `ds` and whose first item is `first`; `vs` has the
 // values of the entries.
+#![tactic(auto)]
 
 ghost use Rattle.std.specs.Prelude.{◌≡◌, true, [], ◌+◌, ◌≤◌, length};
 ghost use Rattle.ink_list.specs.Entries.{item_numbers, room};

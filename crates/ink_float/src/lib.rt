@@ -1,5 +1,6 @@
 // The operators on Float. A Float is an f32. Each contract says over whole numbers what the answer is, by a definition of
 // binary32's specs/Operations.antt. Where that is a relation it also gives the answer the name that other definitions cite.
+#![tactic(auto)]
 
 ghost use Rattle.std.specs.Prelude.{◌≡◌};
 ghost use Rattle.binary32.specs.Binary32.{Exactly};

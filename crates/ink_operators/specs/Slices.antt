@@ -1,7 +1,7 @@
 -- The words of the contracts at the boundary. In an `ensures` a slice is what it was at entry and what it is at exit. Assumes nothing.
 use Rattle.std.specs.Prelude.{map, ℕ, ℤ}
 use Rattle.ink_number.specs.Answer.{Answer}
-use Rattle.slices.specs.Slices.{Slice, Cell}
+use Rattle.slices.specs.Slices.{Slice, Cell, MutSlice}
 use Rattle.ink_value.specs.Slices.{val_in}
 use Rattle.ink_value.specs.Val.{Val}
 use Rattle.pack.specs.declared.format.Format.{Format}
@@ -14,27 +14,27 @@ use Rattle.answer_words.specs.Answers.{RunSays, VetSays}
 use Rattle.machine.specs.Whole.{opened}
 
 -- a run of any bytes on slots that stand in words: questions 1 to 7 asked, the number n and the answer's words, and what it leaves
-abbrev pub RunSaysAny : Format → Slice ℕ → ℕ → Slice ℕ → Slice ℕ → Slice ℤ → ℕ → Slice ℕ → Slice ℕ → Slice ℤ → Slice ℕ → Slice ℤ → Type 0
+abbrev pub RunSaysAny : Format → Slice ℕ → ℕ → Slice ℕ → Slice ℕ → Slice ℤ → ℕ → MutSlice ℕ → MutSlice ℕ → MutSlice ℤ → MutSlice ℕ → MutSlice ℤ → Type 0
 RunSaysAny F pack sheet slots si sv n answer wi wv ri rv =
     RunSays F (opened F pack.entry.now sheet (run_memory_in F (slots_in slots.entry.now) si sv wi wv ri rv))
     sheet (map (val_in si sv) (slots_in slots.entry.now)) n answer.exit.now
     wi.entry.now wi.exit.now wv.entry.now wv.exit.now ri.entry.now ri.exit.now rv.entry.now rv.exit.now
 
 -- vetting of any bytes for kind codes: the number n, the index, and what is left in the forecast slice
-abbrev pub VetSaysAny : Format → Slice ℕ → ℕ → Slice ℕ → ℕ → Cell ℕ → Slice ℕ → Type 0
+abbrev pub VetSaysAny : Format → Slice ℕ → ℕ → Slice ℕ → ℕ → Cell ℕ → MutSlice ℕ → Type 0
 VetSaysAny F pack sheet kinds n index f =
     VetSays F pack.entry.now sheet kinds.entry.now n index.exit.now f.entry.now f.exit.now
 
 -- an operator on the operands that nine words hold, with a pack of any bytes: the number n and the answer's words, and what is left
-abbrev pub CallSaysAny : Format → Slice ℕ → ℕ → ℕ → Slice ℕ → Slice ℕ → Slice ℤ → ℕ → Slice ℕ → Slice ℕ → Slice ℤ → Type 0
+abbrev pub CallSaysAny : Format → Slice ℕ → ℕ → ℕ → Slice ℕ → Slice ℕ → Slice ℤ → ℕ → MutSlice ℕ → MutSlice ℕ → MutSlice ℤ → Type 0
 CallSaysAny F pack op count ws is vs n answer oi ov =
     CallsIn (on_pack_in F pack (called_in is vs oi ov op count (operands_in ws.entry.now))) n answer oi ov
 
 -- `cast` of the operand that three words hold
-abbrev pub CastSaysAny : Format → Slice ℕ → ℕ → Slice ℕ → Slice ℕ → Slice ℤ → ℕ → Slice ℕ → Slice ℕ → Slice ℤ → Type 0
+abbrev pub CastSaysAny : Format → Slice ℕ → ℕ → Slice ℕ → Slice ℕ → Slice ℤ → ℕ → MutSlice ℕ → MutSlice ℕ → MutSlice ℤ → Type 0
 CastSaysAny F pack code ws is vs n answer oi ov =
     CallsIn (on_pack_in F pack (cast_in is vs oi ov code (value_at ws.entry.now 0))) n answer oi ov
 
 -- one of the three `coerce_to_`, f
-abbrev pub CoerceSaysAny : Format → Slice ℕ → (Val → Answer Val) → Slice ℕ → Slice ℕ → Slice ℤ → ℕ → Slice ℕ → Type 0
+abbrev pub CoerceSaysAny : Format → Slice ℕ → (Val → Answer Val) → Slice ℕ → Slice ℕ → Slice ℤ → ℕ → MutSlice ℕ → Type 0
 CoerceSaysAny F pack f ws is vs n answer = SaysIn (on_pack_in F pack (coerced_in is vs f (value_at ws.entry.now 0))) n answer

@@ -1,5 +1,7 @@
 // The library as C sees it: numbers, slices and words. A slice is passed as a pointer and a length, an array or a number that is written as
 // a pointer. The header hosts/include/ink_operators.h says how values stand in words.
+#![tactic(auto)]
+
 ghost use Rattle.std.specs.Prelude.{◌≡◌};
 ghost use Rattle.value_conversions.specs.Convert.{coerce_bool, coerce_int, coerce_float};
 ghost use Rattle.pack.specs.Format.{format1};

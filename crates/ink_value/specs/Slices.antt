@@ -1,7 +1,7 @@
 -- The words of the contracts for values whose entries stand in lent slices. Assumes nothing.
 use Rattle.std.specs.Prelude.{List, ℕ, ℤ, Float}
 use Rattle.ink_number.specs.Answer.{Answer, gives}
-use Rattle.slices.specs.Slices.{Slice}
+use Rattle.slices.specs.Slices.{Slice, MutSlice}
 use Rattle.ink_list.specs.Entries.{Entry}
 use Rattle.ink_value.specs.Val.{Val}
 use Rattle.ink_value.specs.Value.{val_of, first_of, entries_at, of_parts, Gave}
@@ -30,9 +30,9 @@ abbrev pub parts_with : List ℕ → Slice ℤ → ℕ → ℤ → Float → ℕ
 parts_with is values k z x s n = of_parts is values.entry.now k z x s n
 
 -- the answer is returned, and its entries are written from the start of two slices, which are else as they were
-abbrev pub Gives : Answer Val → Outcome → Slice ℕ → Slice ℤ → Type 0
+abbrev pub Gives : Answer Val → Outcome → MutSlice ℕ → MutSlice ℤ → Type 0
 Gives answer r oi ov = Gave answer r oi.entry.now oi.exit.now ov.entry.now ov.exit.now
 
 -- the same of a call that refuses nothing: it returns the value
-abbrev pub Makes : Val → Value → Slice ℕ → Slice ℤ → Type 0
+abbrev pub Makes : Val → Value → MutSlice ℕ → MutSlice ℤ → Type 0
 Makes v r oi ov = Gives (gives v) (Out.Value r) oi ov

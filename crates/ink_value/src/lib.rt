@@ -1,4 +1,6 @@
 // Values, and what they read as.
+#![tactic(auto)]
+
 pub mod kind_code;
 
 ghost use Rattle.std.specs.Prelude.{◌≡◌, cond, List, ℕ, ◌<◌, ◌≤◌, ◌+◌, eqb, ℤ, length};

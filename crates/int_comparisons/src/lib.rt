@@ -1,4 +1,6 @@
 // The comparisons of two Ints, the smaller and the greater of them, and an Int's truth.
+#![tactic(auto)]
+
 ghost use Rattle.std.specs.Prelude.{◌≡◌, not};
 ghost use Rattle.std.specs.Int.Signed.{lt_z, le_z};
 ghost use Rattle.ink_number.specs.Int.{min_z, max_z, eq_z, truthy_z};

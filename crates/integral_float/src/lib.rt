@@ -1,4 +1,5 @@
 // A Float rounded to an integral value, toward negative and toward positive infinity.
+#![tactic(auto)]
 
 ghost use Rattle.std.specs.Prelude.{◌≡◌, true, pos};
 ghost use Rattle.ink_number.specs.Int.{bit_of};

@@ -1,4 +1,6 @@
 // The table of 775 answers that vetting works from, and range beside it.
+#![tactic(auto)]
+
 ghost use Rattle.std.specs.Prelude.{◌≡◌, ◌<◌};
 ghost use Rattle.ink_value.specs.Val.{kind_at};
 ghost use Rattle.op.specs.Op.{op_range};

@@ -1,5 +1,7 @@
 // What the test programs of lists share: how operands and answers are printed, and how cases are read. A list of more than 12 entries is
 // shown by its length, its first and last entry, and the sums of its items and of its values.
+#![tactic(auto)]
+
 pub mod read;
 
 ghost use Rattle.std.specs.Prelude.{◌≡◌, ◌<◌, length};

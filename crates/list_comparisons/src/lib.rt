@@ -1,4 +1,5 @@
 // The comparisons of two lists, by their least and greatest values.
+#![tactic(auto)]
 
 ghost use Rattle.std.specs.Prelude.{◌≡◌};
 ghost use Rattle.ink_list.specs.Ops.{greater, greater_or_equals, less, less_or_equals};

@@ -1,5 +1,6 @@
 // The list operators that go by the pack's definitions: `ends` has for each definition the number one past its last
 // item, and `defined` each item's value.
+#![tactic(auto)]
 
 ghost use Rattle.std.specs.Prelude.{◌≡◌, ◌≤◌, length};
 ghost use Rattle.ink_list.specs.Entries.{Ascends, item_numbers, room};

@@ -1,4 +1,5 @@
 // Equal and NotEquals of two lists: whether they have the same items.
+#![tactic(auto)]
 
 ghost use Rattle.std.specs.Prelude.{◌≡◌, ◌≤◌, length};
 ghost use Rattle.ink_list.specs.Entries.{Ascends, item_numbers};

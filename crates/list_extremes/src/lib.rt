@@ -1,4 +1,5 @@
 // ListMin and ListMax: the first entry with the least or the greatest value.
+#![tactic(auto)]
 
 ghost use Rattle.std.specs.Prelude.{◌≡◌, ◌<◌, ◌≤◌, length};
 ghost use Rattle.ink_list.specs.Entries.{room};

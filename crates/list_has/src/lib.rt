@@ -1,4 +1,5 @@
 // Has and Hasnt: whether a list has all items of another.
+#![tactic(auto)]
 
 ghost use Rattle.std.specs.Prelude.{◌≡◌};
 ghost use Rattle.ink_list.specs.Entries.{Ascends, item_numbers};

@@ -1,4 +1,5 @@
 // Increment and decrement: each value moved, and the item taken that its definition has at the new one.
+#![tactic(auto)]
 
 ghost use Rattle.std.specs.Prelude.{◌≤◌, length};
 ghost use Rattle.ink_list.specs.Entries.{Lent, item_numbers, room};

@@ -1,4 +1,5 @@
 // Add of two lists: their entries merged.
+#![tactic(auto)]
 
 ghost use Rattle.std.specs.Prelude.{ℕ};
 ghost use Rattle.ink_list.specs.Entries.{Rising, Lent, room};

@@ -1,4 +1,6 @@
 // The operators on lists whose results are Lists, written from the start of two output slices.
+#![tactic(auto)]
+
 ghost use Rattle.std.specs.Prelude.{◌≡◌, [], ◌∷◌, ℕ, ◌≤◌, length};
 ghost use Rattle.ink_list.specs.Entries.{item_numbers, room, Lent};
 ghost use Rattle.ink_list.specs.Slices.{list, Answers};

@@ -1,4 +1,6 @@
 // The operators on the entries of two lists: tests, and Add, Subtract and Intersect.
+#![tactic(auto)]
+
 ghost use Rattle.std.specs.Prelude.{◌≡◌, ℕ};
 ghost use Rattle.ink_list.specs.Entries.{item_numbers, room, Rising, Lent};
 ghost use Rattle.ink_list.specs.Slices.{list, Answers};

@@ -1,5 +1,6 @@
 // The operators on lists that go by no definitions, on empty, small, tied and full lists, which make_cases.py beside this writes: for
 // each case the operands, then each operator with its answer.
+#![tactic(auto)]
 
 ghost use Rattle.ink_list.specs.Entries.{Ascends, Lent, item_numbers};
 

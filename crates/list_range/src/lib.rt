@@ -1,4 +1,5 @@
 // Range: the entries of a list whose values lie within two bounds.
+#![tactic(auto)]
 
 ghost use Rattle.std.specs.Prelude.{◌≡◌, ℕ};
 ghost use Rattle.ink_list.specs.Entries.{Rising, Lent, room};

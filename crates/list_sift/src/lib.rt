@@ -1,4 +1,5 @@
 // Subtract and Intersect of two lists: the entries of one whose items the other has not, or has.
+#![tactic(auto)]
 
 ghost use Rattle.std.specs.Prelude.{ℕ};
 ghost use Rattle.std.specs.Bool.{beq};

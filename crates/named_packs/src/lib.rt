@@ -1,4 +1,6 @@
 // A stream of named packs: each pack comes after its name, the name after its length of one byte, the pack after its length of three.
+#![tactic(auto)]
+
 ghost use Rattle.std.specs.Prelude.{◌≡◌, ◌+◌, ◌<◌, length, get_or};
 ghost use Rattle.named_packs.specs.Stream.{size_at, Stands};
 

@@ -1,4 +1,6 @@
 // What sheetrun prints of each pack of a stream of named packs, after the pack's name.
+#![tactic(auto)]
+
 ghost use Rattle.std.specs.Prelude.{◌<◌, ◌≤◌, length};
 
 use named_packs::Named;

@@ -1,4 +1,5 @@
 // The Float nearest to a whole number.
+#![tactic(auto)]
 
 ghost use Rattle.std.specs.Prelude.{◌≡◌, ◌^◌, ◌<◌, pos};
 ghost use Rattle.std.specs.Float.Ieee.{of_int};

@@ -1,4 +1,6 @@
 // The operators on numbers: arithmetic and tests by operator, and the same of numbers in parts.
+#![tactic(auto)]
+
 ghost use Rattle.std.specs.Prelude.{◌≡◌, not, ◌&&◌, ◌||◌, eqb};
 ghost use Rattle.ink_number.specs.Int.{divided};
 ghost use Rattle.ink_value.specs.Val.{code_of, floatK};

@@ -1,6 +1,7 @@
 // Every operator and conversion of numbers on every pair of a set of limits, a line for each
 // value and each pair, and document 01's known points on numbers. An Int is printed in decimal, a
 // Float as its bit pattern in hexadecimal, a Bool as 0 or 1, a refusal as R and its number.
+#![tactic(auto)]
 
 use ink_number::int;
 use ink_number::int::Divided;

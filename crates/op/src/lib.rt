@@ -1,4 +1,6 @@
 // The operators' numbers: the cases of `Op` in the order of Ink's source, and range.
+#![tactic(auto)]
+
 pub const ADD: u8 = 0;
 
 pub const SUBTRACT: u8 = 1;

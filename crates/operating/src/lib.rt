@@ -1,5 +1,6 @@
 // An operator of a run: its operands are values of the stack, and its result is put at a place of the stack. The entries of the list at
 // place p stand in the work slices, from p times the format's item limit on.
+#![tactic(auto)]
 
 ghost use Rattle.std.specs.Prelude.{◌≡◌, ◌<◌, ◌≤◌, ◌+◌, length};
 ghost use Rattle.ink_number.specs.Int.{divided};

@@ -1,4 +1,6 @@
 // The operators on kinds: what each answers, worked out, with range beside them, and how many operands an operator takes.
+#![tactic(auto)]
+
 ghost use Rattle.std.specs.Prelude.{◌≡◌, [], ◌∷◌, cond, ◌<◌, ◌≤◌, max, eqb, take};
 ghost use Rattle.ink_value.specs.Val.{kind_at, intK, listK, code_of};
 ghost use Rattle.op.specs.Op.{op_range};

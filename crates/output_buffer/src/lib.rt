@@ -1,4 +1,6 @@
 // Text for the standard output: it gathers in a lent buffer, which is written when it is full and at the end.
+#![tactic(auto)]
+
 ghost use Rattle.std.specs.Prelude.{◌≡◌, true, [], ◌∷◌};
 ghost use Rattle.output_buffer.specs.Text.{Adds};
 

@@ -1,4 +1,6 @@
 // Questions 1 to 5 asked of any bytes.
+#![tactic(auto)]
+
 pub mod format;
 mod questions;
 

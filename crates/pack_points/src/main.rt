@@ -2,6 +2,8 @@
 // or what the readers give. That is one past each definition's last item and the last item's value; each literal's origin set,
 // how many entries it has and the last one; and how many instructions each sheet has, with these where they are at most 8.
 // Values and Floats are printed as their bits, in hexadecimal.
+#![tactic(auto)]
+
 ghost use Rattle.std.specs.Prelude.{◌≡◌, ◌<◌, ◌≤◌, length};
 ghost use Rattle.pack.specs.Contents.{literal_count, sheet_count};
 ghost use Rattle.pack.specs.Read.{program};

@@ -1,4 +1,6 @@
 // Readers of the definitions and the sheets of a pack that has passed questions 1 to 5.
+#![tactic(auto)]
+
 ghost use Rattle.std.specs.Prelude.{◌≡◌, true, ◌+◌, ◌*◌, ◌<◌, ◌≤◌, length};
 ghost use Rattle.slices.specs.Every.{table};
 ghost use Rattle.slices.specs.Filled.{fill};

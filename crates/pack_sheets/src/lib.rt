@@ -1,4 +1,6 @@
 // Question 5: sheets.
+#![tactic(auto)]
+
 ghost use Rattle.std.specs.Prelude.{cond, ◌≡◌, ◌+◌, ◌<◌, ◌≤◌, ltb, leb, length};
 ghost use Rattle.pack.specs.Bodies.{sheet};
 ghost use Rattle.pack.specs.Bytes.{byte};

@@ -1,5 +1,7 @@
 // Values as text, each after a space: B and 0 or 1, I and a decimal number, F and eight hexadecimal digits, L, how many entries and each
 // as item=value, V, or R and the number of the question that said no.
+#![tactic(auto)]
+
 use ink_value::Value;
 use output_buffer::Output;
 

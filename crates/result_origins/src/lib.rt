@@ -1,4 +1,6 @@
 // The origin set of a result.
+#![tactic(auto)]
+
 ghost use Rattle.std.specs.Prelude.{◌≡◌, List, [], ◌∷◌, ℕ, ◌≤◌, ℤ, length};
 ghost use Rattle.ink_list.specs.Entries.{item_numbers, Ascends};
 ghost use Rattle.ink_value.specs.Value.{val_of, first_of};

@@ -1,4 +1,6 @@
 // Running a sheet of any bytes: questions 1 to 7, the work slices cleared, and then the run.
+#![tactic(auto)]
+
 ghost use Rattle.std.specs.Prelude.{◌≤◌, length};
 ghost use Rattle.pack.specs.Format.{format1, Runnable};
 ghost use Rattle.pack.specs.Judge.{Sound};

@@ -2,7 +2,7 @@
 -- For inner steps alone: no entry point's contract cites it.
 use Rattle.std.specs.Prelude.{◌≡◌, List, ℕ, zero, suc, ℤ, pos, get_or, replicate}
 use Rattle.slices.specs.Filled.{fill}
-use Rattle.slices.specs.Slices.{Slice}
+use Rattle.slices.specs.Slices.{Slice, MutSlice}
 use Rattle.operating.specs.Stacked.{start_at}
 use Rattle.pack.specs.declared.format.Format.{Format}
 use Rattle.machine.specs.Machine.{stack_limit}
@@ -13,7 +13,7 @@ cleared F d used zero l = l
 cleared F d used (suc n) l = fill (start_at F n) (replicate (get_or used n 0) d) (cleared F d used n l)
 
 -- the places of the work slices that `used` has are zero
-abbrev pub ClearedIn : Format → Slice ℕ → Slice ℕ → Slice ℤ → Type 0
+abbrev pub ClearedIn : Format → Slice ℕ → MutSlice ℕ → MutSlice ℤ → Type 0
 ClearedIn F used wi wv =
     (wi.exit.now ≡ cleared F 0 used.entry.now stack_limit wi.entry.now)
     × (wv.exit.now ≡ cleared F (pos 0) used.entry.now stack_limit wv.entry.now)

@@ -1,5 +1,6 @@
 // The run of a pack that has passed, in work slices that are zero and are left so: the work, the result stored, and what was used of the
 // work slices zeroed.
+#![tactic(auto)]
 
 ghost use Rattle.std.specs.Prelude.{◌≡◌, ℕ, ◌<◌, ◌≤◌, ◌+◌, pos, length, get_or, replicate};
 ghost use Rattle.slices.specs.Filled.{fill};

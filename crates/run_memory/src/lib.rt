@@ -1,4 +1,6 @@
 // Question 7 of a run: its slots are formed, and the slices that it writes long enough.
+#![tactic(auto)]
+
 ghost use Rattle.std.specs.Prelude.{◌≡◌};
 ghost use Rattle.ink_value.specs.Value.{all_formed};
 ghost use Rattle.pack.specs.Format.{Runnable};

@@ -1,4 +1,6 @@
 // Running a sheet of a pack that has passed, its definitions read and the work slices clear: questions 6 and 7, and then the run.
+#![tactic(auto)]
+
 ghost use Rattle.pack.specs.Format.{Runnable};
 ghost use Rattle.running.specs.Slices.{RunsAny, Kept};
 ghost use Rattle.definition_tables.specs.Tables.{Ready};

@@ -1,4 +1,6 @@
 // Running a sheet of a pack that has passed: question 7, the work slices cleared, and then the run.
+#![tactic(auto)]
+
 ghost use Rattle.std.specs.Prelude.{◌≡◌, ◌<◌};
 ghost use Rattle.pack.specs.Bodies.{decoded};
 ghost use Rattle.pack.specs.Contents.{sheet_count};

@@ -1,5 +1,6 @@
 // A sheet's instructions worked on values, in order. The stack's values stand in a local array, and the entries of the list at place p in
 // the work slices, from p times the format's item limit on.
+#![tactic(auto)]
 
 ghost use Rattle.std.specs.Prelude.{◌≡◌, map, ◌<◌, ◌≤◌, ◌+◌, ◌-◌, length, replicate};
 ghost use Rattle.ink_value.specs.Slices.{val_in};

@@ -1,5 +1,7 @@
 // Runs the sheets of the packs of the standard input, then those of slot_pack.rt with a List in slot 0 (make_packs.py beside this writes
 // both).
+#![tactic(auto)]
+
 mod slot_pack;
 
 use ink_value::Value;

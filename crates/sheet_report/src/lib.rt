@@ -1,6 +1,8 @@
 // What the sheets of a pack come to, as text: "sheets" and how many there are, then a line for each, which has its number and what a run
 // with all slots Void answers, a refusal with its number and index. Of a pack that is turned back, "pack R" and the number. Where the
 // text cannot be written, no further sheet is run.
+#![tactic(auto)]
+
 ghost use Rattle.pack.specs.Judge.{Framed};
 
 use ink_value::Value;

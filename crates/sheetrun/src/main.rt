@@ -1,5 +1,7 @@
 // Reads a pack from the standard input and runs each of its sheets, with all slots Void. Where a line cannot be written, it says so on the
 // standard error and ends.
+#![tactic(auto)]
+
 use output_buffer::Output;
 
 const STDERR: i32 = 2;

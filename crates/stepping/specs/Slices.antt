@@ -3,7 +3,7 @@
 -- For inner steps alone: no entry point's contract cites it.
 use Rattle.std.specs.Prelude.{List, ℕ, ℤ}
 use Rattle.ink_number.specs.Answer.{Answer}
-use Rattle.slices.specs.Slices.{Slice}
+use Rattle.slices.specs.Slices.{Slice, MutSlice}
 use Rattle.ink_value.specs.Val.{Val, list}
 use Rattle.ink_value.specs.declared.Value.{Value}
 use Rattle.native_function_call.specs.Apply.{apply_op}
@@ -17,11 +17,11 @@ use Rattle.operating.specs.declared.Step.{Step}
 use Rattle.list_operators.specs.Lists.{definitions_in}
 
 -- an operator's operands are the topmost of a stack of n whose values, from below, are those of f
-abbrev pub OperandsIn : Slice ℕ → Slice ℤ → Value → Value → Value → ℕ → ℕ → (ℕ → Val) → Type 0
+abbrev pub OperandsIn : MutSlice ℕ → MutSlice ℤ → Value → Value → Value → ℕ → ℕ → (ℕ → Val) → Type 0
 OperandsIn wi wv a b c n count f = Operands wi.entry.now wv.entry.now a b c n count f
 
 -- the stack that a step gives: its top is put in its place, its entries in the work slices; or a no, and nothing is written
-abbrev pub StepsIn : Format → ℕ → Answer (List Val) → (ℕ → Val) → Step → Slice ℕ → Slice ℤ → Type 0
+abbrev pub StepsIn : Format → ℕ → Answer (List Val) → (ℕ → Val) → Step → MutSlice ℕ → MutSlice ℤ → Type 0
 StepsIn F n a f r wi wv = Steps F n a f r wi.entry.now wi.exit.now wv.entry.now wv.exit.now
 
 -- a literal of the pack

@@ -1,4 +1,5 @@
 // One instruction of a run: a push, or an operator on the values on top of the stack.
+#![tactic(auto)]
 
 ghost use Rattle.std.specs.Prelude.{◌≡◌, List, [], map, ℕ, ◌<◌, ◌≤◌, ℤ};
 ghost use Rattle.ink_value.specs.Val.{Val};

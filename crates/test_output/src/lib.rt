@@ -1,4 +1,6 @@
 // Text of the test programs: each piece is written to the standard output at once.
+#![tactic(auto)]
+
 const STDOUT: i32 = 1;
 
 fn wide(n: u16) -> u64 {

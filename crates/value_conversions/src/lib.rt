@@ -1,4 +1,6 @@
 // Values converted: `cast` and the three `coerce_to_`, which answer by question 18.
+#![tactic(auto)]
+
 ghost use Rattle.std.specs.Prelude.{◌≡◌, true, List, ℕ, ◌+◌, ℤ};
 ghost use Rattle.ink_number.specs.Answer.{gives};
 ghost use Rattle.ink_list.specs.Entries.{room};

@@ -1,4 +1,6 @@
 // Range on three values: the bounds that two of them give, and the entries of the first whose values lie within.
+#![tactic(auto)]
+
 ghost use Rattle.std.specs.Prelude.{◌≡◌, List, ℕ, ◌≤◌, ◌+◌, length};
 ghost use Rattle.slices.specs.Filled.{part};
 ghost use Rattle.ink_list.specs.Entries.{room};

@@ -1,4 +1,6 @@
 // The answer of a call as a number that is returned and words that are written.
+#![tactic(auto)]
+
 ghost use Rattle.std.specs.Prelude.{◌≡◌};
 ghost use Rattle.value_words.specs.Calls.{outcome_number, outcome_words, SmallOutcome};
 

@@ -1,6 +1,6 @@
 -- Vetting and a run of one sheet: the two answers, what the calls leave, and demand 3 of them. Assumes nothing.
 use Rattle.std.specs.Prelude.{◌≡◌, Bool, ◌⊎◌, List, map, ℕ, ◌*◌, ◌-◌, ◌<◌, ℤ, get_or}
-use Rattle.slices.specs.Slices.{Slice}
+use Rattle.slices.specs.Slices.{Slice, MutSlice}
 use Rattle.ink_value.specs.Val.{kind_of, kind_at}
 use Rattle.ink_value.specs.Value.{val_of, code_of_value}
 use Rattle.ink_value.specs.declared.Value.{Value}
@@ -45,7 +45,7 @@ module _ (F : Format) (p : List ℕ) (s : ℕ) (codes : List ℕ) (slots : List 
 
 -- the same of the slices that are lent, each as it was at entry and as it is at exit
 abbrev pub BothIn : Format → Slice ℕ → ℕ → List ℕ → List Value → Slice ℕ → Slice ℤ → VettedRun
-    → Slice ℕ → Slice ℕ → Slice ℤ → Slice ℕ → Slice ℤ → Type 0
+    → MutSlice ℕ → MutSlice ℕ → MutSlice ℤ → MutSlice ℕ → MutSlice ℤ → Type 0
 BothIn F pack sheet kinds slots si sv b f wi wv ri rv =
     Both F pack.entry.now sheet kinds slots si.entry.now sv.entry.now b f.entry.now f.exit.now
     wi.entry.now wi.exit.now wv.entry.now wv.exit.now

@@ -1,4 +1,6 @@
 // Vetting and a run of one sheet, one after the other.
+#![tactic(auto)]
+
 ghost use Rattle.pack.specs.Format.{format1};
 ghost use Rattle.vet_and_run.specs.Both.{BothIn};
 

@@ -1,4 +1,6 @@
 // A sheet's instructions worked on kinds alone, one after the other.
+#![tactic(auto)]
+
 ghost use Rattle.std.specs.Prelude.{◌≡◌, true, ◌<◌, length};
 ghost use Rattle.kind_table.specs.Table.{Table};
 ghost use Rattle.pack.specs.Contents.{sheet_count};

@@ -1,4 +1,6 @@
 // One instruction on a stack of kinds: what is put where, or which question says no.
+#![tactic(auto)]
+
 ghost use Rattle.std.specs.Prelude.{◌≡◌, map, ℕ, ◌<◌, ◌≤◌, ◌-◌};
 ghost use Rattle.ink_value.specs.Val.{Kind, kind_at};
 ghost use Rattle.operator_kinds.specs.Kinds.{kind_apply, operand_count};

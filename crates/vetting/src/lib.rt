@@ -1,4 +1,6 @@
 // Vetting: the questions of any bytes, and a sheet's answer and forecast.
+#![tactic(auto)]
+
 ghost use Rattle.std.specs.Prelude.{◌≡◌, true, ◌<◌, ◌≤◌, length, take};
 ghost use Rattle.slices.specs.Filled.{over};
 ghost use Rattle.pack.specs.Contents.{sheet_count};

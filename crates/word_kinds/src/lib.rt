@@ -1,4 +1,6 @@
 // The kinds of operands that stand in words, and the kind of an operator's result on numbers among them.
+#![tactic(auto)]
+
 ghost use Rattle.std.specs.Prelude.{◌≡◌, true, false, cond, ◌<◌, ltb};
 ghost use Rattle.word_kinds.specs.Operands.{Held, NumberKind};
 

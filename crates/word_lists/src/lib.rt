@@ -1,4 +1,6 @@
 // An operator from words to words where its result is a List.
+#![tactic(auto)]
+
 ghost use Rattle.std.specs.Prelude.{◌≤◌};
 ghost use Rattle.list_operators.specs.Lists.{Room, definitions};
 ghost use Rattle.word_lists.specs.Operands.{FirstIn};

@@ -1,4 +1,6 @@
 // Operators on numbers that stand in words: the operands go to them in parts, as they stand there, without a slice.
+#![tactic(auto)]
+
 ghost use Rattle.std.specs.Prelude.{◌≡◌, ◌%◌, ◌^◌};
 ghost use Rattle.ink_number.specs.Int.{signed, divided};
 ghost use Rattle.binary32.specs.Real.{of_bits32};

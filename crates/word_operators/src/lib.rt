@@ -1,4 +1,6 @@
 // An operator from words to words. Where its result is no List the operands go to it in parts, as they stand in the words.
+#![tactic(auto)]
+
 ghost use Rattle.std.specs.Prelude.{◌≡◌, ◌<◌, ◌≤◌};
 ghost use Rattle.ink_list.specs.Entries.{item_numbers};
 ghost use Rattle.word_kinds.specs.Operands.{Held};

@@ -1,4 +1,6 @@
 // Words read as values: three for each, the code of its kind, what it holds, and where a List's entries stand.
+#![tactic(auto)]
+
 ghost use Rattle.std.specs.Prelude.{◌≡◌, ◌<◌, ◌/◌, ◌%◌, ◌^◌};
 ghost use Rattle.words_in.specs.Words.{unheld, bool_at, int_at, float_at, void_at, plain_at, value_of, value_at, slots_in};
 

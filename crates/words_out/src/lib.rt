@@ -1,4 +1,6 @@
 // Values written as words, as `words_in` reads them.
+#![tactic(auto)]
+
 ghost use Rattle.std.specs.Prelude.{◌≡◌, [], ◌∷◌, ◌<◌, ◌+◌, ◌*◌, ◌^◌};
 ghost use Rattle.words_out.specs.Words.{words_of, Small};
 ghost use Rattle.ink_number.specs.Int.{bit_of};

@@ -1,0 +1,24 @@
+-- `ink_list::entries::is_formed` meets its contract: the three tests in turn. Assumes nothing.
+use mathlib.Core.Path.{sym, ◌∙◌}
+use borrow.Author.Rules.{rules}
+use borrow.Author.Tests.{eq-eqb, ne_eqb, not-true, not-false}
+use Rattle.ink_list.specs.Entries.{formed, formed_lent}
+use Rattle.slices.proofs.Every.{and_on, and_no_left}
+use Rattle.ink_list.proofs.entries.is_formed.Goals as goal
+
+pub returns-then-items-values : goal.returns-then-items-values
+unfolding formed_lent
+returns-then-items-values c = sym (and_no_left _ _ (ne_eqb _ _ c.if-items-values.true))
+
+pub returns-then-not-bits_below : goal.returns-then-not-bits_below
+unfolding formed_lent formed
+returns-then-not-bits_below c =
+    sym (and_on _ _ (eq-eqb _ _ c.if-items-values.false)
+    ∙ and_no_left _ _ (sym c.bits_below.ensures ∙ not-true _ c.if-not-bits_below.true))
+
+pub returns : goal.returns
+unfolding formed_lent formed
+returns c =
+    c.ascends.ensures
+    ∙ sym (and_on _ _ (eq-eqb _ _ c.if-items-values.false)
+    ∙ and_on _ _ (sym c.bits_below.ensures ∙ not-false _ c.if-not-bits_below.false))
