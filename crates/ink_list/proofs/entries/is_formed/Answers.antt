@@ -14,11 +14,11 @@ pub returns-then-not-bits_below : goal.returns-then-not-bits_below
 unfolding formed_lent formed
 returns-then-not-bits_below c =
     sym (and_on _ _ (eq-eqb _ _ c.if-items-values.false)
-    ∙ and_no_left _ _ (sym c.bits_below.ensures ∙ not-true _ c.if-not-bits_below.true))
+    ∙ and_no_left _ _ (sym c.bits_below.ensures ∙ c.if-not-bits_below.true))
 
 pub returns : goal.returns
 unfolding formed_lent formed
 returns c =
     c.ascends.ensures
     ∙ sym (and_on _ _ (eq-eqb _ _ c.if-items-values.false)
-    ∙ and_on _ _ (sym c.bits_below.ensures ∙ not-false _ c.if-not-bits_below.false))
+    ∙ and_on _ _ (sym c.bits_below.ensures ∙ c.if-not-bits_below.false))

@@ -3,12 +3,8 @@ use mathlib.Core.Path.{◌∙◌}
 use lib.Ieee.{of_int, of_bits}
 use Rattle.binary32.proofs.Meets.{lt_meets}
 use Rattle.integral_float.proofs.Nearness.{near_of}
-use Rattle.integral_float.proofs.nearby.Statement.{statement}
-use Rattle.integral_float.proofs.nearby.Tie as tie
+use Rattle.integral_float.proofs.nearby.Goals as goal
 
-returns : tie.Need-returns
+pub returns : goal.returns
 unfolding of_bits of_int
 returns c = near_of c.args.x (lt_meets _ c.args.x ∙ c.requires.0) (lt_meets c.args.x _ ∙ c.requires.1)
-
-pub nearby-spec : {M : Type 1} → statement M
-nearby-spec = tie.close (tie.spec returns)
