@@ -36,6 +36,7 @@ skip false t b e = e
 module _ (ends : List ℕ) (defined : List ℤ) (k : ℕ) where
   -- an entry aims at an item just where its origin and its value are the item's
   aims : (e : Entry) (a : List Entry) → Among e a → origin_of ends e.0 ≡ origin_of ends k → e.1 ≡ get_or defined k (pos 0) → aimed ends defined a k ≡ true
+  aims e [] m o v = elim m [ ]
   aims e (x ∷ a) (inl q) o v = rw (sym q, o, v, eq-eqb (origin_of ends k) (origin_of ends k) refl, same_z (get_or defined k (pos 0)))
   aims e (x ∷ a) (inr m) o v =
       skip (eqb (origin_of ends x.0) (origin_of ends k)) (eq_z x.1 (get_or defined k (pos 0))) (aimed ends defined a k) (aims e a m o v)

@@ -1,0 +1,50 @@
+-- `list_has::has` meets its contract: b's items from cursor j on are to lie among a's from cursor i on. Assumes nothing.
+use mathlib.Core.Path.{◌≡◌, sym, ◌∙◌}
+use Prim.Native.Nat.{◌-◌, ◌≤◌}
+use lib.ListN.{length, drop}
+use borrow.Author.Rules.{rules}
+use Rattle.ink_list.specs.Entries.{item_numbers}
+use Rattle.ink_list.specs.Ops.{has, subset}
+use Rattle.ink_list.proofs.TestLaws.{has_no, has_yes, has_some, has_left_empty, has_right_empty, subset_end}
+use borrow.Author.Tests.{not-true, not-false}
+use Rattle.list_has.proofs.has.Goals as goal
+
+pub returns-then-ai-eq0 : goal.returns-then-ai-eq0
+returns-then-ai-eq0 c =
+    let a = c.args in
+    sym (has_left_empty a.ai.now a.bi.now c.if-ai-eq0.true)
+
+pub returns-then-bi-eq0 : goal.returns-then-bi-eq0
+returns-then-bi-eq0 c =
+    let a = c.args in
+    sym (has_right_empty a.ai.now a.bi.now c.if-bi-eq0.true)
+
+pub loop-j-init : goal.loop-j-init
+loop-j-init c =
+    let a = c.args in
+    (search rules, search rules, has_some a.ai.now a.bi.now c.if-ai-eq0.false c.if-bi-eq0.false)
+
+pub returns-then-not-stands : goal.returns-then-not-stands
+returns-then-not-stands c =
+    let a = c.args in
+    let p = c.requires in
+    let l = c.loop-j in
+    sym (l.invariant.2 ∙ has_no item_numbers a.ai.now a.bi.now p.0 p.1 l.i c.skip_below-i.result l.j c.loop-j-test.true c.skip_below-i.ensures.1
+    (sym c.stands.ensures ∙ c.if-not-stands.true))
+
+pub loop-j-preserved : goal.loop-j-preserved
+loop-j-preserved c =
+    let a = c.args in
+    let p = c.requires in
+    let l = c.loop-j in (
+      search rules,
+      search rules,
+      l.invariant.2 ∙ has_yes item_numbers a.ai.now a.bi.now p.0 p.1 l.i c.skip_below-i.result l.j c.loop-j-test.true c.skip_below-i.ensures.1
+          (sym c.stands.ensures ∙ c.if-not-stands.false),
+    )
+
+pub returns : goal.returns
+returns c =
+    let a = c.args in
+    let l = c.loop-j in
+    sym (l.invariant.2 ∙ subset_end (drop l.i a.ai.now) a.bi.now l.j c.loop-j-test.false)
