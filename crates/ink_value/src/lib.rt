@@ -15,7 +15,7 @@ ghost use Rattle.ink_list.specs.Ops.{value_of_list};
 use kind_code::{BOOL, FLOAT, INT, LIST, VOID};
 
 // A value. A list's entries stand beside it, in two parallel slices, from `start` on.
-#[derive(Drop)]
+#[derive(Clone, Copy)]
 pub enum Value {
     Bool(bool),
     Int(i32),
@@ -46,7 +46,7 @@ pub fn kind(v: Value) -> u8
 }
 
 // What an operator comes to. A list's entries stand in the slices that were lent for them, from the start.
-#[derive(Drop)]
+#[derive(Clone, Copy)]
 pub enum Outcome {
     Value(Value),
     Refused(u8),

@@ -8,7 +8,7 @@ ghost use Rattle.operator_kinds.specs.Kinds.{kind_entry, decoded, kind_range};
 ghost use Rattle.kind_table.specs.Table.{Table, kind_answer, Coded};
 
 // What an operator gives on kinds: the kind of its result, or a refusal.
-#[derive(Drop)]
+#[derive(Clone, Copy)]
 pub enum KindAnswer {
     Kind(u8),
     Refused(u8),

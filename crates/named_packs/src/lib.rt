@@ -5,7 +5,7 @@ ghost use Rattle.std.specs.Prelude.{◌≡◌, ◌+◌, ◌<◌, length, get_or}
 ghost use Rattle.named_packs.specs.Stream.{size_at, Stands};
 
 // A name's bytes from `name` to `after` and its pack's from `start` to `end`, or a stream that is cut short.
-#[derive(Drop)]
+#[derive(Clone, Copy)]
 pub enum Named {
     Pack {
         name: usize,

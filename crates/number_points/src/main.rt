@@ -8,7 +8,7 @@ use ink_number::int::Divided;
 use test_output::{decimal, line, pattern, text};
 
 // What a row shows: an Int, two Ints, a pattern, two Floats.
-#[derive(Drop)]
+#[derive(Clone, Copy)]
 enum Row {
     Int,
     Ints,

@@ -23,7 +23,7 @@ use native_function_call::{real, test, whole};
 use pack::format::Format;
 
 // What an instruction does to the stack: a value is put at a place, which is then the top; or a question says no.
-#[derive(Drop)]
+#[derive(Clone, Copy)]
 pub enum Step {
     Put { place: usize, value: Value },
     No(u8),

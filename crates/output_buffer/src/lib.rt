@@ -7,7 +7,7 @@ ghost use Rattle.output_buffer.specs.Text.{Adds};
 const STDOUT: i32 = 1;
 
 // How many bytes of the buffer wait to be written, and whether a write has failed: after that nothing is written.
-#[derive(Drop)]
+#[derive(Clone, Copy)]
 pub struct Output {
     pub at: usize,
     pub failed: bool,

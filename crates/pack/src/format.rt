@@ -1,6 +1,6 @@
 // What a pack's format fixes.
 
-#[derive(Drop)]
+#[derive(Clone, Copy)]
 pub struct Format {
     // Byte 0.
     pub tag: u8,

@@ -6,7 +6,7 @@ ghost use Rattle.pack.specs.Read.{Whole, Reads};
 use super::bytes::{i32_at, u32_at};
 
 // An operator by its byte, or a push: a Float by its bits, a List by its literal's number.
-#[derive(Drop)]
+#[derive(Clone, Copy)]
 pub enum Instruction {
     Op(u8),
     Bool(bool),

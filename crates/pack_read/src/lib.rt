@@ -32,7 +32,7 @@ fn copy_values(p: &[u8], at: usize, n: usize, out: &mut [i32], from: usize)
 }
 
 // How many places of its two slices `read_definitions` filled.
-#[derive(Drop)]
+#[derive(Clone, Copy)]
 pub struct Defined {
     pub definitions: usize,
     pub items: usize,
@@ -72,7 +72,7 @@ pub fn sheet_count(p: &[u8]) -> usize
 }
 
 // Where a body starts and ends.
-#[derive(Drop)]
+#[derive(Clone, Copy)]
 pub struct Span {
     pub start: usize,
     pub end: usize,

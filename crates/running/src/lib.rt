@@ -21,7 +21,7 @@ use pack::format::Format;
 use pack::instruction::Instruction;
 
 // A run's answer. A List's entries stand in the result slices, from the start (those of `work` in the work slices).
-#[derive(Drop)]
+#[derive(Clone, Copy)]
 pub enum Ran {
     Ended(Value),
     Stopped { number: u8, index: usize },

@@ -9,7 +9,7 @@ use running::Ran;
 use vet_program::Vetted;
 
 // The answers of the two calls.
-#[derive(Drop)]
+#[derive(Clone, Copy)]
 pub struct VettedRun {
     pub vetted: Vetted,
     pub ran: Ran,

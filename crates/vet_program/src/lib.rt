@@ -13,7 +13,7 @@ use kind_table::{OPERATORS, PAIRS};
 use vet_steps::KindStep;
 
 // Vetting's answer: passed, with the count of instructions; or the number of the first no, and its instruction's index.
-#[derive(Drop)]
+#[derive(Clone, Copy)]
 pub enum Vetted {
     Passed { count: usize },
     Refused { number: u8, index: usize },

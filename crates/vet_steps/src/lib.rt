@@ -17,7 +17,7 @@ use machine::STACK_LIMIT;
 use pack::instruction::Instruction;
 
 // What one instruction does to the stack: a kind is put at a place, which is then the top; or a question says no.
-#[derive(Drop)]
+#[derive(Clone, Copy)]
 pub enum KindStep {
     Put { place: usize, kind: u8 },
     No(u8),

@@ -1,0 +1,26 @@
+-- `increment_search::search_each` meets its contract: what is left to be stored is what is chosen of the definition's values from cursor k
+use mathlib.Core.Path.{◌≡◌, refl, sym, ap, ap₂, ◌∙◌}
+use mathlib.Core.List.{[]}
+use Prim.Native.Nat.{◌+◌, ◌-◌, ◌≤◌}
+use native.Mathlib.Omega.{arith}
+use borrow.Author.Rules.{rules}
+use borrow.Author.Tests.{not-true, not-false}
+use lib.IntN.{pos}
+use lib.ListN.{length, take, drop, get_or}
+use lib.Seq.{length-take-le}
+use mir.Syntax.{w32}
+use mir.Val.{to_z}
+use Rattle.ink_number.proofs.Signed.{back, returned}
+use Rattle.list_definitions.specs.Search.{among, raised, chosen}
+use Rattle.list_definitions.proofs.Raised.{ints_more}
+use Rattle.ink_list.proofs.Output.{Writing, begin, turn, has_room, pushed, kept, stored}
+use Rattle.list_definitions.proofs.IncrementSearch.{stored_read, chosen_start, chosen_end, chosen_length, each_yes, each_seen, each_no}
+use Rattle.increment_search.proofs.search_each.Given as goal
+
+abbrev pub invariant-loop-k : goal.invariant-loop-k
+invariant-loop-k l =
+    (l.k ≤ length l.ds) × (length l.oi ≡ length l.initial.oi) × (length l.ov ≡ length l.initial.ov) × (raised (pos 0) (take l.k l.ds) ≡ take l.k l.ds)
+    × Writing l.at (chosen l.first [] l.ds (raised l.by l.vs)) l.n (chosen (l.first + l.k) (take l.k l.ds) (drop l.k l.ds) (raised l.by l.vs)) l.initial.oi l.oi l.initial.ov l.ov
+
+abbrev pub decreases-loop-k : goal.decreases-loop-k
+decreases-loop-k l = length l.ds - l.k

@@ -1,0 +1,13 @@
+-- `ink_value::is_truthy` meets its contract. Assumes nothing.
+use mathlib.Core.Path.{refl, ◌∙◌}
+use native.Mathlib.Omega.{arith}
+use Rattle.ink_value.specs.Value.{start_of}
+use Rattle.ink_number.proofs.Signed.{returned}
+use Rattle.ink_value.proofs.Parts.{parts_of, truth_parts}
+use borrow.Author.Rules.{rules}
+use Rattle.ink_value.proofs.is_truthy.Goals as goal
+
+pub returns : goal.returns
+returns c =
+    let p = parts_of c.args.v _ _ _ _ _ c.kind.ensures.0 (returned c.whole_in.type_inv ∙ c.whole_in.ensures) c.real_in.ensures refl c.len_of.ensures in
+    λ is vs h. c.truth_from.ensures is vs (start_of c.args.v) (omega (arith, h.0, c.len_of.ensures), omega (arith, h.1, c.len_of.ensures)) ∙ truth_parts is vs c.args.v p

@@ -1,0 +1,26 @@
+-- `list_range::range` meets its contract: what is left of the answer is the range of the entries from cursor i on. Assumes nothing.
+use mathlib.Core.Path.{◌≡◌, refl, ap, ◌∙◌, subst}
+use Prim.Native.Nat.{◌-◌, ◌≤◌}
+use native.Mathlib.Omega.{arith}
+use lib.IntN.{ℤ, pos}
+use lib.ListN.{length, get_or}
+use borrow.Author.Rules.{rules}
+use mir.Syntax.{w32}
+use mir.Val.{to_z, of_z}
+use mir.ValLaws.{to_z-of_z}
+use Rattle.ink_list.specs.Entries.{entries, Wrote, room}
+use Rattle.ink_list.specs.Ops.{sift, within, range}
+use Rattle.ink_list.proofs.Rests.{rest, rest_done, of_lent}
+use Rattle.ink_list.proofs.Output.{Writing, begin, has_room, pushed, kept, turn, done}
+use Rattle.ink_list.proofs.SiftLaws.{sift_length, sift_limit, sift_nil, keep_yes, keep_no}
+use Rattle.ink_list.proofs.TestLaws.{within_back}
+use Rattle.list_range.proofs.range.Given as goal
+
+abbrev pub invariant-loop-i : goal.invariant-loop-i
+invariant-loop-i l =
+    (l.i ≤ length l.ai) × (length l.oi ≡ length l.initial.oi) × (length l.ov ≡ length l.initial.ov)
+    × Writing 0 (sift (room l.initial.oi l.initial.ov) (λ e. within l.lower l.upper e.1) (entries l.ai l.av)) l.n
+    (sift (room l.initial.oi l.initial.ov) (λ e. within l.lower l.upper e.1) (rest l.i l.ai l.av)) l.initial.oi l.oi l.initial.ov l.ov
+
+abbrev pub decreases-loop-i : goal.decreases-loop-i
+decreases-loop-i l = length l.ai - l.i
