@@ -1,0 +1,19 @@
+-- `pack_literals::copy_each` meets its contract. The loop's invariant: k entries are written. The measure is how many are left. Assumes
+use Prim.Native.Nat.{ℕ, ◌+◌, ◌-◌, ◌≤◌}
+use mathlib.Core.Path.{◌≡◌, refl, ap, ◌∙◌}
+use native.Mathlib.Omega.{arith}
+use mir.Facts.{to_z-of_z}
+use Rattle.slices.specs.Every.{table}
+use Rattle.slices.specs.Filled.{fill}
+use Rattle.slices.proofs.Filled.{fill_none, fill_long, fill_more}
+use Rattle.pack.specs.Read.{item_from, value_from}
+use Rattle.slices.proofs.Strides.{stride_fits}
+use borrow.Author.Rules.{rules}
+use Rattle.pack_literals.proofs.copy_each.Given as goal
+
+abbrev pub invariant-loop-k : goal.invariant-loop-k
+invariant-loop-k l =
+    (l.k ≤ l.n) × (l.items ≡ fill l.from (table l.k (item_from l.wide l.p l.at)) l.initial.items) × (l.values ≡ fill l.from (table l.k (value_from l.wide l.p l.at)) l.initial.values)
+
+abbrev pub decreases-loop-k : goal.decreases-loop-k
+decreases-loop-k l = l.n - l.k

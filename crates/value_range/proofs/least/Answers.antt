@@ -1,0 +1,15 @@
+-- `value_range::least` meets its contract: the least of the part of the slice where its entries stand. Assumes nothing.
+use mathlib.Core.Path.{◌≡◌, ap, ◌∙◌}
+use Prim.Native.Nat.{ℕ, ◌+◌, ◌-◌}
+use native.Mathlib.Omega.{arith}
+use lib.ListN.{take, drop}
+use Rattle.ink_number.proofs.Signed.{returned}
+use Rattle.ink_list.specs.Ops.{lower_bound}
+use borrow.Author.Rules.{rules}
+use Rattle.value_range.proofs.least.Goals as goal
+
+pub returns : goal.returns
+returns c =
+    let a = c.args in
+    let e : a.start + a.len - a.start ≡ a.len = omega arith in
+    returned c.lower_bound.type_inv ∙ c.lower_bound.ensures ∙ ap (λ (n : ℕ). lower_bound (take n (drop a.start a.values.now))) e
