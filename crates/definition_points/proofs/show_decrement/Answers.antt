@@ -1,0 +1,14 @@
+-- `definition_points::show_decrement` is safe: it meets what it calls for. Assumes nothing.
+use native.Mathlib.Omega.{arith}
+use Rattle.ink_list.specs.Entries.{item_numbers}
+use Rattle.ink_list.proofs.Wrote.{lent_limit}
+use borrow.Author.Rules.{rules}
+use Rattle.definition_points.proofs.show_decrement.Goals as goal
+
+pub decrement-n-requires : goal.decrement-n-requires
+decrement-n-requires c =
+    record {
+      tables = c.requires.tables;
+      lent = lent_limit 256 item_numbers _ _ (omega arith) c.requires.lent;
+      defined_len_bound = omega (arith, c.requires.defined_len_bound);
+    }

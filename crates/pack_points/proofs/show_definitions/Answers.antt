@@ -1,0 +1,36 @@
+-- `pack_points::show_definitions` is safe: the tables of a pack fit the two arrays. Assumes nothing.
+use mathlib.Core.Path.{sym}
+use lib.Seq.{length-take-le}
+use native.Mathlib.Omega.{arith}
+use Rattle.pack.proofs.Formats.{runnable1}
+use Rattle.pack.proofs.Values.{pack_tables}
+use borrow.Author.Rules.{rules}
+use Rattle.pack_points.proofs.show_definitions.Goals as goal
+
+pub read_definitions-d-requires : goal.read_definitions-d-requires
+read_definitions-d-requires c =
+    let t = pack_tables _ c.args.p.now runnable1.narrow c.requires in
+    record {
+      narrow = runnable1.narrow;
+      sound = c.requires;
+      p_in_bounds = omega arith;
+      p_in_bounds_2 = omega arith;
+    }
+
+pub slice_bounds-ends-end : goal.slice_bounds-ends-end
+slice_bounds-ends-end c =
+    omega (arith, pack_tables _ c.args.p.now runnable1.narrow c.requires, c.read_definitions-d.ensures)
+
+pub slice_bounds-numbers-end : goal.slice_bounds-numbers-end
+slice_bounds-numbers-end c =
+    let t = pack_tables _ c.args.p.now runnable1.narrow c.requires in
+    let r = c.read_definitions-d in
+    sym (length-take-le r.result.definitions r.new.1.0 (omega (arith, r.ensures, r.auto.1.0)))
+
+pub offset_bounds-defined-m : goal.offset_bounds-defined-m
+offset_bounds-defined-m c =
+    omega (arith, pack_tables _ c.args.p.now runnable1.narrow c.requires, c.read_definitions-d.ensures)
+
+pub bounds-defined-m : goal.bounds-defined-m
+bounds-defined-m c =
+    omega (arith, pack_tables _ c.args.p.now runnable1.narrow c.requires, c.read_definitions-d.ensures)

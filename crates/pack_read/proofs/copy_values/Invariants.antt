@@ -1,0 +1,18 @@
+-- `pack_read::copy_values` meets its contract. The loop's invariant: k values are written. The measure is how many are left. Assumes
+use Prim.Native.Nat.{ℕ, ◌+◌, ◌*◌, ◌-◌, ◌≤◌}
+use mathlib.Core.Path.{◌≡◌, refl, ap, ◌∙◌}
+use native.Mathlib.Omega.{arith}
+use lib.IntN.{ℤ}
+use mir.Facts.{to_z-of_z}
+use Rattle.slices.specs.Every.{table}
+use Rattle.slices.specs.Filled.{fill}
+use Rattle.slices.proofs.Filled.{fill_none, fill_long, fill_more}
+use Rattle.pack.specs.Bytes.{i32}
+use borrow.Author.Rules.{rules}
+use Rattle.pack_read.proofs.copy_values.Given as goal
+
+abbrev pub invariant-loop-k : goal.invariant-loop-k
+invariant-loop-k l = (l.k ≤ l.n) × (l.out ≡ fill l.from (table l.k (λ j. i32 l.p (l.at + 4 * j))) l.initial.out)
+
+abbrev pub decreases-loop-k : goal.decreases-loop-k
+decreases-loop-k l = l.n - l.k
