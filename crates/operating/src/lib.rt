@@ -6,7 +6,7 @@ ghost use Rattle.std.specs.Prelude.{◌≡◌, ◌<◌, ◌≤◌, ◌+◌, leng
 ghost use Rattle.ink_number.specs.Int.{divided};
 ghost use Rattle.ink_list.specs.Entries.{item_numbers};
 ghost use Rattle.ink_value.specs.Val.{kind_at};
-ghost use Rattle.ink_value.specs.Value.{len_of, Formed, FirstFormed};
+ghost use Rattle.ink_value.specs.Value.{len_of, first_of, Formed, FirstFormed};
 ghost use Rattle.operator_kinds.specs.Kinds.{operand_count};
 ghost use Rattle.native_function_call.specs.Apply.{of_int, call, compute};
 ghost use Rattle.list_definitions.specs.Defs.{ListDefinitions};
@@ -148,7 +148,7 @@ fn list_through(
     requires first_formed { FirstFormed format.limit work_items.old work_values.old count a b c }
     requires limit_in_bounds { (format.limit ≤ length items.old) × (format.limit ≤ length values.old) }
     ensures { PutIn format (list_result (definitions_in ends defined format.limit) op
-        (first_in work_items work_values count a b c)) place result work_items work_values }
+        (first_of work_items.old work_values.old count a b c)) place result work_items work_values }
 {
     let v = list_operators::list(
         op,
@@ -186,7 +186,7 @@ fn list_result(
         × (1 ≤ count) × (count ≤ 3) × (place < stack_limit) }
     requires first_formed { FirstFormed format.limit work_items.old work_values.old count a b c }
     ensures { PutIn format (list_result (definitions_in ends defined format.limit) op
-        (first_in work_items work_values count a b c)) place result work_items work_values }
+        (first_of work_items.old work_values.old count a b c)) place result work_items work_values }
 {
     if format.limit <= SHORT_LIMIT {
         let mut items = [0u16; SHORT_LIMIT];
@@ -244,7 +244,7 @@ pub fn operate(
         × (place < stack_limit) × (op < 32) × (count ≡ operand_count op) × (1 ≤ count) }
     requires first_formed { FirstFormed format.limit work_items.old work_values.old count a b c }
     ensures { AnsweredIn format (call (definitions_in ends defined format.limit) op count
-        (first_in work_items work_values count a b c)) place result work_items work_values }
+        (first_of work_items.old work_values.old count a b c)) place result work_items work_values }
 {
     let kind = operator_kinds::answer(
         op,

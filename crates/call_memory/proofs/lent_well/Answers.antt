@@ -3,7 +3,6 @@ use mathlib.Core.Path.{sym, ◌∙◌}
 use borrow.Author.Tests.{lt-leb}
 use Rattle.slices.proofs.Every.{and_no_left, and_no_right}
 use Rattle.call_memory.proofs.UsedOperands.{rooms}
-use borrow.Author.Rules.{rules}
 use Rattle.call_memory.proofs.lent_well.Goals as goal
 
 pub returns-then-result_items-limit : goal.returns-then-result_items-limit

@@ -1,8 +1,7 @@
 -- `call_memory::one_formed` meets its contract. Assumes nothing.
 use mathlib.Core.Path.{sym, ◌∙◌}
-use mathlib.Core.List.{[], ◌∷◌}
+use mathlib.Core.List.{◌∷◌}
 use Rattle.call_memory.proofs.UsedOperands.{unlike_long, all_one}
-use borrow.Author.Rules.{rules}
 use Rattle.call_memory.proofs.one_formed.Goals as goal
 
 pub returns-then-items-values : goal.returns-then-items-values

@@ -1,11 +1,10 @@
 -- `call_memory::operand_formed` meets its contract. Assumes nothing.
 use mathlib.Core.Path.{sym, ◌∙◌}
-use mathlib.Core.List.{[], ◌∷◌}
+use mathlib.Core.List.{◌∷◌}
 use Prim.Native.Nat.{ℕ}
 use Rattle.ink_value.specs.Value.{all_formed}
 use Rattle.slices.proofs.Lists.{ap2}
 use Rattle.pack.proofs.Values.{pack_tables}
-use borrow.Author.Rules.{rules}
 use Rattle.call_memory.proofs.operand_formed.Goals as goal
 
 pub total_items-total-requires : goal.total_items-total-requires

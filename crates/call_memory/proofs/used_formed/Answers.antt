@@ -1,11 +1,10 @@
 -- `call_memory::used_formed` meets its contract: Void in the place of an operand that is not used changes nothing. Assumes nothing.
 use mathlib.Core.Path.{◌≡◌, sym, ap, ◌∙◌}
-use mathlib.Core.List.{[], ◌∷◌}
+use mathlib.Core.List.{◌∷◌}
 use Rattle.ink_value.specs.Value.{all_formed}
 use Rattle.ink_value.specs.declared.Value.{Value}
 use Rattle.slices.proofs.Lists.{ap3}
 use Rattle.call_memory.proofs.UsedOperands.{kept, kept_all}
-use borrow.Author.Rules.{rules}
 use Rattle.call_memory.proofs.used_formed.Goals as goal
 
 pub returns : goal.returns

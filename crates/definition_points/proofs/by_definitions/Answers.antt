@@ -1,11 +1,9 @@
 -- `definition_points::by_definitions` is safe: it meets what it calls for. Assumes nothing.
 use mathlib.Core.Path.{sym, ◌∙◌}
-use borrow.Author.Tests.{not-false}
 use Rattle.ink_list.proofs.Formed.{formed_sound}
 use native.Mathlib.Omega.{arith}
 use Rattle.ink_list.specs.Entries.{item_numbers}
 use Rattle.ink_list.proofs.Wrote.{lent_limit}
-use borrow.Author.Rules.{rules}
 use Rattle.definition_points.proofs.by_definitions.Goals as goal
 
 pub show_all-requires : goal.show_all-requires

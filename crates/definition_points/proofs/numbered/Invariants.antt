@@ -1,12 +1,7 @@
 -- `definition_points::numbered` meets its contract: where the ends from d on number the items from `low` on, all of them number the items.
 use Prim.Native.Nat.{ℕ, ◌-◌, ◌≤◌, ◌<◌}
-use native.Mathlib.Omega.{arith}
-use borrow.Author.Rules.{rules}
-use borrow.Author.Tests.{eqb-true}
-use lib.ListN.{length, drop, drop_of_length-le}
+use lib.ListN.{length, drop}
 use Rattle.ink_list.specs.Entries.{item_numbers}
-use Rattle.slices.proofs.Every.{not_both}
-use Rattle.slices.proofs.Lists.{drop_at}
 use Rattle.list_definitions.specs.Defs.{Ends}
 use Rattle.definition_points.proofs.numbered.Given as goal
 

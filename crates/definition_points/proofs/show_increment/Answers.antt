@@ -2,7 +2,6 @@
 use native.Mathlib.Omega.{arith}
 use Rattle.ink_list.specs.Entries.{item_numbers}
 use Rattle.ink_list.proofs.Wrote.{lent_limit}
-use borrow.Author.Rules.{rules}
 use Rattle.definition_points.proofs.show_increment.Goals as goal
 
 pub increment-n-requires : goal.increment-n-requires

@@ -2,7 +2,6 @@
 use native.Mathlib.Omega.{arith}
 use Rattle.ink_list.specs.Entries.{item_numbers}
 use Rattle.ink_list.proofs.Wrote.{lent_limit}
-use borrow.Author.Rules.{rules}
 use Rattle.definition_points.proofs.show_invert.Goals as goal
 
 pub invert-n-requires : goal.invert-n-requires

@@ -1,6 +1,5 @@
 -- `extreme_values::upper_bound` meets its contract. Assumes nothing.
 use mathlib.Core.Path.{sym, ◌∙◌}
-use borrow.Author.Rules.{rules}
 use Rattle.ink_number.proofs.Signed.{returned}
 use Rattle.ink_list.proofs.TestLaws.{upper_none, upper_some}
 use Rattle.extreme_values.proofs.upper_bound.Goals as goal

@@ -1,5 +1,5 @@
 -- `float_conversions::int_to_float` meets its contract. A negative Int's Float is that of its magnitude, negated (proofs/Magnitude.antt).
-use Rattle.std.proofs.Common.{ap, ◌∙◌, rules}
+use Rattle.std.proofs.Common.{ap, ◌∙◌}
 use lib.Ieee.{neg}
 use Rattle.binary32.proofs.Meets.{meant, of_int_meets}
 use Rattle.binary32.specs.Real.{of_int32}

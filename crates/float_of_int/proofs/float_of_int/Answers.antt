@@ -1,5 +1,4 @@
 -- `float_of_int::float_of_int` meets its contract, which is that of `int_to_float`. Assumes nothing.
-use borrow.Author.Rules.{rules}
 use mathlib.Core.Path.{◌∙◌}
 use Rattle.ink_number.proofs.Signed.{read}
 use Rattle.binary32.specs.Real.{of_int32}

@@ -1,11 +1,9 @@
 -- `increment_search::hits` meets its contract: the value is among those before cursor i no more. Assumes nothing.
-use mathlib.Core.Path.{◌≡◌, refl, sym, ◌∙◌}
+use mathlib.Core.Path.{refl, sym, ◌∙◌}
 use Prim.Native.Nat.{◌-◌}
-use borrow.Author.Rules.{rules}
 use lib.IntN.{ℤ, pos}
-use lib.ListN.{length, drop, get_or}
+use lib.ListN.{get_or}
 use mir.Syntax.{w32}
-use mir.Val.{to_z}
 use Rattle.ink_number.proofs.Signed.{back, read2}
 use Rattle.list_definitions.specs.Search.{among, raised}
 use Rattle.list_definitions.proofs.Raised.{sum_of}

@@ -1,10 +1,10 @@
 -- `increment_search::rises` meets its contract: the values before cursor i rise, the last of them being `last`, and are Ints.
 use mathlib.Core.Path.{◌≡◌, refl, sym, ap, ◌∙◌, subst}
 use mathlib.Core.List.{List}
-use Prim.Native.Nat.{◌+◌, ◌-◌, ◌≤◌}
+use Prim.Native.Nat.{◌+◌, ◌-◌}
 use borrow.Author.Rules.{rules}
 use lib.IntN.{ℤ, pos}
-use lib.ListN.{length, take, drop, get_or}
+use lib.ListN.{drop, get_or}
 use lib.Seq.{take_all}
 use mir.Syntax.{w32}
 use mir.Val.{to_z}

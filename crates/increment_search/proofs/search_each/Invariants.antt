@@ -1,20 +1,10 @@
 -- `increment_search::search_each` meets its contract: what is left to be stored is what is chosen of the definition's values from cursor k
-use mathlib.Core.Path.{◌≡◌, refl, sym, ap, ap₂, ◌∙◌}
-use mathlib.Core.List.{[]}
+use mathlib.Core.Path.{◌≡◌}
 use Prim.Native.Nat.{◌+◌, ◌-◌, ◌≤◌}
-use native.Mathlib.Omega.{arith}
-use borrow.Author.Rules.{rules}
-use borrow.Author.Tests.{not-true, not-false}
 use lib.IntN.{pos}
-use lib.ListN.{length, take, drop, get_or}
-use lib.Seq.{length-take-le}
-use mir.Syntax.{w32}
-use mir.Val.{to_z}
-use Rattle.ink_number.proofs.Signed.{back, returned}
-use Rattle.list_definitions.specs.Search.{among, raised, chosen}
-use Rattle.list_definitions.proofs.Raised.{ints_more}
-use Rattle.ink_list.proofs.Output.{Writing, begin, turn, has_room, pushed, kept, stored}
-use Rattle.list_definitions.proofs.IncrementSearch.{stored_read, chosen_start, chosen_end, chosen_length, each_yes, each_seen, each_no}
+use lib.ListN.{length, take, drop}
+use Rattle.list_definitions.specs.Search.{raised, chosen}
+use Rattle.ink_list.proofs.Output.{Writing}
 use Rattle.increment_search.proofs.search_each.Given as goal
 
 abbrev pub invariant-loop-k : goal.invariant-loop-k

@@ -10,7 +10,6 @@ use Rattle.ink_list.specs.Ops.{value_of_list}
 use Rattle.ink_value.specs.Convert.{as_float}
 use Rattle.ink_value.specs.Value.{number_of}
 use Rattle.ink_value.proofs.Reading.{values_at}
-use borrow.Author.Rules.{rules}
 use Rattle.ink_value.proofs.float_from.Goals as goal
 
 pub returns-then-kind-lt-LIST : goal.returns-then-kind-lt-LIST

@@ -1,5 +1,4 @@
 -- `ink_value::greatest` meets its contract: the greatest of the part of the slice where its entries stand. Assumes nothing.
-use borrow.Author.Rules.{rules}
 use mathlib.Core.Path.{◌≡◌, ap, ◌∙◌}
 use Prim.Native.Nat.{ℕ, ◌+◌, ◌-◌}
 use native.Mathlib.Omega.{arith}

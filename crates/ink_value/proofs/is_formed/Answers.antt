@@ -5,7 +5,6 @@ use Rattle.ink_list.specs.Entries.{formed_lent}
 use Rattle.ink_value.proofs.Reading.{lends}
 use Rattle.slices.proofs.Lists.{ap3}
 use Rattle.ink_value.proofs.Forming.{past_items, past_values, inside, lent_alike}
-use borrow.Author.Rules.{rules}
 use Rattle.ink_value.proofs.is_formed.Goals as goal
 
 pub returns-then-items-start : goal.returns-then-items-start

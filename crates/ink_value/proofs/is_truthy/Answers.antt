@@ -4,7 +4,6 @@ use native.Mathlib.Omega.{arith}
 use Rattle.ink_value.specs.Value.{start_of}
 use Rattle.ink_number.proofs.Signed.{returned}
 use Rattle.ink_value.proofs.Parts.{parts_of, truth_parts}
-use borrow.Author.Rules.{rules}
 use Rattle.ink_value.proofs.is_truthy.Goals as goal
 
 pub returns : goal.returns

@@ -3,7 +3,6 @@ use mathlib.Core.Path.{ap, ◌∙◌}
 use borrow.Author.Tests.{eq-eqb, ne_eqb}
 use Rattle.binary32.specs.Real.{of_int32}
 use Rattle.ink_number.proofs.Signed.{back32}
-use borrow.Author.Rules.{rules}
 use Rattle.ink_value.proofs.number_float.Goals as goal
 
 pub returns-then-kind-eq-FLOAT : goal.returns-then-kind-eq-FLOAT

@@ -2,7 +2,6 @@
 use mathlib.Core.Path.{◌∙◌}
 use borrow.Author.Tests.{eq-eqb, ne_eqb}
 use Rattle.ink_number.proofs.Signed.{returned, back32}
-use borrow.Author.Rules.{rules}
 use Rattle.ink_value.proofs.number_int.Goals as goal
 
 pub returns-then-kind-eq-FLOAT : goal.returns-then-kind-eq-FLOAT

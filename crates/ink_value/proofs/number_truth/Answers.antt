@@ -3,7 +3,6 @@ use mathlib.Core.Path.{◌∙◌}
 use borrow.Author.Tests.{eq-eqb, ne_eqb}
 use Rattle.ink_number.specs.Int.{truthy_z}
 use Rattle.ink_number.proofs.Signed.{read}
-use borrow.Author.Rules.{rules}
 use Rattle.ink_value.proofs.number_truth.Goals as goal
 
 pub returns-then-kind-eq-FLOAT : goal.returns-then-kind-eq-FLOAT

@@ -1,7 +1,6 @@
 -- `ink_value::real_in` meets its contract. Assumes nothing.
 use mathlib.Core.Path.{sym, ap, ◌∙◌}
 use Rattle.ink_value.specs.Value.{real_in}
-use borrow.Author.Rules.{rules}
 use Rattle.ink_value.proofs.real_in.Goals as goal
 
 pub returns-in-Bool : goal.returns-in-Bool

@@ -3,7 +3,6 @@ use mathlib.Core.Path.{◌∙◌}
 use native.Mathlib.Omega.{arith}
 use Rattle.ink_number.proofs.Signed.{returned}
 use Rattle.ink_value.proofs.Parts.{parts_of, float_parts}
-use borrow.Author.Rules.{rules}
 use Rattle.ink_value.proofs.to_float.Goals as goal
 
 pub returns : goal.returns

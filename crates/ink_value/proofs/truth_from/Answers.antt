@@ -8,7 +8,6 @@ use Rattle.ink_number.proofs.Signed.{read}
 use Rattle.ink_value.specs.Convert.{truthy}
 use Rattle.ink_value.specs.Value.{number_of}
 use Rattle.ink_value.proofs.Reading.{length_at}
-use borrow.Author.Rules.{rules}
 use Rattle.ink_value.proofs.truth_from.Goals as goal
 
 pub returns-then-kind-lt-LIST : goal.returns-then-kind-lt-LIST

@@ -2,7 +2,6 @@
 use mathlib.Core.Path.{sym, ap, ◌∙◌}
 use Rattle.ink_value.specs.Value.{whole_in}
 use Rattle.ink_number.proofs.Signed.{returned}
-use borrow.Author.Rules.{rules}
 use Rattle.ink_value.proofs.whole_in.Goals as goal
 
 pub returns-in-Bool : goal.returns-in-Bool

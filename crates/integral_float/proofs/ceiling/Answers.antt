@@ -5,7 +5,6 @@ use Rattle.binary32.specs.Real.{floor_f}
 use Rattle.binary32.specs.Operations.{opposite}
 use Rattle.binary32.proofs.Binary32.{fitting}
 use Rattle.binary32.proofs.Meets.{meant, neg_meets, ceiling_meets}
-use borrow.Author.Rules.{rules}
 use Rattle.integral_float.proofs.ceiling.Goals as goal
 
 pub returns : goal.returns

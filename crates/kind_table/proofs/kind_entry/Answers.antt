@@ -1,5 +1,4 @@
 -- `kind_table::kind_entry` meets its contract. Assumes nothing.
-use borrow.Author.Rules.{rules}
 use mathlib.Core.Path.{◌∙◌}
 use Rattle.kind_table.proofs.kind_entry.Goals as goal
 

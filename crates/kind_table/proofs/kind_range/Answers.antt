@@ -1,5 +1,4 @@
 -- `kind_table::kind_range` meets its contract. Assumes nothing.
-use borrow.Author.Rules.{rules}
 use mathlib.Core.Path.{◌∙◌}
 use Rattle.kind_table.proofs.kind_range.Goals as goal
 

@@ -1,5 +1,5 @@
 -- `list_cases::value_sum` is safe and ends. Assumes nothing.
-use Rattle.std.proofs.Common.{◌-◌, ◌≤◌, length, rules}
+use Rattle.std.proofs.Common.{◌-◌, ◌≤◌, length}
 use Rattle.list_cases.proofs.value_sum.Given as goal
 
 abbrev pub invariant-loop-i : goal.invariant-loop-i

@@ -2,7 +2,6 @@
 use mathlib.Core.Path.{sym, ap, ◌∙◌}
 use mathlib.Core.Bool.{false}
 use lib.IntN.{ℤ}
-use borrow.Author.Rules.{rules}
 use Rattle.ink_list.specs.Ops.{extreme_value}
 use lib.Signed.{lt_z}
 use Rattle.ink_number.proofs.Signed.{read2}

@@ -1,7 +1,6 @@
 -- `list_comparisons::greater_or_equals` meets its contract: least and greatest as `extreme_value` gives them. Assumes nothing.
 use mathlib.Core.Path.{◌≡◌, sym, ap, ◌∙◌, ap₂}
 use mathlib.Core.Bool.{Bool, true, false, cond}
-use borrow.Author.Rules.{rules}
 use mir.Syntax.{w32}
 use mir.Val.{to_z, of_z}
 use lib.Signed.{le_z}

@@ -1,6 +1,5 @@
 -- `list_definitions::all` meets its contract: Invert of no item. Assumes nothing.
 use lib.ListN.{set}
-use borrow.Author.Rules.{rules}
 use Rattle.list_definitions.proofs.DefLaws.{all_is}
 use Rattle.list_definitions.proofs.all.Goals as goal
 

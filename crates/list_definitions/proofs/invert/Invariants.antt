@@ -1,14 +1,10 @@
 -- `list_definitions::invert` meets its contract: what is left of the answer are the items from k on that the list from cursor j on has not, in the definitions from d on, whose set is s.
-use mathlib.Core.Path.{◌≡◌, refl, sym, ◌∙◌}
-use Prim.Native.Nat.{ℕ, ◌+◌, ◌-◌, ◌≤◌, ◌<◌}
-use native.Mathlib.Omega.{arith}
-use lib.ListN.{length, drop, get_or, set}
-use borrow.Author.Rules.{rules}
-use borrow.Author.Tests.{not-true, not-false}
-use Rattle.ink_list.specs.Entries.{item_numbers}
+use mathlib.Core.Path.{◌≡◌}
+use Prim.Native.Nat.{ℕ, ◌+◌, ◌-◌, ◌≤◌}
+use lib.ListN.{length, drop, set}
 use Rattle.list_definitions.specs.Defs.{Ends, unheld, invert}
-use Rattle.ink_list.proofs.Output.{Writing, begin, has_room, pushed, kept, turn, done}
-use Rattle.list_definitions.proofs.DefLaws.{onward, onward_end, ends_at, ends_here, ends_below, past_def, not_in, item_held, item_unheld, invert_length, invert_start}
+use Rattle.ink_list.proofs.Output.{Writing}
+use Rattle.list_definitions.proofs.DefLaws.{onward}
 use Rattle.list_definitions.proofs.invert.Given as goal
 
 abbrev pub invariant-loop-k : goal.invariant-loop-k

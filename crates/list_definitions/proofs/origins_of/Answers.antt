@@ -1,8 +1,8 @@
 -- `list_definitions::origins_of` meets its contract: the bits of the definitions before d are set, and those from d on are the origins of the items from cursor j on.
-use mathlib.Core.Path.{◌≡◌, sym, ap, ◌∙◌, subst}
-use Prim.Native.Nat.{ℕ, ◌+◌, ◌-◌, ◌≤◌, ◌<◌, ◌^◌, ◌*◌}
+use mathlib.Core.Path.{sym, ap, ◌∙◌, subst}
+use Prim.Native.Nat.{ℕ, ◌+◌, ◌-◌, ◌<◌, ◌^◌, ◌*◌}
 use native.Mathlib.Omega.{arith}
-use lib.ListN.{length, drop, set}
+use lib.ListN.{drop, set}
 use borrow.Author.Rules.{rules}
 use Rattle.ink_list.specs.Entries.{item_numbers}
 use Rattle.list_definitions.specs.Defs.{origins_of}

@@ -1,12 +1,8 @@
 -- `list_definitions::origins_of` meets its contract: the bits of the definitions before d are set, and those from d on are the origins of the items from cursor j on.
-use mathlib.Core.Path.{◌≡◌, sym, ap, ◌∙◌, subst}
-use Prim.Native.Nat.{ℕ, ◌+◌, ◌-◌, ◌≤◌, ◌<◌, ◌^◌, ◌*◌}
-use native.Mathlib.Omega.{arith}
+use mathlib.Core.Path.{◌≡◌}
+use Prim.Native.Nat.{◌+◌, ◌-◌, ◌≤◌, ◌<◌, ◌^◌, ◌*◌}
 use lib.ListN.{length, drop, set}
-use borrow.Author.Rules.{rules}
-use Rattle.ink_list.specs.Entries.{item_numbers}
 use Rattle.list_definitions.specs.Defs.{origins_of}
-use Rattle.list_definitions.proofs.OriginLaws.{origin_yes, origin_no, origins_start, origins_end, one_bit, bits_grow, bits_fit}
 use Rattle.list_definitions.proofs.origins_of.Given as goal
 
 abbrev pub invariant-loop-d : goal.invariant-loop-d

@@ -1,15 +1,12 @@
 -- `list_extremes::extreme_at` meets its contract: of the values before cursor i the best is at `best`, so that the extreme of all is
-use mathlib.Core.Path.{◌≡◌, sym, ap, ◌∙◌}
-use mathlib.Core.List.{List, [], ◌∷◌}
+use mathlib.Core.Path.{◌≡◌}
+use mathlib.Core.List.{List, ◌∷◌}
 use Prim.Native.Nat.{ℕ, ◌-◌, ◌≤◌, ◌<◌}
-use native.Mathlib.Omega.{arith}
 use lib.IntN.{pos}
 use lib.ListN.{length, get_or, drop}
-use borrow.Author.Rules.{rules}
-use Rattle.ink_list.specs.Entries.{Entry, entries}
+use Rattle.ink_list.specs.Entries.{entries}
 use Rattle.ink_list.specs.Ops.{list_extreme, extreme, extreme_value, top}
 use Rattle.ink_list.proofs.Rests.{rest}
-use Rattle.ink_list.proofs.TestLaws.{beats_back, extreme_yes, extreme_no, extreme_end, extreme_some, top_yes, top_no, top_end, top_some}
 use Rattle.list_extremes.proofs.extreme_at.Given as goal
 
 abbrev pub invariant-loop-i : goal.invariant-loop-i

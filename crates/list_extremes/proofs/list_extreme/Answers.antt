@@ -2,7 +2,6 @@
 use mathlib.Core.Path.{refl, ap}
 use native.Mathlib.Omega.{arith}
 use lib.ListN.{length}
-use borrow.Author.Rules.{rules}
 use Rattle.ink_list.proofs.Output.{begin, pushed, kept, done}
 use Rattle.ink_list.proofs.TestLaws.{extreme_none}
 use Rattle.list_extremes.proofs.list_extreme.Goals as goal

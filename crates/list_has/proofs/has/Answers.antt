@@ -1,12 +1,10 @@
 -- `list_has::has` meets its contract: b's items from cursor j on are to lie among a's from cursor i on. Assumes nothing.
-use mathlib.Core.Path.{◌≡◌, sym, ◌∙◌}
-use Prim.Native.Nat.{◌-◌, ◌≤◌}
-use lib.ListN.{length, drop}
+use mathlib.Core.Path.{sym, ◌∙◌}
+use Prim.Native.Nat.{◌-◌}
+use lib.ListN.{drop}
 use borrow.Author.Rules.{rules}
 use Rattle.ink_list.specs.Entries.{item_numbers}
-use Rattle.ink_list.specs.Ops.{has, subset}
 use Rattle.ink_list.proofs.TestLaws.{has_no, has_yes, has_some, has_left_empty, has_right_empty, subset_end}
-use borrow.Author.Tests.{not-true, not-false}
 use Rattle.list_has.proofs.has.Goals as goal
 
 pub returns-then-ai-eq0 : goal.returns-then-ai-eq0

@@ -1,7 +1,6 @@
 -- `list_has::hasnt` meets its contract. Assumes nothing.
 use mathlib.Core.Path.{ap}
 use mathlib.Core.Bool.{not}
-use borrow.Author.Rules.{rules}
 use Rattle.list_has.proofs.hasnt.Goals as goal
 
 pub returns : goal.returns

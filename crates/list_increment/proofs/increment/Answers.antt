@@ -1,20 +1,19 @@
 -- `list_increment::increment` meets its contract: what is left of the answer are the targets from the first item of definition d on,
-use mathlib.Core.Path.{◌≡◌, refl, sym, ◌∙◌, subst}
-use mathlib.Core.List.{List, []}
-use Prim.Native.Nat.{◌+◌, ◌-◌, ◌/◌, ◌≤◌}
+use mathlib.Core.Path.{refl, sym, ◌∙◌, subst}
+use mathlib.Core.List.{List}
+use Prim.Native.Nat.{◌+◌, ◌-◌, ◌/◌}
 use native.Mathlib.Omega.{arith}
 use borrow.Author.Rules.{rules}
 use lib.IntN.{ℤ}
 use lib.ListN.{length, take, drop, get_or, length-drop}
 use lib.Seq.{length-take-le}
 use mir.Syntax.{w32}
-use mir.Val.{to_z}
 use Rattle.ink_number.proofs.Signed.{back, back32}
-use Rattle.ink_list.specs.Entries.{item_numbers, Entry, entries, RisingFrom, Wrote}
-use Rattle.list_definitions.specs.Defs.{Ends, retarget, increment}
+use Rattle.ink_list.specs.Entries.{item_numbers, Entry, entries, Wrote}
+use Rattle.list_definitions.specs.Defs.{retarget, increment}
 use Rattle.list_definitions.specs.Search.{raised}
 use Rattle.ink_list.proofs.Rests.{rest, of_lent}
-use Rattle.ink_list.proofs.Output.{Writing, begin, appended, fits, turn, kept, done}
+use Rattle.ink_list.proofs.Output.{begin, appended, turn, kept, done}
 use Rattle.list_definitions.proofs.Raised.{length_raised, raised_entries}
 use Rattle.list_definitions.proofs.DefLaws.{onward, onward_end, ends_done}
 use Rattle.list_definitions.proofs.IncrementSearch.{chosen_length}

@@ -1,17 +1,11 @@
 -- `list_merge::union` meets its contract: what is left of the answer is the union of what is left of the two. Assumes nothing.
-use mathlib.Core.Path.{◌≡◌, refl, sym}
+use mathlib.Core.Path.{◌≡◌}
 use Prim.Native.Nat.{◌+◌, ◌-◌, ◌≤◌}
-use native.Mathlib.Omega.{arith}
-use borrow.Author.Rules.{rules}
-use lib.ListN.{length, length-append}
+use lib.ListN.{length}
 use Rattle.ink_list.specs.Entries.{entries, room}
 use Rattle.ink_list.specs.Ops.{union}
-use Rattle.ink_list.proofs.Rests.{rest, rest_length, of_lent}
-use Rattle.ink_list.proofs.Output.{Writing, begin, has_room, pushed, appended, fits, turn, kept, done}
-use Rattle.ink_list.proofs.UnionLaws.{union_length, union_limit, union_rest, turn_less, turn_same, turn_more}
-use borrow.Author.Tests.{ltb-true, ltb-false}
-use mathlib.Core.Logic.{⊎_elim, inl, inr}
-use mathlib.Core.List.{[], append-nil}
+use Rattle.ink_list.proofs.Rests.{rest}
+use Rattle.ink_list.proofs.Output.{Writing}
 use Rattle.list_merge.proofs.union.Given as goal
 
 abbrev pub invariant-loop-i : goal.invariant-loop-i

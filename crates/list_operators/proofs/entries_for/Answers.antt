@@ -6,7 +6,6 @@ use Rattle.ink_list.specs.Entries.{room}
 use Rattle.ink_value.specs.Value.{first_of}
 use Rattle.ink_value.proofs.Reading.{formed_limit, wrote_is}
 use Rattle.list_operators.specs.Lists.{definitions, entries_for}
-use borrow.Author.Rules.{rules}
 use Rattle.list_operators.proofs.entries_for.Goals as goal
 
 pub list1-requires : goal.list1-requires

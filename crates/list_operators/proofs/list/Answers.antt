@@ -1,5 +1,4 @@
 -- `list_operators::list` meets its contract: the entries, and the origin set that goes with them. Assumes nothing.
-use borrow.Author.Rules.{rules}
 use mathlib.Core.Path.{sym, ap}
 use mathlib.Core.List.{List}
 use Prim.Native.Nat.{ℕ}

@@ -1,5 +1,4 @@
 -- `list_operators::list1` meets its contract. Assumes nothing.
-use borrow.Author.Rules.{rules}
 use mathlib.Core.Path.{sym, ◌∙◌}
 use native.Mathlib.Omega.{arith}
 use Rattle.list_operators.specs.Lists.{unary_l}

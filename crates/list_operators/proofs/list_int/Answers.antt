@@ -1,6 +1,5 @@
 -- `list_operators::list_int` meets its contract. Assumes nothing.
 use Rattle.ink_list.specs.Entries.{item_numbers}
-use borrow.Author.Rules.{rules}
 use mathlib.Core.Path.{sym, ◌∙◌}
 use native.Mathlib.Omega.{arith}
 use Rattle.list_operators.specs.Lists.{shift_l, definitions}

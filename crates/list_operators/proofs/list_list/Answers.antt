@@ -2,7 +2,6 @@
 use Rattle.slices.proofs.Lists.{ap2}
 use Rattle.ink_value.proofs.Reading.{entries_in_lem, wrote_is}
 use Rattle.list_pairs.specs.Pairs.{merge_l}
-use borrow.Author.Rules.{rules}
 use Rattle.list_operators.proofs.list_list.Goals as goal
 
 pub merge_held-requires : goal.merge_held-requires

@@ -8,8 +8,6 @@ use Rattle.ink_list.specs.Entries.{entries}
 use Rattle.list_definitions.specs.Defs.{increment, decrement}
 use Rattle.ink_value.proofs.Reading.{wrote_is}
 use Rattle.list_operators.specs.Lists.{shift_l}
-use borrow.Author.Rules.{rules}
-use mathlib.Core.List.{[]}
 use Rattle.list_operators.proofs.shift.Goals as goal
 
 pub returns-in-0 : goal.returns-in-0

@@ -6,7 +6,6 @@ use Rattle.slices.proofs.Lists.{ap2}
 use Rattle.ink_value.proofs.Parts.{cut_lent, cut_entries}
 use Rattle.ink_value.proofs.Reading.{wrote_is}
 use Rattle.list_pairs.specs.Pairs.{merge_l}
-use borrow.Author.Rules.{rules}
 use Rattle.list_pairs.proofs.merge_held.Goals as goal
 
 pub merge-requires : goal.merge-requires

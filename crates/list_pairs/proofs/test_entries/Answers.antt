@@ -1,5 +1,4 @@
 -- `list_pairs::test_entries` meets its contract: each arm is its operator's case of the definition. Assumes nothing.
-use borrow.Author.Rules.{rules}
 use mathlib.Core.Path.{refl}
 use borrow.Author.Tests.{ne_eqb}
 use Rattle.list_pairs.specs.Pairs.{test_l}

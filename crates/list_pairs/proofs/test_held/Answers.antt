@@ -4,7 +4,6 @@ use Rattle.ink_list.specs.Entries.{item_numbers}
 use Rattle.slices.proofs.Lists.{ap2}
 use Rattle.ink_value.proofs.Parts.{cut_lent, cut_entries}
 use Rattle.list_pairs.specs.Pairs.{test_l}
-use borrow.Author.Rules.{rules}
 use Rattle.list_pairs.proofs.test_held.Goals as goal
 
 pub test_entries-requires : goal.test_entries-requires

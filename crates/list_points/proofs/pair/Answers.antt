@@ -1,11 +1,9 @@
 -- `list_points::pair` is safe: it meets what it calls for. Assumes nothing.
 use mathlib.Core.Path.{sym, ◌∙◌}
-use borrow.Author.Tests.{not-false}
 use Rattle.ink_list.proofs.Formed.{formed_sound}
 use native.Mathlib.Omega.{arith}
 use Rattle.ink_list.specs.Entries.{item_numbers}
 use Rattle.ink_list.proofs.Wrote.{lent_limit}
-use borrow.Author.Rules.{rules}
 use Rattle.list_points.proofs.pair.Goals as goal
 
 pub show_union-requires : goal.show_union-requires

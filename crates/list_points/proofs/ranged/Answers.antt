@@ -1,8 +1,6 @@
 -- `list_points::ranged` is safe: it meets what it calls for. Assumes nothing.
 use mathlib.Core.Path.{sym, ◌∙◌}
-use borrow.Author.Tests.{not-false}
 use Rattle.ink_list.proofs.Formed.{formed_sound}
-use borrow.Author.Rules.{rules}
 use Rattle.list_points.proofs.ranged.Goals as goal
 
 pub show_range-requires : goal.show_range-requires

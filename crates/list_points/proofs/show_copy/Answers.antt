@@ -3,7 +3,6 @@ use native.Mathlib.Omega.{arith}
 use Rattle.ink_list.specs.Entries.{entries}
 use Rattle.ink_list.proofs.Laws.{rising_length}
 use Rattle.ink_list.proofs.Rests.{of_lent, length_entries}
-use borrow.Author.Rules.{rules}
 use Rattle.list_points.proofs.show_copy.Goals as goal
 
 pub copy-n-requires : goal.copy-n-requires

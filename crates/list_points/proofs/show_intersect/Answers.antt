@@ -1,7 +1,6 @@
 -- `list_points::show_intersect` is safe: it meets what it calls for. Assumes nothing.
 use native.Mathlib.Omega.{arith}
 use Rattle.ink_list.proofs.Wrote.{lent_limit}
-use borrow.Author.Rules.{rules}
 use Rattle.list_points.proofs.show_intersect.Goals as goal
 
 pub intersect-n-requires : goal.intersect-n-requires

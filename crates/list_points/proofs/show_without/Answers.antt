@@ -1,7 +1,6 @@
 -- `list_points::show_without` is safe: it meets what it calls for. Assumes nothing.
 use native.Mathlib.Omega.{arith}
 use Rattle.ink_list.proofs.Wrote.{lent_limit}
-use borrow.Author.Rules.{rules}
 use Rattle.list_points.proofs.show_without.Goals as goal
 
 pub without-n-requires : goal.without-n-requires

@@ -1,8 +1,6 @@
 -- `list_points::single` is safe: it meets what it calls for. Assumes nothing.
 use mathlib.Core.Path.{sym, ◌∙◌}
-use borrow.Author.Tests.{not-false}
 use Rattle.ink_list.proofs.Formed.{formed_sound}
-use borrow.Author.Rules.{rules}
 use Rattle.list_points.proofs.single.Goals as goal
 
 pub show_list_min-requires : goal.show_list_min-requires

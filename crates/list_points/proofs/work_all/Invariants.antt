@@ -1,7 +1,6 @@
 -- `list_points::work_all` is safe and ends: each turn moves on. Assumes nothing.
 use Prim.Native.Nat.{◌-◌, ◌≤◌}
 use lib.ListN.{length}
-use borrow.Author.Rules.{rules}
 use Rattle.list_points.proofs.work_all.Given as goal
 
 abbrev pub invariant-loop-at : goal.invariant-loop-at

@@ -1,19 +1,11 @@
 -- `list_range::range` meets its contract: what is left of the answer is the range of the entries from cursor i on. Assumes nothing.
-use mathlib.Core.Path.{◌≡◌, refl, ap, ◌∙◌, subst}
+use mathlib.Core.Path.{◌≡◌}
 use Prim.Native.Nat.{◌-◌, ◌≤◌}
-use native.Mathlib.Omega.{arith}
-use lib.IntN.{ℤ, pos}
-use lib.ListN.{length, get_or}
-use borrow.Author.Rules.{rules}
-use mir.Syntax.{w32}
-use mir.Val.{to_z, of_z}
-use mir.ValLaws.{to_z-of_z}
-use Rattle.ink_list.specs.Entries.{entries, Wrote, room}
-use Rattle.ink_list.specs.Ops.{sift, within, range}
-use Rattle.ink_list.proofs.Rests.{rest, rest_done, of_lent}
-use Rattle.ink_list.proofs.Output.{Writing, begin, has_room, pushed, kept, turn, done}
-use Rattle.ink_list.proofs.SiftLaws.{sift_length, sift_limit, sift_nil, keep_yes, keep_no}
-use Rattle.ink_list.proofs.TestLaws.{within_back}
+use lib.ListN.{length}
+use Rattle.ink_list.specs.Entries.{entries, room}
+use Rattle.ink_list.specs.Ops.{sift, within}
+use Rattle.ink_list.proofs.Rests.{rest}
+use Rattle.ink_list.proofs.Output.{Writing}
 use Rattle.list_range.proofs.range.Given as goal
 
 abbrev pub invariant-loop-i : goal.invariant-loop-i

@@ -1,6 +1,5 @@
 -- `list_sift::intersect` meets its contract: the items that match are b's. Assumes nothing.
 use mathlib.Core.Bool.{true, beq}
-use borrow.Author.Rules.{rules}
 use Rattle.ink_list.specs.Entries.{entries, member}
 use Rattle.ink_list.proofs.SiftLaws.{sift_ext, beq_true}
 use Rattle.list_sift.proofs.intersect.Goals as goal

@@ -1,15 +1,12 @@
 -- `list_sift::matching` meets its contract: what is left of the answer are the entries from cursor i on whose items are among b's from cursor j on, or are not.
-use mathlib.Core.Path.{◌≡◌, refl, sym, ap, ◌∙◌}
-use mathlib.Core.Bool.{Bool, beq}
+use mathlib.Core.Path.{◌≡◌}
+use mathlib.Core.Bool.{beq}
 use Prim.Native.Nat.{◌-◌, ◌≤◌}
-use native.Mathlib.Omega.{arith}
 use lib.ListN.{length, drop}
-use borrow.Author.Rules.{rules}
 use Rattle.ink_list.specs.Entries.{entries, member, room}
 use Rattle.ink_list.specs.Ops.{sift}
-use Rattle.ink_list.proofs.Rests.{rest, rest_done, of_lent}
-use Rattle.ink_list.proofs.Output.{Writing, begin, has_room, pushed, kept, turn, done}
-use Rattle.ink_list.proofs.SiftLaws.{sift_length, sift_limit, sift_nil, match_yes, match_no}
+use Rattle.ink_list.proofs.Rests.{rest}
+use Rattle.ink_list.proofs.Output.{Writing}
 use Rattle.list_sift.proofs.matching.Given as goal
 
 abbrev pub invariant-loop-i : goal.invariant-loop-i

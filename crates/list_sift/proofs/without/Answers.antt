@@ -1,6 +1,5 @@
 -- `list_sift::without` meets its contract: the items that match are not b's. Assumes nothing.
 use mathlib.Core.Bool.{false, beq}
-use borrow.Author.Rules.{rules}
 use Rattle.ink_list.specs.Entries.{entries, member}
 use Rattle.ink_list.proofs.SiftLaws.{sift_ext, beq_false}
 use Rattle.list_sift.proofs.without.Goals as goal

@@ -1,5 +1,4 @@
 -- `nearest_float::magnitude_to_float` meets its contract. m has 24 + k digits, so rounding it to 24 digits and scaling back is rounding it once (proofs/Significand.antt).
-use borrow.Author.Rules.{rules}
 use mathlib.Core.Path.{refl}
 use lib.IntN.{pos}
 use Rattle.binary32.proofs.Meets.{meant, of_int_meets}

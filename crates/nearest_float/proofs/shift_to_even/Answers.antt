@@ -2,7 +2,6 @@
 use Prim.Native.Nat.{◌/◌, ◌^◌}
 use native.Mathlib.Omega.{arith}
 use Rattle.nearest_float.proofs.ToEven.{half_some, half_small, digit_small, shifted_small, rounded}
-use borrow.Author.Rules.{rules}
 use Rattle.nearest_float.proofs.shift_to_even.Goals as goal
 
 pub overflow_sub-result : goal.overflow_sub-result

@@ -1,5 +1,4 @@
 -- `number_operators::arith_int` meets its contract: each arm is its operator's case of the definition. Assumes nothing.
-use borrow.Author.Rules.{rules}
 use mathlib.Core.Path.{ap, ◌∙◌}
 use lib.IntN.{ℤ, ◌+ℤ◌, ◌-ℤ◌, ◌*ℤ◌}
 use borrow.Author.Tests.{ne_eqb}

@@ -5,7 +5,6 @@ use Rattle.ink_number.proofs.Signed.{read}
 use Rattle.ink_value.specs.Convert.{as_float}
 use Rattle.ink_value.specs.Value.{number_of}
 use Rattle.number_operators.specs.Numbers.{unary_f, real_unary}
-use borrow.Author.Rules.{rules}
 use Rattle.number_operators.proofs.number_real1.Goals as goal
 
 pub returns : goal.returns

@@ -5,7 +5,6 @@ use lib.IntN.{ℤ}
 use Rattle.ink_number.proofs.Signed.{read}
 use Rattle.ink_value.specs.Convert.{truthy}
 use Rattle.ink_value.specs.Value.{number_of}
-use borrow.Author.Rules.{rules}
 use Rattle.number_operators.proofs.number_test1.Goals as goal
 
 pub returns : goal.returns

@@ -12,7 +12,6 @@ use Rattle.ink_value.specs.Value.{number_of}
 use Rattle.slices.proofs.Lists.{ap2}
 use Rattle.operator_kinds.specs.Kinds.{common}
 use Rattle.number_operators.specs.Numbers.{test_z, test_f, test_numbers}
-use borrow.Author.Rules.{rules}
 use Rattle.number_operators.proofs.number_test2.Goals as goal
 
 by_kinds : (o : ℕ) (s t : Bool) (z w : ℤ) (x y : Float)

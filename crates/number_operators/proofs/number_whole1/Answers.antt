@@ -16,7 +16,6 @@ use Rattle.ink_value.specs.Convert.{bit_z, as_int, truthy, entries_of}
 use Rattle.ink_value.specs.Value.{number_of}
 use Rattle.ink_value.proofs.Arms.{at}
 use Rattle.number_operators.specs.Numbers.{whole_unary}
-use borrow.Author.Rules.{rules}
 use Rattle.number_operators.proofs.number_whole1.Goals.{Start}
 use Rattle.number_operators.proofs.number_whole1.Goals as goal
 

@@ -6,7 +6,6 @@ use Rattle.ink_value.specs.Convert.{as_int}
 use Rattle.ink_value.specs.Value.{number_of}
 use Rattle.slices.proofs.Lists.{ap2}
 use Rattle.number_operators.specs.Numbers.{arith_z}
-use borrow.Author.Rules.{rules}
 use Rattle.number_operators.proofs.number_whole2.Goals as goal
 
 pub returns : goal.returns

@@ -1,5 +1,4 @@
 -- `number_operators::test_float` meets its contract: each arm is its operator's case of the definition. Assumes nothing.
-use borrow.Author.Rules.{rules}
 use borrow.Author.Tests.{ne_eqb}
 use Rattle.number_operators.specs.Numbers.{test_f}
 use Rattle.ink_value.proofs.Arms.{at}

@@ -1,5 +1,4 @@
 -- `number_operators::test_int` meets its contract: each arm is its operator's case of the definition. Assumes nothing.
-use borrow.Author.Rules.{rules}
 use mathlib.Core.Path.{ap, ◌∙◌}
 use mathlib.Core.Bool.{Bool, not, ◌&&◌, ◌||◌}
 use lib.IntN.{ℤ}

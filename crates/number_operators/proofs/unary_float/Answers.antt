@@ -3,7 +3,6 @@ use mathlib.Core.Path.{refl}
 use borrow.Author.Tests.{ne_eqb}
 use Rattle.ink_value.proofs.Arms.{at}
 use Rattle.number_operators.specs.Numbers.{unary_f}
-use borrow.Author.Rules.{rules}
 use Rattle.number_operators.proofs.unary_float.Goals as goal
 
 pub returns-in-5 : goal.returns-in-5

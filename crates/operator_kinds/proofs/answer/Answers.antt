@@ -5,7 +5,6 @@ use native.Mathlib.Omega.{arith}
 use Rattle.ink_value.specs.Val.{kind_at}
 use Rattle.operator_kinds.specs.Kinds.{kind_entry}
 use Rattle.operator_kinds.proofs.Counting.{below_range, entry_given, range_given, second_below, second_alike, second_entry}
-use borrow.Author.Rules.{rules}
 use Rattle.operator_kinds.proofs.answer.Goals as goal
 
 pub returns-then-count-eq3 : goal.returns-then-count-eq3

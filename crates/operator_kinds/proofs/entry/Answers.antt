@@ -7,7 +7,6 @@ use Rattle.ink_value.specs.Val.{kind_at, listK}
 use Rattle.operator_kinds.specs.Kinds.{kind_entry, known, unary, arity, kind_unary, kind_binary, operand_count}
 use Rattle.operator_kinds.proofs.Agreed.{of_void}
 use Rattle.operator_kinds.proofs.Counting.{two_taken}
-use borrow.Author.Rules.{rules}
 use Rattle.operator_kinds.proofs.entry.Goals as goal
 
 pub returns-then-highest-eq-VOID : goal.returns-then-highest-eq-VOID

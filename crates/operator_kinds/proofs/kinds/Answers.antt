@@ -2,7 +2,6 @@
 use mathlib.Core.Path.{sym, ◌∙◌}
 use native.Mathlib.Omega.{arith}
 use Rattle.operator_kinds.proofs.Counting.{above_all, none_taken, miscounted}
-use borrow.Author.Rules.{rules}
 use Rattle.operator_kinds.proofs.kinds.Goals as goal
 
 pub returns-then-op-gt-RANGE : goal.returns-then-op-gt-RANGE

@@ -3,7 +3,6 @@ use mathlib.Core.Path.{refl}
 use Rattle.slices.specs.Every.{every, ◌and◌}
 use Rattle.operator_kinds.specs.Kinds.{kind_entry, known, unary, arity, kind_unary, kind_binary, operand_count}
 use Rattle.operator_kinds.proofs.Agreed.{of_lists, list_kind, list_none}
-use borrow.Author.Rules.{rules}
 use Rattle.operator_kinds.proofs.lists.Goals as goal
 
 pub returns-then-kind-eq-FLOAT : goal.returns-then-kind-eq-FLOAT

@@ -5,7 +5,6 @@ use native.Mathlib.Omega.{arith}
 use Rattle.slices.specs.Every.{every, ◌and◌}
 use Rattle.operator_kinds.specs.Kinds.{kind_entry, known, unary, arity, kind_unary, kind_binary, operand_count, decoded}
 use Rattle.operator_kinds.proofs.Agreed.{of_numbers}
-use borrow.Author.Rules.{rules}
 use Rattle.operator_kinds.proofs.number_entry.Goals as goal
 
 pub returns-then-op-lt-NEGATE : goal.returns-then-op-lt-NEGATE

@@ -3,7 +3,6 @@ use mathlib.Core.Path.{refl, ◌∙◌}
 use Rattle.slices.specs.Every.{every, ◌and◌}
 use Rattle.operator_kinds.specs.Kinds.{operand_count, known, unary, arity}
 use Rattle.operator_kinds.proofs.Counting.{counted}
-use borrow.Author.Rules.{rules}
 use Rattle.operator_kinds.proofs.operands.Goals as goal
 
 pub returns : goal.returns

@@ -1,5 +1,5 @@
 -- `pack_literals::copy_each` meets its contract. The loop's invariant: k entries are written. The measure is how many are left. Assumes
-use Prim.Native.Nat.{ℕ, ◌+◌, ◌-◌, ◌≤◌}
+use Prim.Native.Nat.{ℕ, ◌+◌, ◌-◌}
 use mathlib.Core.Path.{◌≡◌, refl, ap, ◌∙◌}
 use native.Mathlib.Omega.{arith}
 use mir.Facts.{to_z-of_z}
@@ -8,7 +8,6 @@ use Rattle.slices.specs.Filled.{fill}
 use Rattle.slices.proofs.Filled.{fill_none, fill_long, fill_more}
 use Rattle.pack.specs.Read.{item_from, value_from}
 use Rattle.slices.proofs.Strides.{stride_fits}
-use borrow.Author.Rules.{rules}
 use mir.Syntax.{w32}
 use Rattle.pack_literals.proofs.copy_each.Goals as goal
 

@@ -1,14 +1,9 @@
 -- `pack_literals::copy_each` meets its contract. The loop's invariant: k entries are written. The measure is how many are left. Assumes
-use Prim.Native.Nat.{ℕ, ◌+◌, ◌-◌, ◌≤◌}
-use mathlib.Core.Path.{◌≡◌, refl, ap, ◌∙◌}
-use native.Mathlib.Omega.{arith}
-use mir.Facts.{to_z-of_z}
+use Prim.Native.Nat.{◌-◌, ◌≤◌}
+use mathlib.Core.Path.{◌≡◌}
 use Rattle.slices.specs.Every.{table}
 use Rattle.slices.specs.Filled.{fill}
-use Rattle.slices.proofs.Filled.{fill_none, fill_long, fill_more}
 use Rattle.pack.specs.Read.{item_from, value_from}
-use Rattle.slices.proofs.Strides.{stride_fits}
-use borrow.Author.Rules.{rules}
 use Rattle.pack_literals.proofs.copy_each.Given as goal
 
 abbrev pub invariant-loop-k : goal.invariant-loop-k

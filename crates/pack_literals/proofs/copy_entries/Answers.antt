@@ -1,7 +1,6 @@
 -- `pack_literals::copy_entries` meets its contract: of one or two bytes, by which it is. Assumes nothing.
 use mathlib.Core.Path.{◌≡◌}
 use native.Mathlib.Omega.{arith}
-use borrow.Author.Rules.{rules}
 use Rattle.pack_literals.proofs.copy_entries.Goals as goal
 
 pub copy_each-requires : goal.copy_each-requires

@@ -6,7 +6,6 @@ use lib.ListN.{length}
 use Rattle.pack.specs.Bodies.{Literal}
 use Rattle.pack.specs.Contents.{literal_body, size}
 use Rattle.pack.proofs.Listed.{literal_listed, literal_is, entries_long}
-use borrow.Author.Rules.{rules}
 use Rattle.pack_literals.proofs.literal_len.Goals as goal
 
 pub overflow_sub-result : goal.overflow_sub-result

@@ -7,7 +7,6 @@ use Rattle.pack.specs.Bytes.{u64}
 use Rattle.pack.specs.Contents.{literal_body, offset}
 use Rattle.pack.proofs.Laid.{body}
 use Rattle.pack.proofs.Listed.{literal_listed, literal_is}
-use borrow.Author.Rules.{rules}
 use Rattle.pack_literals.proofs.literal_origins.Goals as goal
 
 pub u64_at-requires : goal.u64_at-requires

@@ -14,7 +14,6 @@ use Rattle.pack.proofs.Laid.{body}
 use Rattle.pack.proofs.Listed.{literal_listed, literal_is, entries_long}
 use Rattle.pack.specs.Read.{item_from, value_from}
 use Rattle.ink_list.proofs.Output.{items_table, values_table}
-use borrow.Author.Rules.{rules}
 use Rattle.pack_literals.proofs.read_literal.Goals as goal
 
 pub copy_entries-requires : goal.copy_entries-requires

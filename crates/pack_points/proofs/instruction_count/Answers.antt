@@ -1,13 +1,10 @@
 -- `pack_points::instruction_count` meets its contract. The loop's invariant: instruction k stands at `at`, or the sheet ends there. The
-use Prim.Native.Nat.{ℕ, ◌+◌, ◌-◌, ◌≤◌}
-use mathlib.Core.List.{[]}
+use Prim.Native.Nat.{ℕ, ◌+◌, ◌-◌}
 use mathlib.Core.Path.{◌≡◌, sym, ap, subst}
 use native.Mathlib.Omega.{arith}
 use lib.ListN.{length, drop, length-drop}
-use Rattle.pack.specs.Format.{instruction_limit}
 use Rattle.pack.specs.Read.{program, Standing}
 use Rattle.pack.proofs.Programs.{whole, last_of}
-use borrow.Author.Rules.{rules}
 use Rattle.pack_points.proofs.instruction_count.Goals as goal
 
 pub sheet_span-span-requires : goal.sheet_span-span-requires

@@ -1,13 +1,8 @@
 -- `pack_points::instruction_count` meets its contract. The loop's invariant: instruction k stands at `at`, or the sheet ends there. The
-use Prim.Native.Nat.{ℕ, ◌+◌, ◌-◌, ◌≤◌}
-use mathlib.Core.List.{[]}
-use mathlib.Core.Path.{◌≡◌, sym, ap, subst}
-use native.Mathlib.Omega.{arith}
-use lib.ListN.{length, drop, length-drop}
+use Prim.Native.Nat.{◌-◌, ◌≤◌}
+use lib.ListN.{length}
 use Rattle.pack.specs.Format.{instruction_limit}
 use Rattle.pack.specs.Read.{program, Standing}
-use Rattle.pack.proofs.Programs.{whole, last_of}
-use borrow.Author.Rules.{rules}
 use Rattle.pack_points.proofs.instruction_count.Given as goal
 
 abbrev pub invariant-loop-at : goal.invariant-loop-at

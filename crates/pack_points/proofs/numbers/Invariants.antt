@@ -1,7 +1,6 @@
 -- `pack_points::numbers` is safe and ends. Assumes nothing.
 use Prim.Native.Nat.{◌-◌, ◌≤◌}
 use lib.ListN.{length}
-use borrow.Author.Rules.{rules}
 use Rattle.pack_points.proofs.numbers.Given as goal
 
 abbrev pub invariant-loop-i : goal.invariant-loop-i

@@ -1,6 +1,5 @@
 -- `pack_points::report` is safe: where `check` passes a pack, the pack is sound. Assumes nothing.
 use Rattle.pack.proofs.Judged.{passed}
-use borrow.Author.Rules.{rules}
 use Rattle.pack_points.proofs.report.Goals as goal
 
 pub show-requires : goal.show-requires

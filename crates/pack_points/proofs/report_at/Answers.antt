@@ -1,5 +1,4 @@
 -- `pack_points::report_at` is safe and moves on: a pack that is read stands inside the stream. Assumes nothing.
-use borrow.Author.Rules.{rules}
 use Rattle.named_packs.proofs.Inside.{inside}
 use Rattle.pack_points.proofs.report_at.Goals as goal
 

@@ -4,7 +4,6 @@ use lib.Seq.{length-take-le}
 use native.Mathlib.Omega.{arith}
 use Rattle.pack.proofs.Formats.{runnable1}
 use Rattle.pack.proofs.Values.{pack_tables}
-use borrow.Author.Rules.{rules}
 use Rattle.pack_points.proofs.show_definitions.Goals as goal
 
 pub read_definitions-d-requires : goal.read_definitions-d-requires
@@ -25,7 +24,7 @@ pub slice_bounds-numbers-end : goal.slice_bounds-numbers-end
 slice_bounds-numbers-end c =
     let t = pack_tables _ c.args.p.now runnable1.narrow c.requires in
     let r = c.read_definitions-d in
-    sym (length-take-le r.result.definitions r.new.1.0 (omega (arith, r.ensures, r.auto.1.0)))
+    sym (length-take-le r.result.definitions r.new.ends (omega (arith, r.ensures, r.auto.ends)))
 
 pub offset_bounds-defined-m : goal.offset_bounds-defined-m
 offset_bounds-defined-m c =

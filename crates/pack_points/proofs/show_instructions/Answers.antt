@@ -4,7 +4,6 @@ use mathlib.Core.Path.{sym, subst}
 use native.Mathlib.Omega.{arith}
 use Rattle.pack.specs.Read.{Standing}
 use Rattle.pack.proofs.Programs.{whole}
-use borrow.Author.Rules.{rules}
 use Rattle.pack_points.proofs.show_instructions.Goals as goal
 
 pub sheet_span-span-requires : goal.sheet_span-span-requires

@@ -1,10 +1,6 @@
 -- `pack_points::show_instructions` is safe and ends. The loop's invariant: an instruction of the sheet stands at `at`, or the sheet ends
-use Prim.Native.Nat.{ℕ, ◌+◌, ◌-◌}
-use mathlib.Core.Path.{sym, subst}
-use native.Mathlib.Omega.{arith}
+use Prim.Native.Nat.{ℕ, ◌-◌}
 use Rattle.pack.specs.Read.{Standing}
-use Rattle.pack.proofs.Programs.{whole}
-use borrow.Author.Rules.{rules}
 use Rattle.pack_points.proofs.show_instructions.Given as goal
 
 abbrev pub invariant-loop-at : goal.invariant-loop-at

@@ -2,7 +2,6 @@
 use native.Mathlib.Omega.{arith}
 use Rattle.pack.proofs.Formats.{runnable1}
 use Rattle.pack.proofs.Listed.{literal_formed}
-use borrow.Author.Rules.{rules}
 use Rattle.pack_points.proofs.show_literal.Goals as goal
 
 pub read_literal-n-requires : goal.read_literal-n-requires

@@ -1,7 +1,6 @@
 -- `pack_points::show_literals` is safe and ends. Assumes nothing.
-use Prim.Native.Nat.{◌-◌, ◌≤◌}
+use Prim.Native.Nat.{◌-◌}
 use native.Mathlib.Omega.{arith}
-use borrow.Author.Rules.{rules}
 use Rattle.pack_points.proofs.show_literals.Goals as goal
 
 pub show_literal-requires : goal.show_literal-requires

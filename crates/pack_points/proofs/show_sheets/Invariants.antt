@@ -1,7 +1,5 @@
 -- `pack_points::show_sheets` is safe and ends. Assumes nothing.
 use Prim.Native.Nat.{◌-◌, ◌≤◌}
-use native.Mathlib.Omega.{arith}
-use borrow.Author.Rules.{rules}
 use Rattle.pack_points.proofs.show_sheets.Given as goal
 
 abbrev pub invariant-loop-s : goal.invariant-loop-s

@@ -1,14 +1,9 @@
 -- `pack_read::copy_values` meets its contract. The loop's invariant: k values are written. The measure is how many are left. Assumes
-use Prim.Native.Nat.{ℕ, ◌+◌, ◌*◌, ◌-◌, ◌≤◌}
-use mathlib.Core.Path.{◌≡◌, refl, ap, ◌∙◌}
-use native.Mathlib.Omega.{arith}
-use lib.IntN.{ℤ}
-use mir.Facts.{to_z-of_z}
+use Prim.Native.Nat.{◌+◌, ◌*◌, ◌-◌, ◌≤◌}
+use mathlib.Core.Path.{◌≡◌}
 use Rattle.slices.specs.Every.{table}
 use Rattle.slices.specs.Filled.{fill}
-use Rattle.slices.proofs.Filled.{fill_none, fill_long, fill_more}
 use Rattle.pack.specs.Bytes.{i32}
-use borrow.Author.Rules.{rules}
 use Rattle.pack_read.proofs.copy_values.Given as goal
 
 abbrev pub invariant-loop-k : goal.invariant-loop-k

@@ -15,7 +15,6 @@ use Rattle.pack.specs.Bytes.{i32}
 use Rattle.pack.specs.Contents.{definition_count}
 use Rattle.pack.proofs.Laid.{body}
 use Rattle.pack.proofs.Values.{counted, defined, items_up, items_more, values_below, length_values, values_none, values_long, values_more, ends_table}
-use borrow.Author.Rules.{rules}
 use Rattle.pack_read.proofs.read_definitions.Goals as goal
 
 pub byte_at-n-requires : goal.byte_at-n-requires

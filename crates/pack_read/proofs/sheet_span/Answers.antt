@@ -6,7 +6,6 @@ use Rattle.pack.specs.Contents.{sheet_body, offset, size}
 use Rattle.pack.specs.Read.{Standing}
 use Rattle.pack.proofs.Laid.{body}
 use Rattle.pack.proofs.Programs.{first}
-use borrow.Author.Rules.{rules}
 use Rattle.pack_read.proofs.sheet_span.Goals as goal
 
 pub returns : goal.returns

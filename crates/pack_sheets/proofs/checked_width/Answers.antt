@@ -8,7 +8,6 @@ use mathlib.Core.Path.{refl, ◌∙◌}
 use native.Mathlib.Omega.{arith}
 use borrow.Author.Tests.{le-leb}
 use Rattle.pack.proofs.Steps.{tested, is_op, is_bool_lem, is_int_lem, is_float_lem, is_list_lem, is_slot, is_void_lem, is_none}
-use borrow.Author.Rules.{rules}
 use Rattle.pack_sheets.proofs.checked_width.Goals as goal
 
 pub returns-then-code-lt-BOOL : goal.returns-then-code-lt-BOOL

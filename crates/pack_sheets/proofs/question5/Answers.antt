@@ -1,9 +1,8 @@
 -- `pack_sheets::question5` meets its contract. The loop's invariant: the sheets passed are well formed. The measure is how many are left.
-use Prim.Native.Nat.{ℕ, ◌-◌, ◌≤◌}
+use Prim.Native.Nat.{ℕ, ◌-◌}
 use mathlib.Core.Bool.{true}
 use mathlib.Core.Path.{◌≡◌, sym, ◌∙◌, subst}
 use native.Mathlib.Omega.{arith}
-use borrow.Author.Tests.{not-true, not-false}
 use Rattle.slices.specs.Every.{every}
 use Rattle.slices.proofs.Every.{every_more, every_fails}
 use Rattle.pack.specs.Bodies.{sheet}

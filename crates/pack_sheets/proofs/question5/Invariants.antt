@@ -1,16 +1,12 @@
 -- `pack_sheets::question5` meets its contract. The loop's invariant: the sheets passed are well formed. The measure is how many are left.
-use Prim.Native.Nat.{ℕ, ◌-◌, ◌≤◌}
+use Prim.Native.Nat.{◌-◌, ◌≤◌}
 use mathlib.Core.Bool.{true}
-use mathlib.Core.Path.{◌≡◌, sym, ◌∙◌, subst}
-use native.Mathlib.Omega.{arith}
-use borrow.Author.Tests.{not-true, not-false}
+use mathlib.Core.Path.{◌≡◌}
 use Rattle.slices.specs.Every.{every}
-use Rattle.slices.proofs.Every.{every_more, every_fails}
 use Rattle.pack.specs.Bodies.{sheet}
 use Rattle.pack.specs.Contents.{sheet_body}
 use Rattle.pack.specs.Instruction.{is_some}
 use Rattle.pack.specs.Judge as J
-use borrow.Author.Rules.{rules}
 use Rattle.pack_sheets.proofs.question5.Given as goal
 
 abbrev pub invariant-loop-s : goal.invariant-loop-s

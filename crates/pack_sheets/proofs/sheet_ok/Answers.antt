@@ -1,5 +1,5 @@
 -- `pack_sheets::sheet_ok` meets its contract. The loop's invariant: whether the instructions from `at` on, at most `left`, are well formed
-use Prim.Native.Nat.{◌+◌, ◌-◌, ◌≤◌}
+use Prim.Native.Nat.{◌+◌, ◌-◌}
 use mathlib.Core.Path.{◌≡◌, sym, ◌∙◌}
 use native.Mathlib.Omega.{arith}
 use Rattle.pack.specs.Bodies.{sheet}
@@ -7,7 +7,6 @@ use Rattle.pack.specs.Format.{instruction_limit}
 use Rattle.pack.specs.Instruction.{is_some, instructions}
 use Rattle.pack.proofs.Laid.{body}
 use Rattle.pack.proofs.Steps.{empty_handed, ill, well, ended}
-use borrow.Author.Rules.{rules}
 use Rattle.pack_sheets.proofs.sheet_ok.Goals as goal
 
 pub byte_at-literals-requires : goal.byte_at-literals-requires

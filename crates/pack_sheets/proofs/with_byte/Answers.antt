@@ -6,7 +6,6 @@ use lib.Dec.{ltb}
 use borrow.Author.Tests.{lt-ltb, le-ltb, le-leb, lt-leb}
 use Rattle.pack.specs.Bytes.{byte}
 use Rattle.slices.proofs.Every.{cond_same}
-use borrow.Author.Rules.{rules}
 use Rattle.pack_sheets.proofs.with_byte.Goals as goal
 
 pub returns-then-end-at-lt-WITH_BYTE : goal.returns-then-end-at-lt-WITH_BYTE

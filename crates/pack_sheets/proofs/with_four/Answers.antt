@@ -2,7 +2,6 @@
 use Prim.Native.Nat.{◌+◌}
 use native.Mathlib.Omega.{arith}
 use borrow.Author.Tests.{le-leb, lt-leb}
-use borrow.Author.Rules.{rules}
 use Rattle.pack_sheets.proofs.with_four.Goals as goal
 
 pub returns-then-end-at-lt-WITH_FOUR : goal.returns-then-end-at-lt-WITH_FOUR

@@ -1,5 +1,4 @@
 -- `result_origins::origins_kept` meets its contract. Assumes nothing.
-use borrow.Author.Rules.{rules}
 use mathlib.Core.Path.{sym, ◌∙◌}
 use native.Mathlib.Omega.{arith}
 use Rattle.result_origins.proofs.Rule.{kept_left, kept_right, kept_other}

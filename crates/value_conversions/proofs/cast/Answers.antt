@@ -1,5 +1,4 @@
 -- `value_conversions::cast` meets its contract: by the target's code. Assumes nothing.
-use borrow.Author.Rules.{rules}
 use mathlib.Core.Path.{refl, sym, ap, ◌∙◌}
 use mathlib.Core.Bool.{Bool, cond}
 use Rattle.ink_number.specs.Answer.{gives, refuses}

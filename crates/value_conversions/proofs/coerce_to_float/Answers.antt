@@ -1,5 +1,4 @@
 -- `value_conversions::coerce_to_float` meets its contract. Assumes nothing.
-use borrow.Author.Rules.{rules}
 use mathlib.Core.Path.{sym, ap, ◌∙◌}
 use lib.Ieee.{Float}
 use Rattle.value_conversions.specs.Convert.{coerce_float}

@@ -1,5 +1,4 @@
 -- `value_conversions::convert` meets its contract: by the kind and the target's code. Assumes nothing.
-use borrow.Author.Rules.{rules}
 use mathlib.Core.Path.{refl, ap, ◌∙◌}
 use mathlib.Core.Bool.{Bool}
 use Prim.Native.Nat.{ℕ}

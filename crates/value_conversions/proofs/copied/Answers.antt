@@ -1,5 +1,4 @@
 -- `value_conversions::copied` meets its contract: the entries are copied to the start of the result slices. Assumes nothing.
-use borrow.Author.Rules.{rules}
 use mathlib.Core.Path.{sym, ap}
 use mathlib.Core.List.{List}
 use Prim.Native.Nat.{ℕ}

@@ -5,7 +5,6 @@ use native.Mathlib.Omega.{arith}
 use lib.ListN.{take, drop}
 use Rattle.ink_number.proofs.Signed.{returned}
 use Rattle.ink_list.specs.Ops.{upper_bound}
-use borrow.Author.Rules.{rules}
 use Rattle.value_range.proofs.highest.Goals as goal
 
 pub returns : goal.returns

@@ -1,5 +1,4 @@
 -- `value_range::lower_bound` meets its contract. Assumes nothing.
-use borrow.Author.Rules.{rules}
 use mathlib.Core.Path.{sym, ap, ◌∙◌, subst}
 use Prim.Native.Nat.{◌+◌, ◌≤◌}
 use lib.ListN.{length}

@@ -1,5 +1,4 @@
 -- `value_range::range` meets its contract: the entries that are lent are those of the first value. Assumes nothing.
-use borrow.Author.Rules.{rules}
 use mathlib.Core.Path.{sym, ◌∙◌}
 use Rattle.slices.proofs.Lists.{ap3}
 use Rattle.ink_number.proofs.Signed.{returned}

@@ -1,7 +1,6 @@
 -- `words_in::bool_at` meets its contract: by the test of the word. Assumes nothing.
 use borrow.Author.Tests.{lt-ltb, le-ltb}
 use Rattle.words_in.specs.Words.{bool_at}
-use borrow.Author.Rules.{rules}
 use Rattle.words_in.proofs.bool_at.Goals as goal
 
 pub returns-then-w-lt2 : goal.returns-then-w-lt2

@@ -5,7 +5,6 @@ use borrow.Author.Tests.{lt-ltb, le-ltb}
 use lib.Ieee.{Float}
 use Rattle.ink_value.specs.declared.Value.TheVariants as Is
 use Rattle.words_in.specs.Words.{float_at}
-use borrow.Author.Rules.{rules}
 use Rattle.words_in.proofs.float_at.Goals as goal
 
 pub returns-then-w-lt-HALF : goal.returns-then-w-lt-HALF

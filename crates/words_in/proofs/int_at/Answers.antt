@@ -6,7 +6,6 @@ use lib.IntN.{ℤ}
 use Rattle.ink_number.proofs.Signed.{returned}
 use Rattle.ink_value.specs.declared.Value.TheVariants as Is
 use Rattle.words_in.specs.Words.{int_at}
-use borrow.Author.Rules.{rules}
 use Rattle.words_in.proofs.int_at.Goals as goal
 
 pub returns-then-w-lt-HALF : goal.returns-then-w-lt-HALF

@@ -2,7 +2,6 @@
 use borrow.Author.Tests.{ne_eqb}
 use Rattle.ink_value.proofs.Arms.{at}
 use Rattle.words_in.specs.Words.{plain_at}
-use borrow.Author.Rules.{rules}
 use Rattle.words_in.proofs.plain_at.Goals as goal
 
 pub returns-in-0 : goal.returns-in-0

@@ -1,12 +1,9 @@
 -- `words_in::slots_in` meets its contract. The loop's invariant: k slots are read. The measure is how many are left. Assumes
-use Prim.Native.Nat.{ℕ, ◌-◌, ◌≤◌}
-use mathlib.Core.Path.{◌≡◌, refl, ap, ◌∙◌}
-use native.Mathlib.Omega.{arith}
+use Prim.Native.Nat.{◌-◌, ◌≤◌}
+use mathlib.Core.Path.{◌≡◌}
 use Rattle.slices.specs.Every.{table}
 use Rattle.slices.specs.Filled.{fill}
-use Rattle.slices.proofs.Filled.{fill_none, front_more, fill_whole}
 use Rattle.words_in.specs.Words.{value_at}
-use borrow.Author.Rules.{rules}
 use Rattle.words_in.proofs.slots_in.Given as goal
 
 abbrev pub invariant-loop-k : goal.invariant-loop-k

@@ -3,7 +3,6 @@ use borrow.Author.Tests.{eq-eqb, ne_eqb}
 use Rattle.ink_value.specs.declared.Value.TheVariants as Is
 use Rattle.slices.proofs.Lists.{ap2}
 use Rattle.words_in.specs.Words.{value_of}
-use borrow.Author.Rules.{rules}
 use Rattle.words_in.proofs.value_of.Goals as goal
 
 pub returns-then-kind-eq-LIST : goal.returns-then-kind-eq-LIST

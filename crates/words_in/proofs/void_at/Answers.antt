@@ -1,7 +1,6 @@
 -- `words_in::void_at` meets its contract: by the test of the word. Assumes nothing.
 use borrow.Author.Tests.{eq-eqb, ne_eqb}
 use Rattle.words_in.specs.Words.{void_at}
-use borrow.Author.Rules.{rules}
 use Rattle.words_in.proofs.void_at.Goals as goal
 
 pub returns-then-w-eq0 : goal.returns-then-w-eq0

@@ -1,9 +1,7 @@
 -- `ink_list::cursor::skip_below` meets its contract: all numbers from j to k are below x. Assumes nothing.
-use mathlib.Core.Path.{◌≡◌, sym, ◌∙◌}
-use Prim.Native.Nat.{◌-◌, ◌≤◌}
-use lib.ListN.{length, drop}
+use mathlib.Core.Path.{sym, ◌∙◌}
+use Prim.Native.Nat.{◌-◌}
 use borrow.Author.Rules.{rules}
-use Rattle.ink_list.specs.Steps.{drop_below}
 use Rattle.ink_list.proofs.SiftLaws.{below_go, below_stop, below_end}
 use Rattle.ink_list.proofs.cursor.skip_below.Goals as goal
 

@@ -1,10 +1,8 @@
 -- `ink_list::cursor::skip_below` meets its contract: all numbers from j to k are below x. Assumes nothing.
-use mathlib.Core.Path.{◌≡◌, sym, ◌∙◌}
+use mathlib.Core.Path.{◌≡◌}
 use Prim.Native.Nat.{◌-◌, ◌≤◌}
 use lib.ListN.{length, drop}
-use borrow.Author.Rules.{rules}
 use Rattle.ink_list.specs.Steps.{drop_below}
-use Rattle.ink_list.proofs.SiftLaws.{below_go, below_stop, below_end}
 use Rattle.ink_list.proofs.cursor.skip_below.Given as goal
 
 abbrev pub invariant-loop-k : goal.invariant-loop-k

@@ -1,6 +1,5 @@
 -- `ink_list::cursor::stands` meets its contract. Assumes nothing.
 use mathlib.Core.Path.{sym}
-use borrow.Author.Rules.{rules}
 use Rattle.ink_list.proofs.SiftLaws.{head_here, head_end}
 use Rattle.ink_list.proofs.cursor.stands.Goals as goal
 

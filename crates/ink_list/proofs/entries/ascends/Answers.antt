@@ -1,10 +1,8 @@
 -- `ink_list::entries::ascends` meets its contract: from cursor i on, with `low` one past the last item, the test is that of the whole.
-use mathlib.Core.Path.{◌≡◌, refl, sym, ◌∙◌}
-use Prim.Native.Nat.{◌-◌, ◌≤◌}
+use mathlib.Core.Path.{refl, sym, ◌∙◌}
+use Prim.Native.Nat.{◌-◌}
 use native.Mathlib.Omega.{arith}
-use lib.ListN.{length, drop}
 use borrow.Author.Rules.{rules}
-use Rattle.ink_list.specs.Entries.{item_numbers, ascends}
 use Rattle.ink_list.proofs.Formed.{too_low, too_high, goes_on, ascends_end}
 use Rattle.ink_list.proofs.entries.ascends.Goals as goal
 

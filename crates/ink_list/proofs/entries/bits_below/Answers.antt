@@ -1,7 +1,6 @@
 -- `ink_list::entries::bits_below` meets its contract: 2^64 is above every set; below that, a shift divides by 2^d. Assumes nothing.
 use mathlib.Core.Path.{sym}
 use native.Mathlib.Nat.{lt_of_lt_of_le}
-use borrow.Author.Rules.{rules}
 use lib.Pow.{pow_mono}
 use Rattle.ink_list.proofs.Formed.{shifted_out, all_below}
 use Rattle.ink_list.proofs.entries.bits_below.Goals as goal

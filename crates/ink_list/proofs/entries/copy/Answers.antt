@@ -1,5 +1,4 @@
 -- `ink_list::entries::copy` meets its contract: the rest from cursor 0 on is the whole list. Assumes nothing.
-use borrow.Author.Rules.{rules}
 use Rattle.ink_list.proofs.Output.{wrote}
 use Rattle.ink_list.proofs.entries.copy.Goals as goal
 

@@ -1,11 +1,10 @@
 -- `ink_list::entries::copy_rest` meets its contract: after cursor k what is left to be stored are the entries from k on. Assumes nothing.
-use mathlib.Core.Path.{◌≡◌, refl}
-use Prim.Native.Nat.{◌-◌, ◌≤◌}
+use mathlib.Core.Path.{refl}
+use Prim.Native.Nat.{◌-◌}
 use native.Mathlib.Omega.{arith}
 use borrow.Author.Rules.{rules}
-use lib.ListN.{length}
-use Rattle.ink_list.proofs.Rests.{rest, rest_cons, rest_done, rest_length}
-use Rattle.ink_list.proofs.Output.{Writing, begin, has_room, pushed, kept, stored}
+use Rattle.ink_list.proofs.Rests.{rest_cons, rest_done, rest_length}
+use Rattle.ink_list.proofs.Output.{begin, has_room, pushed, kept, stored}
 use Rattle.ink_list.proofs.entries.copy_rest.Goals as goal
 
 pub loop-k-init : goal.loop-k-init

@@ -1,11 +1,9 @@
 -- `ink_list::entries::copy_rest` meets its contract: after cursor k what is left to be stored are the entries from k on. Assumes nothing.
-use mathlib.Core.Path.{◌≡◌, refl}
+use mathlib.Core.Path.{◌≡◌}
 use Prim.Native.Nat.{◌-◌, ◌≤◌}
-use native.Mathlib.Omega.{arith}
-use borrow.Author.Rules.{rules}
 use lib.ListN.{length}
-use Rattle.ink_list.proofs.Rests.{rest, rest_cons, rest_done, rest_length}
-use Rattle.ink_list.proofs.Output.{Writing, begin, has_room, pushed, kept, stored}
+use Rattle.ink_list.proofs.Rests.{rest}
+use Rattle.ink_list.proofs.Output.{Writing}
 use Rattle.ink_list.proofs.entries.copy_rest.Given as goal
 
 abbrev pub invariant-loop-k : goal.invariant-loop-k

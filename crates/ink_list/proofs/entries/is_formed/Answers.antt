@@ -1,7 +1,6 @@
 -- `ink_list::entries::is_formed` meets its contract: the three tests in turn. Assumes nothing.
 use mathlib.Core.Path.{sym, ◌∙◌}
-use borrow.Author.Rules.{rules}
-use borrow.Author.Tests.{eq-eqb, ne_eqb, not-true, not-false}
+use borrow.Author.Tests.{eq-eqb, ne_eqb}
 use Rattle.ink_list.specs.Entries.{formed, formed_lent}
 use Rattle.slices.proofs.Every.{and_on, and_no_left}
 use Rattle.ink_list.proofs.entries.is_formed.Goals as goal

@@ -5,7 +5,6 @@ use lib.IntN.{ℤ}
 use lib.ListN.{set}
 use mir.Syntax.{w32}
 use mir.ValLaws.{to_z-of_z}
-use borrow.Author.Rules.{rules}
 use Rattle.slices.proofs.Filled.{fill_one}
 use Rattle.ink_list.proofs.entries.push.Goals as goal
 

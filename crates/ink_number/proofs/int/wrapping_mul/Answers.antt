@@ -1,5 +1,5 @@
 -- `ink_number::int::wrapping_mul` meets its contract. A product of two Ints is an i64, whose residue is taken.
-use Rattle.std.proofs.Common.{ap, ◌∙◌, rules}
+use Rattle.std.proofs.Common.{ap, ◌∙◌}
 use Rattle.ink_number.specs.Int.{residue, signed, wrap}
 use Rattle.ink_number.proofs.Signed.{widens, returned}
 use Rattle.ink_number.proofs.Residue.{product, product_asks}

@@ -1,9 +1,6 @@
 -- `output_buffer::Output::text` adds the text, a byte at a time. Assumes nothing.
-use mathlib.Core.Path.{◌≡◌}
-use Prim.Native.Nat.{◌-◌, ◌≤◌}
-use lib.ListN.{length, take}
+use Prim.Native.Nat.{◌-◌}
 use borrow.Author.Rules.{rules}
-use Rattle.output_buffer.specs.Text.{Adds}
 use Rattle.output_buffer.proofs.Adding.{nothing, grown, ended}
 use Rattle.output_buffer.proofs.Output.text.Goals as goal
 

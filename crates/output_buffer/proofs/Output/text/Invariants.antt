@@ -2,9 +2,7 @@
 use mathlib.Core.Path.{◌≡◌}
 use Prim.Native.Nat.{◌-◌, ◌≤◌}
 use lib.ListN.{length, take}
-use borrow.Author.Rules.{rules}
 use Rattle.output_buffer.specs.Text.{Adds}
-use Rattle.output_buffer.proofs.Adding.{nothing, grown, ended}
 use Rattle.output_buffer.proofs.Output.text.Given as goal
 
 abbrev pub invariant-loop-i : goal.invariant-loop-i

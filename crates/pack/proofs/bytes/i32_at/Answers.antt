@@ -2,7 +2,6 @@
 use mathlib.Core.Path.{ap, ◌∙◌}
 use mir.Facts.{to_z-of_z}
 use Rattle.ink_number.specs.Int.{signed}
-use borrow.Author.Rules.{rules}
 use mir.Syntax.{w32}
 use Rattle.pack.proofs.bytes.i32_at.Goals as goal
 

@@ -4,7 +4,6 @@ use mathlib.Core.Path.{◌≡◌, sym, ap, ◌∙◌}
 use native.Mathlib.Omega.{arith}
 use Rattle.pack.specs.Bytes.{number}
 use Rattle.pack.proofs.Numbers.{number_one}
-use borrow.Author.Rules.{rules}
 use Rattle.pack.proofs.bytes.number_at.Goals as goal
 
 pub returns-then-wide-eq1 : goal.returns-then-wide-eq1

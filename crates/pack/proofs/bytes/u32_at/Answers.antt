@@ -1,7 +1,6 @@
 -- `pack::bytes::u32_at` meets its contract: two numbers of two bytes. Assumes nothing.
 use native.Mathlib.Omega.{arith}
 use Rattle.pack.proofs.Numbers.{number_join}
-use borrow.Author.Rules.{rules}
 use Rattle.pack.proofs.bytes.u32_at.Goals as goal
 
 pub returns : goal.returns

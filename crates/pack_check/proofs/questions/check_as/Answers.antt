@@ -1,9 +1,7 @@
 -- `pack_check::questions::check_as` meets its contract: each return by the questions asked before it. Assumes nothing.
 use mathlib.Core.Path.{sym, ◌∙◌}
-use borrow.Author.Tests.{not-true, not-false}
 use Rattle.pack.specs.Judge as J
 use Rattle.pack.proofs.Laid.{framed}
-use borrow.Author.Rules.{rules}
 use Rattle.pack_check.proofs.questions.check_as.Goals as goal
 
 pub returns-then-not-question1 : goal.returns-then-not-question1

@@ -5,7 +5,6 @@ use Rattle.slices.specs.Every.{◌and◌}
 use Rattle.pack.specs.Judge as J
 use Rattle.pack.specs.Bytes.{byte}
 use Rattle.pack.specs.Format.{definition_limit}
-use borrow.Author.Rules.{rules}
 use Rattle.pack_check.proofs.questions.question1.Goals as goal
 
 pub returns-then-p-lt4 : goal.returns-then-p-lt4

@@ -1,5 +1,5 @@
 -- `pack_check::questions::question2` meets its contract. The loop's invariant: `at` is where body b has to start, and the bodies before it start
-use Prim.Native.Nat.{ℕ, ◌+◌, ◌*◌, ◌-◌, ◌≤◌, ◌<◌}
+use Prim.Native.Nat.{ℕ, ◌-◌, ◌<◌}
 use mathlib.Core.Bool.{true}
 use mathlib.Core.Path.{◌≡◌, sym, ap, ◌∙◌, subst}
 use native.Mathlib.Numerals.{add-one}

@@ -1,17 +1,11 @@
 -- `pack_check::questions::question2` meets its contract. The loop's invariant: `at` is where body b has to start, and the bodies before it start
-use Prim.Native.Nat.{ℕ, ◌+◌, ◌*◌, ◌-◌, ◌≤◌, ◌<◌}
+use Prim.Native.Nat.{◌+◌, ◌*◌, ◌-◌, ◌≤◌}
 use mathlib.Core.Bool.{true}
-use mathlib.Core.Path.{◌≡◌, sym, ap, ◌∙◌, subst}
-use native.Mathlib.Numerals.{add-one}
-use native.Mathlib.Omega.{arith}
+use mathlib.Core.Path.{◌≡◌}
 use lib.Dec.{eqb}
-use lib.ListN.{length}
-use borrow.Author.Tests.{eq-eqb, ne_eqb}
-use Rattle.slices.specs.Every.{◌and◌, every}
-use Rattle.slices.proofs.Every.{and_no_left, every_more, every_fails}
-use Rattle.pack.specs.Contents.{body_count, offset, place}
+use Rattle.slices.specs.Every.{every}
+use Rattle.pack.specs.Contents.{offset, place}
 use Rattle.pack.specs.Judge as J
-use borrow.Author.Rules.{rules}
 use Rattle.pack_check.proofs.questions.question2.Given as goal
 
 abbrev pub invariant-loop-b : goal.invariant-loop-b

@@ -8,7 +8,6 @@ use Rattle.pack.specs.Bodies.{count, definition_ok}
 use Rattle.pack.specs.Bytes.{number}
 use Rattle.pack.specs.Contents.{size}
 use Rattle.pack.proofs.Laid.{body}
-use borrow.Author.Rules.{rules}
 use Rattle.pack_lists.proofs.definitions.definition_ok.Goals as goal
 
 pub returns-then-n-format : goal.returns-then-n-format

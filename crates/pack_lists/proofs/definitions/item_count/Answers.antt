@@ -4,7 +4,6 @@ use native.Mathlib.Omega.{arith}
 use Rattle.pack.specs.Bytes.{number}
 use Rattle.pack.proofs.Laid.{body}
 use Rattle.pack.proofs.Values.{counted}
-use borrow.Author.Rules.{rules}
 use Rattle.pack_lists.proofs.definitions.item_count.Goals as goal
 
 pub number_at-requires : goal.number_at-requires

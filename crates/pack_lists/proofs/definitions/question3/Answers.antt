@@ -1,17 +1,15 @@
 -- `pack_lists::definitions::question3` meets its contract. The loop's invariant: the definitions passed are well formed, and `items` counts
-use Prim.Native.Nat.{ℕ, ◌*◌, ◌-◌, ◌≤◌}
+use Prim.Native.Nat.{ℕ, ◌-◌}
 use mathlib.Core.Bool.{true}
 use mathlib.Core.Path.{◌≡◌, refl, sym, ap, ◌∙◌, subst}
 use native.Mathlib.Omega.{arith}
 use lib.Dec.{leb}
-use borrow.Author.Tests.{not-true, not-false}
 use Rattle.slices.specs.Every.{◌and◌, every}
 use Rattle.slices.proofs.Every.{and_no_left, every_more, every_fails}
 use Rattle.pack.specs.Bodies.{definition_ok, items_below}
 use Rattle.pack.specs.Contents.{definition_count}
 use Rattle.pack.specs.Judge as J
 use Rattle.pack.proofs.Values.{items_more}
-use borrow.Author.Rules.{rules}
 use Rattle.pack_lists.proofs.definitions.question3.Goals as goal
 
 pub byte_at-n-requires : goal.byte_at-n-requires

@@ -1,17 +1,10 @@
 -- `pack_lists::definitions::question3` meets its contract. The loop's invariant: the definitions passed are well formed, and `items` counts
-use Prim.Native.Nat.{ℕ, ◌*◌, ◌-◌, ◌≤◌}
+use Prim.Native.Nat.{◌*◌, ◌-◌, ◌≤◌}
 use mathlib.Core.Bool.{true}
-use mathlib.Core.Path.{◌≡◌, refl, sym, ap, ◌∙◌, subst}
-use native.Mathlib.Omega.{arith}
-use lib.Dec.{leb}
-use borrow.Author.Tests.{not-true, not-false}
-use Rattle.slices.specs.Every.{◌and◌, every}
-use Rattle.slices.proofs.Every.{and_no_left, every_more, every_fails}
+use mathlib.Core.Path.{◌≡◌}
+use Rattle.slices.specs.Every.{every}
 use Rattle.pack.specs.Bodies.{definition_ok, items_below}
-use Rattle.pack.specs.Contents.{definition_count}
 use Rattle.pack.specs.Judge as J
-use Rattle.pack.proofs.Values.{items_more}
-use borrow.Author.Rules.{rules}
 use Rattle.pack_lists.proofs.definitions.question3.Given as goal
 
 abbrev pub invariant-loop-d : goal.invariant-loop-d

@@ -1,11 +1,10 @@
 -- `pack_lists::definitions::total_items` meets its contract. The loop's invariant: `items` counts the items of the definitions passed. The
-use Prim.Native.Nat.{◌-◌, ◌≤◌, ◌<◌}
+use Prim.Native.Nat.{◌-◌, ◌<◌}
 use mathlib.Core.Path.{◌≡◌, refl, ap, ◌∙◌}
 use native.Mathlib.Omega.{arith}
 use Rattle.pack.specs.Bodies.{items_below}
 use Rattle.pack.specs.Contents.{definition_count}
 use Rattle.pack.proofs.Values.{defined, items_up, items_more}
-use borrow.Author.Rules.{rules}
 use Rattle.pack_lists.proofs.definitions.total_items.Goals as goal
 
 pub byte_at-n-requires : goal.byte_at-n-requires

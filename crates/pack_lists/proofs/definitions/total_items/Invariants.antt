@@ -1,11 +1,7 @@
 -- `pack_lists::definitions::total_items` meets its contract. The loop's invariant: `items` counts the items of the definitions passed. The
-use Prim.Native.Nat.{◌-◌, ◌≤◌, ◌<◌}
-use mathlib.Core.Path.{◌≡◌, refl, ap, ◌∙◌}
-use native.Mathlib.Omega.{arith}
+use Prim.Native.Nat.{◌-◌, ◌≤◌}
+use mathlib.Core.Path.{◌≡◌}
 use Rattle.pack.specs.Bodies.{items_below}
-use Rattle.pack.specs.Contents.{definition_count}
-use Rattle.pack.proofs.Values.{defined, items_up, items_more}
-use borrow.Author.Rules.{rules}
 use Rattle.pack_lists.proofs.definitions.total_items.Given as goal
 
 abbrev pub invariant-loop-d : goal.invariant-loop-d

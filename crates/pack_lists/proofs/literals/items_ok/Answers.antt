@@ -1,19 +1,17 @@
 -- `pack_lists::literals::items_ok` meets its contract. The loop's invariant: whether the items from k on rise from `least` is whether all rise.
-use Prim.Native.Nat.{ℕ, ◌+◌, ◌-◌, ◌≤◌, ◌<◌}
+use Prim.Native.Nat.{ℕ, ◌+◌, ◌-◌, ◌<◌}
 use mathlib.Core.List.{List}
 use mathlib.Core.Path.{◌≡◌, refl, sym, ap, ◌∙◌}
 use native.Mathlib.Nat.{mul-zero}
 use native.Mathlib.Omega.{arith}
-use lib.ListN.{length, get_or, drop}
-use Rattle.ink_list.specs.Entries.{ascends}
+use lib.ListN.{length, get_or}
 use Rattle.slices.specs.Every.{table}
 use Rattle.slices.proofs.Tables.{length_table, get_d_table}
 use Rattle.ink_list.proofs.Formed.{too_low, too_high, goes_on, ascends_end}
-use Rattle.pack.specs.Bodies.{entry_at, item}
+use Rattle.pack.specs.Bodies.{item}
 use Rattle.pack.specs.Bytes.{number}
 use Rattle.pack.proofs.Laid.{body}
 use Rattle.slices.proofs.Strides.{stride_more, stride_fits}
-use borrow.Author.Rules.{rules}
 use Rattle.pack_lists.proofs.literals.items_ok.Goals as goal
 
 pub loop-k-init : goal.loop-k-init

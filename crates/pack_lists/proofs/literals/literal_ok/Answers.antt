@@ -4,7 +4,7 @@ use mathlib.Core.Bool.{true, false}
 use mathlib.Core.Path.{◌≡◌, sym, ap, ◌∙◌}
 use native.Mathlib.Nat.{mul-div-le}
 use native.Mathlib.Omega.{arith}
-use borrow.Author.Tests.{not-true, not-false, eq-eqb, ne_eqb}
+use borrow.Author.Tests.{eq-eqb, ne_eqb}
 use Rattle.ink_list.specs.Entries.{ascends, bits_below, formed}
 use Rattle.slices.specs.Every.{◌and◌, table}
 use Rattle.slices.proofs.Every.{and_no_left, and_no_right}
@@ -12,7 +12,6 @@ use Rattle.pack.specs.Bodies.{origins, entry_count, item, literal_ok}
 use Rattle.pack.specs.Bytes.{u64}
 use Rattle.pack.specs.Contents.{definition_count, size}
 use Rattle.pack.proofs.Laid.{body}
-use borrow.Author.Rules.{rules}
 use Rattle.pack_lists.proofs.literals.literal_ok.Goals as goal
 
 pub returns-then-n-lt8 : goal.returns-then-n-lt8

@@ -1,9 +1,8 @@
 -- `pack_lists::literals::question4` meets its contract. The loop's invariant: the literals passed are well formed. The measure is how many are
-use Prim.Native.Nat.{ℕ, ◌+◌, ◌-◌, ◌≤◌}
+use Prim.Native.Nat.{ℕ, ◌+◌, ◌-◌}
 use mathlib.Core.Bool.{true}
 use mathlib.Core.Path.{◌≡◌, sym, ap, ◌∙◌, subst}
 use native.Mathlib.Omega.{arith}
-use borrow.Author.Tests.{not-true, not-false}
 use Rattle.slices.specs.Every.{every}
 use Rattle.slices.proofs.Every.{every_more, every_fails}
 use Rattle.pack.specs.Bodies.{literal_ok}

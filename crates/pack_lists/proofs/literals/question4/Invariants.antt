@@ -1,15 +1,11 @@
 -- `pack_lists::literals::question4` meets its contract. The loop's invariant: the literals passed are well formed. The measure is how many are
-use Prim.Native.Nat.{ℕ, ◌+◌, ◌-◌, ◌≤◌}
+use Prim.Native.Nat.{◌-◌, ◌≤◌}
 use mathlib.Core.Bool.{true}
-use mathlib.Core.Path.{◌≡◌, sym, ap, ◌∙◌, subst}
-use native.Mathlib.Omega.{arith}
-use borrow.Author.Tests.{not-true, not-false}
+use mathlib.Core.Path.{◌≡◌}
 use Rattle.slices.specs.Every.{every}
-use Rattle.slices.proofs.Every.{every_more, every_fails}
 use Rattle.pack.specs.Bodies.{literal_ok}
 use Rattle.pack.specs.Contents.{literal_body}
 use Rattle.pack.specs.Judge as J
-use borrow.Author.Rules.{rules}
 use Rattle.pack_lists.proofs.literals.question4.Given as goal
 
 abbrev pub invariant-loop-l : goal.invariant-loop-l
