@@ -1,6 +1,6 @@
 -- `call_memory::one_formed` meets its contract. Assumes nothing.
 use mathlib.Core.Path.{sym, ◌∙◌}
-use mathlib.Core.List.{◌∷◌}
+use mathlib.Core.List.{◌∷◌, []}
 use Rattle.call_memory.proofs.UsedOperands.{unlike_long, all_one}
 use Rattle.call_memory.proofs.one_formed.Goals as goal
 

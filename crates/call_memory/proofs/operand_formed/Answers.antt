@@ -1,6 +1,6 @@
 -- `call_memory::operand_formed` meets its contract. Assumes nothing.
 use mathlib.Core.Path.{sym, ◌∙◌}
-use mathlib.Core.List.{◌∷◌}
+use mathlib.Core.List.{◌∷◌, []}
 use Prim.Native.Nat.{ℕ}
 use Rattle.ink_value.specs.Value.{all_formed}
 use Rattle.slices.proofs.Lists.{ap2}

@@ -1,6 +1,6 @@
 -- `call_memory::three_formed` meets its contract: question 7 of three operands, one after another. Assumes nothing.
 use mathlib.Core.Path.{sym, ◌∙◌}
-use mathlib.Core.List.{◌∷◌}
+use mathlib.Core.List.{◌∷◌, []}
 use Rattle.slices.proofs.Every.{and_no_left, and_no_right}
 use Rattle.call_memory.proofs.UsedOperands.{unlike_long, all_three, third}
 use Rattle.call_memory.proofs.three_formed.Goals as goal

@@ -1,6 +1,6 @@
 -- `call_memory::used_formed` meets its contract: Void in the place of an operand that is not used changes nothing. Assumes nothing.
 use mathlib.Core.Path.{◌≡◌, sym, ap, ◌∙◌}
-use mathlib.Core.List.{◌∷◌}
+use mathlib.Core.List.{◌∷◌, []}
 use Rattle.ink_value.specs.Value.{all_formed}
 use Rattle.ink_value.specs.declared.Value.{Value}
 use Rattle.slices.proofs.Lists.{ap3}

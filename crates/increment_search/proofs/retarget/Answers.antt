@@ -1,7 +1,7 @@
 -- `increment_search::retarget` meets its contract: with no entry there is nothing to store, and both searches store the same. Assumes nothing.
 use mathlib.Core.Path.{◌≡◌, sym, ◌∙◌, subst}
 use mathlib.Core.Bool.{true}
-use mathlib.Core.List.{List}
+use mathlib.Core.List.{List, []}
 use lib.IntN.{ℤ}
 use Rattle.ink_list.specs.Entries.{Entry, Stored}
 use Rattle.list_definitions.specs.Search.{rises}

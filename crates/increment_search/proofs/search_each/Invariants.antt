@@ -1,4 +1,5 @@
 -- `increment_search::search_each` meets its contract: what is left to be stored is what is chosen of the definition's values from cursor k
+use mathlib.Core.List.{[]}
 use mathlib.Core.Path.{◌≡◌}
 use Prim.Native.Nat.{◌+◌, ◌-◌, ◌≤◌}
 use lib.IntN.{pos}

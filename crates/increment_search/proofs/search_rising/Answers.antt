@@ -1,4 +1,5 @@
 -- `increment_search::search_rising` meets its contract: what is left to be stored are the definition's values from cursor k on that are
+use mathlib.Core.List.{[]}
 use mathlib.Core.Path.{◌≡◌, refl, sym, ap, ◌∙◌}
 use mathlib.Core.Bool.{true}
 use Prim.Native.Nat.{ℕ, ◌+◌, ◌-◌}

@@ -1,6 +1,6 @@
 -- `list_extremes::extreme_at` meets its contract: of the values before cursor i the best is at `best`, so that the extreme of all is
 use mathlib.Core.Path.{◌≡◌, sym, ap, ◌∙◌}
-use mathlib.Core.List.{◌∷◌}
+use mathlib.Core.List.{◌∷◌, []}
 use Prim.Native.Nat.{◌-◌}
 use native.Mathlib.Omega.{arith}
 use lib.IntN.{pos}

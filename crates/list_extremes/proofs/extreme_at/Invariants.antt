@@ -1,6 +1,6 @@
 -- `list_extremes::extreme_at` meets its contract: of the values before cursor i the best is at `best`, so that the extreme of all is
 use mathlib.Core.Path.{◌≡◌}
-use mathlib.Core.List.{List, ◌∷◌}
+use mathlib.Core.List.{List, ◌∷◌, []}
 use Prim.Native.Nat.{ℕ, ◌-◌, ◌≤◌, ◌<◌}
 use lib.IntN.{pos}
 use lib.ListN.{length, get_or, drop}

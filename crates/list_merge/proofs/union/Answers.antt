@@ -9,7 +9,7 @@ use Rattle.ink_list.proofs.Rests.{rest, rest_length, of_lent}
 use Rattle.ink_list.proofs.Output.{begin, has_room, pushed, appended, fits, turn, kept, done}
 use Rattle.ink_list.proofs.UnionLaws.{union_length, union_limit, union_rest, turn_less, turn_same, turn_more}
 use mathlib.Core.Logic.{inl, inr}
-use mathlib.Core.List.{append-nil}
+use mathlib.Core.List.{append-nil, []}
 use Rattle.list_merge.proofs.union.Goals.{then-loop-i-test+else-j-bi, else-loop-i-test}
 use Rattle.list_merge.proofs.union.Goals as goal
 

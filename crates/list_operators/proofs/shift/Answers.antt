@@ -1,4 +1,5 @@
 -- `list_operators::shift` meets its contract: each arm is its operator's case of the definition. Assumes nothing.
+use mathlib.Core.List.{[]}
 use mathlib.Core.Path.{refl, sym, ap, ◌∙◌}
 use Prim.Native.Nat.{ℕ}
 use borrow.Author.Tests.{ne_eqb}

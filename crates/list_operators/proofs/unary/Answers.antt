@@ -1,4 +1,5 @@
 -- `list_operators::unary` meets its contract: each arm is its operator's case of the definition. Assumes nothing.
+use mathlib.Core.List.{[]}
 use mathlib.Core.Path.{refl, ap, ◌∙◌}
 use borrow.Author.Tests.{ne_eqb}
 use Rattle.ink_list.specs.Entries.{entries}

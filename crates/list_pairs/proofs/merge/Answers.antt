@@ -1,6 +1,6 @@
 -- `list_pairs::merge` meets its contract: each arm is its operator's case of the definition. Assumes nothing.
 use mathlib.Core.Path.{refl, ap, ◌∙◌}
-use mathlib.Core.List.{List}
+use mathlib.Core.List.{List, []}
 use Prim.Native.Nat.{ℕ}
 use borrow.Author.Tests.{ne_eqb}
 use Rattle.ink_list.specs.Entries.{entries}

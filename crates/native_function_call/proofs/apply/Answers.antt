@@ -1,6 +1,6 @@
 -- `native_function_call::apply` meets its contract. Assumes nothing.
 use mathlib.Core.Path.{refl, sym, ap, ◌∙◌}
-use mathlib.Core.List.{◌∷◌}
+use mathlib.Core.List.{◌∷◌, []}
 use native.Mathlib.Omega.{arith}
 use lib.ListN.{take}
 use Rattle.ink_number.specs.Answer.{refuses}

@@ -1,6 +1,6 @@
 -- `words_out::put_value` meets its contract: each arm the words of its case. Assumes nothing.
 use mathlib.Core.Path.{sym, ap, subst, ◌∙◌}
-use mathlib.Core.List.{◌∷◌}
+use mathlib.Core.List.{◌∷◌, []}
 use Prim.Native.Nat.{ℕ}
 use Rattle.ink_number.specs.Int.{residue}
 use Rattle.ink_number.proofs.Signed.{returned}
