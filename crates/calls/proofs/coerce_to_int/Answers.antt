@@ -1,0 +1,15 @@
+-- `calls::coerce_to_int` meets its contract. Assumes nothing.
+use mathlib.Core.Path.{◌∙◌}
+use Rattle.value_conversions.specs.Convert.{coerce_int}
+use Rattle.ink_value.specs.Value.{val_of}
+use Rattle.calls.proofs.Forms.{asked_outcome}
+use Rattle.calls.proofs.Standing.{coerces, int_plain}
+use Rattle.calls.proofs.coerce_to_int.Goals as goal
+
+pub returns-in-Refused : goal.returns-in-Refused
+returns-in-Refused c =
+    coerces coerce_int int_plain _ _ _ _ _ _ (asked_outcome (coerce_int (val_of c.args.items.now c.args.values.now c.args.v)) _ _ (c.operand_asked.ensures coerce_int) c.in-Refused.is)
+
+pub returns-in-Passed : goal.returns-in-Passed
+returns-in-Passed c =
+    coerces coerce_int int_plain _ _ _ _ _ _ (c.coerce_to_int.ensures c.args.items.now c.args.values.now ∙ asked_outcome (coerce_int (val_of c.args.items.now c.args.values.now c.args.v)) _ _ (c.operand_asked.ensures coerce_int) c.in-Passed.is)
