@@ -42,9 +42,8 @@ fn main() {
     fs::write(PathBuf::from(env::var_os("OUT_DIR").unwrap()).join("ink_modules.rs"), text).unwrap();
 
     // only these call the port
-    let archives = folder("INK_LIB_DIR", "../target/staticlib");
     let link = |bin: &str, name: &str| {
-        let archive = archives.join(format!("lib{name}.a"));
+        let archive = folder("INK_LIB_DIR", &format!("../crates/{name}/out")).join(format!("lib{name}.a"));
         println!("cargo:rerun-if-changed={}", archive.display());
         println!("cargo:rustc-link-arg-bin={bin}={}", archive.display());
     };

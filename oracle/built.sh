@@ -6,9 +6,9 @@ source=${INK_SRC:-../../shared/docs/src}
     exit 2
 }
 for archive in ${archives:-ink_operators}; do
-    [ ! -r "${INK_LIB_DIR:-../target/staticlib}/lib$archive.a" ] || continue
+    [ ! -r "${INK_LIB_DIR:-../crates/$archive/out}/lib$archive.a" ] || continue
     [ -z "${INK_LIB_DIR-}" ] || { echo "$name: no lib$archive.a in $INK_LIB_DIR" >&2; exit 2; }
-    (cd .. && rt staticlib "$archive") >&2 || exit 2
+    (cd "../crates/$archive" && rt lib) >&2 || exit 2
 done
 cargo build --release --offline --quiet --bin "$name" >&2 || exit 2
 program=${CARGO_TARGET_DIR:-target}/release/$name
