@@ -9,13 +9,13 @@ pub operand_formed-requires : goal.operand_formed-requires
 operand_formed-requires c = (passed _ c.args.pack.now _ c.in-Passed.is c.check.ensures, runnable1)
 
 pub returns-then-operand_formed : goal.returns-then-operand_formed
-returns-then-operand_formed c =
+returns-then-operand_formed c f =
     coerce_goes _ c.args.pack.now c.args.items.now c.args.values.now f c.args.v (accepted _ _ _ c.in-Passed.is c.check.ensures) (sym c.operand_formed.ensures ∙ c.if-operand_formed.true)
 
 pub returns-in-Refused : goal.returns-in-Refused
-returns-in-Refused c =
+returns-in-Refused c f =
     coerce_refused _ c.args.pack.now c.args.items.now c.args.values.now f c.args.v _ (turned _ _ _ _ c.in-Refused.is c.check.ensures)
 
 pub returns-else-operand_formed : goal.returns-else-operand_formed
-returns-else-operand_formed c =
+returns-else-operand_formed c f =
     coerce_ill _ c.args.pack.now c.args.items.now c.args.values.now f c.args.v (accepted _ _ _ c.in-Passed.is c.check.ensures) (sym c.operand_formed.ensures ∙ c.if-operand_formed.false)
