@@ -1,0 +1,29 @@
+-- `stepping::push_slot` meets its contract: question 9, and then the slot's entries copied to their place. Assumes nothing.
+use mathlib.Core.List.{[]}
+use native.Mathlib.Omega.{arith}
+use Rattle.ink_list.specs.Entries.{item_numbers}
+use Prim.Native.Nat.{zero-le}
+use Rattle.ink_value.proofs.Reading.{few_in, formed_limit}
+use Rattle.stepping.proofs.Pushing.{push_put, push_no}
+use Rattle.operating.proofs.Putting.{place_fits}
+use Rattle.stepping.proofs.push_slot.Goals as goal
+
+pub returns-then-n-ge-STACK_LIMIT : goal.returns-then-n-ge-STACK_LIMIT
+returns-then-n-ge-STACK_LIMIT c =
+    push_no _ _ _ [] _ [] c.if-n-ge-STACK_LIMIT.true
+
+pub overflow_mul-to : goal.overflow_mul-to
+overflow_mul-to c = omega (arith, place_fits c.args.format c.args.n 0 (omega (arith, c.if-n-ge-STACK_LIMIT.false)) zero-le, c.requires.roomy.format.few)
+
+pub store-value-requires : goal.store-value-requires
+store-value-requires c =
+    let f = few_in c.args.format.limit c.args.slot-items.now c.args.slot-values.now c.args.v c.requires.formed in
+    let g = place_fits c.args.format c.args.n _ (omega (arith, c.if-n-ge-STACK_LIMIT.false)) f in
+    record {
+      formed = formed_limit c.args.format.limit c.args.slot-items.now c.args.slot-values.now item_numbers c.args.v (omega (arith, c.requires.roomy.format.few)) c.requires.formed;
+      v_in_bounds = (omega (arith, g, c.requires.roomy.items_room), omega (arith, g, c.requires.roomy.values_room));
+    }
+
+pub returns : goal.returns
+returns c =
+    push_put _ _ _ _ _ _ _ (omega (arith, c.if-n-ge-STACK_LIMIT.false)) (c.store-value.ensures c.args.format c.requires.formed)

@@ -1,0 +1,36 @@
+-- `word_lists::list` meets its contract. Assumes nothing.
+use mathlib.Core.Path.{refl}
+use lib.ListN.{take}
+use Rattle.ink_list.proofs.Laws.{rising_length}
+use Rattle.ink_number.specs.Answer.{gives}
+use Rattle.ink_value.proofs.ReadBack.{first_wf}
+use Rattle.list_operators.specs.Lists.{definitions, entries_for, list_result}
+use Rattle.list_operators.proofs.Listing.{entries_rise}
+use Rattle.words_in.specs.Words.{value_at}
+use Rattle.value_words.proofs.Saying.{calls}
+use Rattle.value_words.proofs.Few.{small_outcome}
+use Rattle.word_kinds.specs.Operands.{vals_at}
+use Rattle.word_lists.proofs.list.Goals as goal
+
+pub list-v-requires : goal.list-v-requires
+list-v-requires c =
+    record {
+      room = c.requires.room.0;
+      first_formed = rw (c.operand_at-a.ensures, c.operand_at-b.ensures, c.operand_at-c.ensures) c.requires.first_in;
+      le_count = (c.requires.room.1, c.requires.room.2);
+    }
+
+pub put_value-requires : goal.put_value-requires
+put_value-requires c =
+    let is = c.args.items.now in
+    let vs = c.args.values.now in
+    let ws = c.args.operands.now in
+    let u = definitions c.args.ends.now c.args.defined.now c.args.limit in
+    let l = take c.args.count (vals_at is vs ws) in
+    let up = entries_rise u c.args.limit c.requires.room.0.within c.args.op l (first_wf c.args.limit is vs c.args.count (value_at ws 0) (value_at ws 1) (value_at ws 2) c.requires.first_in) in
+    small_outcome c.args.limit c.requires.room.0.small (gives (list_result u c.args.op l)) _ (rw (c.operand_at-a.ensures, c.operand_at-b.ensures, c.operand_at-c.ensures) at c.list-v.ensures.answered)
+    (rising_length c.args.limit (entries_for u c.args.op l) up)
+
+pub returns : goal.returns
+returns c =
+    calls _ _ _ _ _ _ _ _ _ refl (rw (c.operand_at-a.ensures, c.operand_at-b.ensures, c.operand_at-c.ensures) at c.list-v.ensures) (refl, c.put_value.ensures)
