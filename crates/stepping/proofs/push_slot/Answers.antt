@@ -17,10 +17,10 @@ overflow_mul-to c = omega (arith, place_fits c.args.format c.args.n 0 (omega (ar
 
 pub store-value-requires : goal.store-value-requires
 store-value-requires c =
-    let f = few_in c.args.format.limit c.args.slot-items.now c.args.slot-values.now c.args.v c.requires.formed in
+    let f = few_in c.args.format.limit c.args.slot_items.now c.args.slot_values.now c.args.v c.requires.formed in
     let g = place_fits c.args.format c.args.n _ (omega (arith, c.if-n-ge-STACK_LIMIT.false)) f in
     record {
-      formed = formed_limit c.args.format.limit c.args.slot-items.now c.args.slot-values.now item_numbers c.args.v (omega (arith, c.requires.roomy.format.few)) c.requires.formed;
+      formed = formed_limit c.args.format.limit c.args.slot_items.now c.args.slot_values.now item_numbers c.args.v (omega (arith, c.requires.roomy.format.few)) c.requires.formed;
       v_in_bounds = (omega (arith, g, c.requires.roomy.items_room), omega (arith, g, c.requires.roomy.values_room));
     }
 

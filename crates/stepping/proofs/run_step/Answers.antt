@@ -39,32 +39,32 @@ push_literal-requires c =
 
 pub returns-in-Op : goal.returns-in-Op
 returns-in-Op c =
-    λ slots q f t. op_steps (value_pushed (literal_of (decoded c.args.format c.args.pack.now)) (map (val_of c.args.slot-items.now c.args.slot-values.now) slots)) (apply_op (definitions c.args.ends.now c.args.defined.now c.args.format.limit)) c.args.n f _ _ _ _ _ (instr_of c.args.i) _ (ap instr_of c.in-Op.is) (c.run_op.ensures f (subst (λ (x : Instruction). IfOp (instr_of x) (λ o. Operands c.args.work_items.now c.args.work_values.now c.args.a c.args.b c.args.c c.args.n (operand_count o) f)) c.in-Op.is t))
+    λ slots q f t. op_steps (value_pushed (literal_of (decoded c.args.format c.args.pack.now)) (map (val_of c.args.slot_items.now c.args.slot_values.now) slots)) (apply_op (definitions c.args.ends.now c.args.defined.now c.args.format.limit)) c.args.n f _ _ _ _ _ (instr_of c.args.i) _ (ap instr_of c.in-Op.is) (c.run_op.ensures f (subst (λ (x : Instruction). IfOp (instr_of x) (λ o. Operands c.args.work_items.now c.args.work_values.now c.args.a c.args.b c.args.c c.args.n (operand_count o) f)) c.in-Op.is t))
 
 pub returns-in-Bool : goal.returns-in-Bool
 returns-in-Bool c =
-    λ slots q f t. push_steps (value_pushed (literal_of (decoded c.args.format c.args.pack.now)) (map (val_of c.args.slot-items.now c.args.slot-values.now) slots)) (apply_op (definitions c.args.ends.now c.args.defined.now c.args.format.limit)) c.args.n f _ _ _ _ _ (instr_of c.args.i) (push_bool c.in-Bool.b) (ap instr_of c.in-Bool.is) (bool c.in-Bool.b) (refl) (c.push_value.ensures [] [] c.args.format c.args.work_items.now c.args.work_values.now)
+    λ slots q f t. push_steps (value_pushed (literal_of (decoded c.args.format c.args.pack.now)) (map (val_of c.args.slot_items.now c.args.slot_values.now) slots)) (apply_op (definitions c.args.ends.now c.args.defined.now c.args.format.limit)) c.args.n f _ _ _ _ _ (instr_of c.args.i) (push_bool c.in-Bool.b) (ap instr_of c.in-Bool.is) (bool c.in-Bool.b) (refl) (c.push_value.ensures [] [] c.args.format c.args.work_items.now c.args.work_values.now)
 
 pub returns-in-Int : goal.returns-in-Int
 returns-in-Int c =
-    λ slots q f t. push_steps (value_pushed (literal_of (decoded c.args.format c.args.pack.now)) (map (val_of c.args.slot-items.now c.args.slot-values.now) slots)) (apply_op (definitions c.args.ends.now c.args.defined.now c.args.format.limit)) c.args.n f _ _ _ _ _ (instr_of c.args.i) (push_int c.in-Int.z) (ap instr_of c.in-Int.is) (_) (ap int (to_z-of_z w32 c.in-Int.z (record { sfits = c.in-Int.known_told-in-Int-1-own.given.0.1 }))) (c.push_value-in-Int.ensures [] [] c.args.format c.args.work_items.now c.args.work_values.now)
+    λ slots q f t. push_steps (value_pushed (literal_of (decoded c.args.format c.args.pack.now)) (map (val_of c.args.slot_items.now c.args.slot_values.now) slots)) (apply_op (definitions c.args.ends.now c.args.defined.now c.args.format.limit)) c.args.n f _ _ _ _ _ (instr_of c.args.i) (push_int c.in-Int.z) (ap instr_of c.in-Int.is) (_) (ap int (to_z-of_z w32 c.in-Int.z (record { sfits = c.in-Int.known_told-in-Int-1-own.given.0.1 }))) (c.push_value-in-Int.ensures [] [] c.args.format c.args.work_items.now c.args.work_values.now)
 
 pub returns-in-Float : goal.returns-in-Float
 returns-in-Float c =
-    λ slots q f t. push_steps (value_pushed (literal_of (decoded c.args.format c.args.pack.now)) (map (val_of c.args.slot-items.now c.args.slot-values.now) slots)) (apply_op (definitions c.args.ends.now c.args.defined.now c.args.format.limit)) c.args.n f _ _ _ _ _ (instr_of c.args.i) (push_float c.in-Float.b) (ap instr_of c.in-Float.is) (_) (ap float c.float_from_bits.ensures.value) (c.push_value-in-Float.ensures [] [] c.args.format c.args.work_items.now c.args.work_values.now)
+    λ slots q f t. push_steps (value_pushed (literal_of (decoded c.args.format c.args.pack.now)) (map (val_of c.args.slot_items.now c.args.slot_values.now) slots)) (apply_op (definitions c.args.ends.now c.args.defined.now c.args.format.limit)) c.args.n f _ _ _ _ _ (instr_of c.args.i) (push_float c.in-Float.b) (ap instr_of c.in-Float.is) (_) (ap float c.float_from_bits.ensures.value) (c.push_value-in-Float.ensures [] [] c.args.format c.args.work_items.now c.args.work_values.now)
 
 pub returns-in-List : goal.returns-in-List
 returns-in-List c =
-    λ slots q f t. push_steps (value_pushed (literal_of (decoded c.args.format c.args.pack.now)) (map (val_of c.args.slot-items.now c.args.slot-values.now) slots)) (apply_op (definitions c.args.ends.now c.args.defined.now c.args.format.limit)) c.args.n f _ _ _ _ _ (instr_of c.args.i) (push_list c.in-List.l) (ap instr_of c.in-List.is) (_) (refl) c.push_literal.ensures
+    λ slots q f t. push_steps (value_pushed (literal_of (decoded c.args.format c.args.pack.now)) (map (val_of c.args.slot_items.now c.args.slot_values.now) slots)) (apply_op (definitions c.args.ends.now c.args.defined.now c.args.format.limit)) c.args.n f _ _ _ _ _ (instr_of c.args.i) (push_list c.in-List.l) (ap instr_of c.in-List.is) (_) (refl) c.push_literal.ensures
 
 pub returns-in-Slot : goal.returns-in-Slot
 returns-in-Slot c =
     let k = c.in-Slot.field-0 in
     λ slots q f t.
     let at = subst (λ (x : Instruction). SlotIs slots c.args.slot (instr_of x)) c.in-Slot.is q in
-    push_steps (value_pushed (literal_of (decoded c.args.format c.args.pack.now)) (map (val_of c.args.slot-items.now c.args.slot-values.now) slots)) (apply_op (definitions c.args.ends.now c.args.defined.now c.args.format.limit)) c.args.n f _ _ _ _ _ (instr_of c.args.i) (push_slot k) (ap instr_of c.in-Slot.is) (_)
-    (ap (val_of c.args.slot-items.now c.args.slot-values.now) at.1 ∙ slot_value c.args.slot-items.now c.args.slot-values.now slots k at.0) c.push_slot.ensures
+    push_steps (value_pushed (literal_of (decoded c.args.format c.args.pack.now)) (map (val_of c.args.slot_items.now c.args.slot_values.now) slots)) (apply_op (definitions c.args.ends.now c.args.defined.now c.args.format.limit)) c.args.n f _ _ _ _ _ (instr_of c.args.i) (push_slot k) (ap instr_of c.in-Slot.is) (_)
+    (ap (val_of c.args.slot_items.now c.args.slot_values.now) at.1 ∙ slot_value c.args.slot_items.now c.args.slot_values.now slots k at.0) c.push_slot.ensures
 
 pub returns-in-Void : goal.returns-in-Void
 returns-in-Void c =
-    λ slots q f t. push_steps (value_pushed (literal_of (decoded c.args.format c.args.pack.now)) (map (val_of c.args.slot-items.now c.args.slot-values.now) slots)) (apply_op (definitions c.args.ends.now c.args.defined.now c.args.format.limit)) c.args.n f _ _ _ _ _ (instr_of c.args.i) (push_void) (ap instr_of c.in-Void.is) (void) (refl) (c.push_value-in-Void.ensures [] [] c.args.format c.args.work_items.now c.args.work_values.now)
+    λ slots q f t. push_steps (value_pushed (literal_of (decoded c.args.format c.args.pack.now)) (map (val_of c.args.slot_items.now c.args.slot_values.now) slots)) (apply_op (definitions c.args.ends.now c.args.defined.now c.args.format.limit)) c.args.n f _ _ _ _ _ (instr_of c.args.i) (push_void) (ap instr_of c.in-Void.is) (void) (refl) (c.push_value-in-Void.ensures [] [] c.args.format c.args.work_items.now c.args.work_values.now)
