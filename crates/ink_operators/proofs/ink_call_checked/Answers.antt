@@ -1,0 +1,72 @@
+-- `ink_operators::ink_call_checked` meets its contract: question 7, and then as `ink_apply`. Assumes nothing.
+use mathlib.Core.Path.{◌≡◌, refl, sym, ap, ◌∙◌}
+use mathlib.Core.Bool.{Bool, true}
+use mathlib.Core.List.{List, [], ◌∷◌}
+use Prim.Native.Nat.{ℕ}
+use lib.IntN.{ℤ}
+use lib.ListN.{length, take}
+use borrow.Author.Tests.{leb-true}
+use native.Mathlib.Omega.{arith}
+use Rattle.slices.specs.Every.{◌and◌}
+use Rattle.slices.proofs.Every.{and_left, and_right}
+use Rattle.ink_value.specs.declared.Value.{Value}
+use Rattle.slices.proofs.Lists.{ap3}
+use Rattle.list_definitions.specs.Defs.{ListDefinitions}
+use Rattle.list_operators.specs.Lists.{definitions}
+use Rattle.call_memory.specs.Lent.{operands_ok, results_ok}
+use Rattle.calls.specs.Call.{called}
+use Rattle.calls.proofs.Forms.{ill_lent}
+use Rattle.words_in.specs.Words.{value_at}
+use Rattle.value_words.specs.Calls.{operands_in}
+use Rattle.value_words.proofs.Saying.{refused_calls, calls_is}
+use Rattle.word_operators.proofs.Called.{held, called_numbers}
+use borrow.Author.Rules.{rules}
+use Rattle.ink_operators.proofs.ink_call_checked.Goals as goal
+
+lent : (u : ListDefinitions) (is : List ℕ) (vs : List ℤ) (oi : List ℕ) (ov : List ℤ) (n : ℕ) (ws : List ℕ) {a b c : Value} {yes : Bool}
+    → a ≡ value_at ws 0 → b ≡ value_at ws 1 → c ≡ value_at ws 2 → yes ≡ (operands_ok u is vs (take n (a ∷ b ∷ c ∷ [])) and results_ok u oi ov) → yes ≡ true
+    → Lent u is vs oi ov n ws
+lent u is vs oi ov n ws p q r e t =
+    let k : (operands_ok u is vs (take n (operands_in ws)) and results_ok u oi ov) ≡ true =
+    sym (ap3 (λ (a b c : Value). operands_ok u is vs (take n (a ∷ b ∷ c ∷ [])) and results_ok u oi ov) p q r) ∙ sym e ∙ t in
+    let room = and_right _ _ k in
+    record {
+      formed = and_left _ _ k;
+      items_room = leb-true u.limit (length oi) (and_left _ _ room);
+      values_room = leb-true u.limit (length ov) (and_right _ _ room);
+    }
+
+pub returns-then-not-lent_well : goal.returns-then-not-lent_well
+returns-then-not-lent_well c =
+    let is = c.args.items.now in
+    let vs = c.args.values.now in
+    let ws = c.args.operands.now in
+    let u = definitions c.args.ends.now c.args.defined.now _ in
+    let k : c.operand_at-a.result ∷ c.operand_at-b.result ∷ c.operand_at-c.result ∷ [] ≡ operands_in ws = ap3 (λ (a b c : Value). a ∷ b ∷ c ∷ []) c.operand_at-a.ensures c.operand_at-b.ensures c.operand_at-c.ensures in
+    calls_is (sym (ap (λ (l : List Value). called is vs c.args.result_items.now c.args.result_values.now c.args.op c.args.count l u) k))
+    (refused_calls _ 7 _ _ _ _ (ill_lent is vs c.args.result_items.now c.args.result_values.now c.args.op c.args.count (c.operand_at-a.result ∷ c.operand_at-b.result ∷ c.operand_at-c.result ∷ []) u (sym c.lent_well.ensures ∙ c.if-not-lent_well.true)) refl c.put_index.ensures)
+
+pub number_kind-kind-requires : goal.number_kind-kind-requires
+number_kind-kind-requires c =
+    let u = definitions c.args.ends.now c.args.defined.now _ in
+    let l = lent u c.args.items.now c.args.values.now c.args.result_items.now c.args.result_values.now c.args.count c.args.operands.now c.operand_at-a.ensures c.operand_at-b.ensures c.operand_at-c.ensures c.lent_well.ensures (c.if-not-lent_well.false) in
+    held _ (omega arith) (omega arith) c.args.ends.now c.args.defined.now c.args.items.now c.args.values.now c.args.result_items.now c.args.result_values.now c.args.operands.now c.args.op c.args.count c.requires l.formed (search rules)
+
+pub number-requires : goal.number-requires
+number-requires c = c.number_kind-kind.ensures.yes c.if-kind-lt-LIST.true
+
+pub returns-then-kind-lt-LIST : goal.returns-then-kind-lt-LIST
+returns-then-kind-lt-LIST c =
+    let u = definitions c.args.ends.now c.args.defined.now _ in
+    let l = lent u c.args.items.now c.args.values.now c.args.result_items.now c.args.result_values.now c.args.count c.args.operands.now c.operand_at-a.ensures c.operand_at-b.ensures c.operand_at-c.ensures c.lent_well.ensures (c.if-not-lent_well.false) in
+    called_numbers _ (omega arith) (omega arith) c.args.ends.now c.args.defined.now c.args.items.now c.args.values.now c.args.result_items.now c.args.result_values.now c.args.operands.now c.args.op c.args.count c.requires l.formed l.items_room l.values_room c.number_kind-kind.result _ _ (c.number_kind-kind.ensures.yes c.if-kind-lt-LIST.true) c.number.ensures
+
+pub apply-requires : goal.apply-requires
+apply-requires c =
+    let u = definitions c.args.ends.now c.args.defined.now _ in
+    let l = lent u c.args.items.now c.args.values.now c.args.result_items.now c.args.result_values.now c.args.count c.args.operands.now c.operand_at-a.ensures c.operand_at-b.ensures c.operand_at-c.ensures c.lent_well.ensures (c.if-not-lent_well.false) in
+    record {
+      pack_lists = c.requires;
+      operands_ok = l.formed;
+      results_fit = (l.items_room, l.values_room, omega arith, omega arith);
+    }
