@@ -39,7 +39,7 @@ pub fn rem(a: f32, b: f32) -> f32
     ensures value { result ≡ rem_f a b }
     ensures exactly { Exactly (Remainder a b) result }
 {
-    a % b
+    float_remainder::rem(a, b)
 }
 
 pub fn neg(a: f32) -> f32

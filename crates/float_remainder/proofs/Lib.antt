@@ -1,0 +1,4 @@
+pub mod Scaling
+pub mod Units
+pub mod Product
+pub mod Remains
