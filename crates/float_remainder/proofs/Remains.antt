@@ -28,8 +28,8 @@ num_pos n d = rw num_is (mul-pos (zero-lt-suc n) (up_pos d))
 
 -- ---- of finite Floats
 
-no_units : (n : ℕ) (d : ℤ) (Y : ℕ) → 0 < Y → numerator zero d * 2 ^ 149 ≡ Y * denominator d → ⊥
-no_units n d Y h e =
+no_units : (d : ℤ) (Y : ℕ) → 0 < Y → numerator zero d * 2 ^ 149 ≡ Y * denominator d → ⊥
+no_units d Y h e =
     let p = mul-pos h (den_pos d) in
     let z : numerator zero d ≡ 0 = num_is zero d ∙ zero-mul (up d) in
     omega arith
@@ -66,7 +66,7 @@ of_units nan b r s t X Y f g k h p q v = absurd p
 of_units (inf s') b r s t X Y f g k h p q v = absurd p
 of_units (fin s' m e) nan r s t X Y f g k h p q v = absurd q
 of_units (fin s' m e) (inf t') r s t X Y f g k h p q v = absurd q
-of_units (fin s' m e) (fin t' zero d) r s t X Y f g k h p q v = absurd (no_units 0 d Y h q.1)
+of_units (fin s' m e) (fin t' zero d) r s t X Y f g k h p q v = absurd (no_units d Y h q.1)
 of_units (fin s' m e) (fin t' (suc n) d) r s t X Y f g k h p q v =
     (rem_meets (fin s' m e) (fin t' (suc n) d) f g).only r k
     (rescale_is r s' (X % Y) (2 ^ 149) (A m e n d X Y - A m e n d X Y / B m e n d X Y * B m e n d X Y) (D m e n d X Y) (pow_pos 149) (same m e n d X Y p.1 q.1 h)

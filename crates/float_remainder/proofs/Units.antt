@@ -139,9 +139,6 @@ high_power k h l =
 abbrev pub signed : ℕ → ℕ → ℕ
 signed x p = x - x % 2 ^ 31 + p
 
-pub signed_fits : (x p : ℕ) → x < 2 ^ 32 → p < infinity → signed x p < 2 ^ 32
-signed_fits x p h k = omega arith
-
 rest_is : (x p : ℕ) → p < infinity → signed x p % 2 ^ 31 ≡ p
 rest_is x p h = omega arith
 
