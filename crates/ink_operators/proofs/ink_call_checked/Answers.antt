@@ -2,7 +2,7 @@
 use mathlib.Core.Path.{◌≡◌, refl, sym, ap, ◌∙◌}
 use mathlib.Core.Bool.{Bool, true}
 use mathlib.Core.List.{List, [], ◌∷◌}
-use Prim.Native.Nat.{ℕ}
+use Prim.Native.Nat.{ℕ, ◌≤◌}
 use lib.IntN.{ℤ}
 use lib.ListN.{length, take}
 use borrow.Author.Tests.{leb-true}
@@ -22,6 +22,12 @@ use Rattle.value_words.proofs.Saying.{refused_calls, calls_is}
 use Rattle.word_operators.proofs.Called.{held, called_numbers}
 use borrow.Author.Rules.{rules}
 use Rattle.ink_operators.proofs.ink_call_checked.Goals as goal
+
+-- what a yes to question 7 tells of the words of the operands
+record Lent (u : ListDefinitions) (is : List ℕ) (vs : List ℤ) (oi : List ℕ) (ov : List ℤ) (n : ℕ) (ws : List ℕ) : Type 0 where
+  formed : operands_ok u is vs (take n (operands_in ws)) ≡ true
+  items_room : u.limit ≤ length oi
+  values_room : u.limit ≤ length ov
 
 lent : (u : ListDefinitions) (is : List ℕ) (vs : List ℤ) (oi : List ℕ) (ov : List ℤ) (n : ℕ) (ws : List ℕ) {a b c : Value} {yes : Bool}
     → a ≡ value_at ws 0 → b ≡ value_at ws 1 → c ≡ value_at ws 2 → yes ≡ (operands_ok u is vs (take n (a ∷ b ∷ c ∷ [])) and results_ok u oi ov) → yes ≡ true
