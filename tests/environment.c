@@ -1,7 +1,7 @@
 /* The operators under every floating-point environment, called between ink_environment_enter and ink_environment_leave: four rounding
  * modes, flush-to-zero, denormals-are-zero, exceptions masked or not. Build and run it from the repository's root, after
  * `rt lib` in crates/ink_operators; it prints how many calls it made and how many answered otherwise, and what the guard costs:
- *     cc -std=c11 -O2 -Wall -Wextra -Ihosts/include tests/environment.c -Lcrates/ink_operators/out -link_operators -lm -o /tmp/environment &&
+ *     cc -std=c11 -O2 -Wall -Wextra -Ihosts/include tests/environment.c -Lcrates/ink_operators/out -link_operators -o /tmp/environment &&
  *     /tmp/environment
  */
 #define _POSIX_C_SOURCE 200809L

@@ -1,6 +1,6 @@
 /* Runs every sheet of a pack with all slots Void and prints what the program sheetrun prints: example [PACK], the sample of document 01
  * where no file is named. Build and run it from the repository's root, after `rt lib` in crates/ink_operators:
- *     cc -O2 -Wall -Wextra -Ihosts/include hosts/c/example.c -Lcrates/ink_operators/out -link_operators -lm -o /tmp/example && /tmp/example
+ *     cc -O2 -Wall -Wextra -Ihosts/include hosts/c/example.c -Lcrates/ink_operators/out -link_operators -o /tmp/example && /tmp/example
  */
 #include <inttypes.h>
 #include <stdio.h>

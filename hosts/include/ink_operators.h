@@ -1,4 +1,4 @@
-/* The native operators of Ink, as a static library: libink_operators.a, linked with -lm.
+/* The native operators of Ink, as a static library: libink_operators.a.
  *
  * Every function below is proved to answer what the definitions in crates/ say, for any bytes and any words; the few duties of a caller
  * are named. The numbers of the questions are those of README.md.

@@ -15,6 +15,4 @@ fn main() {
     println!("cargo:rerun-if-changed={}", archive.display());
     println!("cargo:rustc-link-search=native={}", dir.display());
     println!("cargo:rustc-link-lib=static=ink_operators");
-    // the Float remainder is fmodf
-    println!("cargo:rustc-link-lib=m");
 }

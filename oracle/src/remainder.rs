@@ -1,5 +1,4 @@
-//! The Float remainder in whole numbers, from document 01. Both sides get theirs from the C library's `fmodf`, so comparing
-//! them with each other says nothing of it.
+//! The Float remainder in whole numbers, from document 01. The Rust gets its own from the C library's `fmodf`.
 
 /// |x| = m * 2^e with m below 2^24, of a finite float.
 fn parts(bits: u32) -> (u32, i32) {
