@@ -8,6 +8,7 @@ ghost use Rattle.ink_list.specs.Ops.{has, hasnt};
 use ink_list::cursor::{skip_below, stands};
 
 // Has: both are non-empty, and b's items all lie in a.
+#[tactic(auto, using(ink_list::proofs::TestLaws::has_left_empty, ink_list::proofs::TestLaws::has_right_empty, ink_list::proofs::TestLaws::has_some))]
 pub fn has(ai: &[u16], bi: &[u16]) -> bool
     requires { Ascends 0 item_numbers ai.now × Ascends 0 item_numbers bi.now }
     ensures { result ≡ has ai.now bi.now }

@@ -4,23 +4,8 @@ use Prim.Native.Nat.{◌-◌}
 use lib.ListN.{drop}
 use borrow.Author.Rules.{rules}
 use Rattle.ink_list.specs.Entries.{item_numbers}
-use Rattle.ink_list.proofs.TestLaws.{has_no, has_yes, has_some, has_left_empty, has_right_empty, subset_end}
+use Rattle.ink_list.proofs.TestLaws.{has_no, has_yes, subset_end}
 use Rattle.list_has.proofs.has.Goals as goal
-
-pub returns-then-ai-eq0 : goal.returns-then-ai-eq0
-returns-then-ai-eq0 c =
-    let a = c.args in
-    sym (has_left_empty a.ai.now a.bi.now c.if-ai-eq0.true)
-
-pub returns-then-bi-eq0 : goal.returns-then-bi-eq0
-returns-then-bi-eq0 c =
-    let a = c.args in
-    sym (has_right_empty a.ai.now a.bi.now c.if-bi-eq0.true)
-
-pub loop-j-init : goal.loop-j-init
-loop-j-init c =
-    let a = c.args in
-    (search rules, search rules, has_some a.ai.now a.bi.now c.if-ai-eq0.false c.if-bi-eq0.false)
 
 pub returns-then-not-stands : goal.returns-then-not-stands
 returns-then-not-stands c =
