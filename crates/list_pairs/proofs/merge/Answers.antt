@@ -8,6 +8,7 @@ use Rattle.list_pairs.specs.Pairs.{merge_l}
 use Rattle.ink_value.proofs.Reading.{wrote_is}
 use Rattle.ink_list.specs.Ops.{union, without, intersect}
 use Rattle.ink_list.proofs.Rests.{items_entries}
+use borrow.Author.Rules.{rules}
 use Rattle.list_pairs.proofs.merge.Goals as goal
 
 pub returns-in-0 : goal.returns-in-0
@@ -16,7 +17,7 @@ returns-in-0 c = λ limit p q. wrote_is (ap (λ o. merge_l limit o (entries c.ar
 
 pub returns-in-1 : goal.returns-in-1
 unfolding merge_l
-returns-in-1 c = λ limit p q. wrote_is (ap (λ o. merge_l limit o (entries c.args.ai.now c.args.av.now) (entries c.args.bi.now c.args.bv.now)) c.in-1.is ∙ ap (λ (l : List ℕ). without limit (entries c.args.ai.now c.args.av.now) l) (items_entries c.args.bi.now c.args.bv.now c.requires.lent_2.long)) (c.without.ensures limit p)
+returns-in-1 c = λ limit p q. wrote_is (ap (λ o. merge_l limit o (entries c.args.ai.now c.args.av.now) (entries c.args.bi.now c.args.bv.now)) c.in-1.is ∙ ap (λ (l : List ℕ). without limit (entries c.args.ai.now c.args.av.now) l) (items_entries c.args.bi.now c.args.bv.now c.requires.lent_2.long)) (search rules)
 
 pub returns-in-24 : goal.returns-in-24
 unfolding merge_l

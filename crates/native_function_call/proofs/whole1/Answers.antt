@@ -17,6 +17,7 @@ use lib.Signed.{mag}
 use Rattle.ink_value.specs.Val.{Val}
 use mir.Syntax.{w32}
 use Rattle.native_function_call.proofs.whole1.Goals.{Start}
+use borrow.Author.Rules.{rules}
 use Rattle.native_function_call.proofs.whole1.Goals as goal
 
 -- at an operator that leaves the Int as it is
@@ -70,7 +71,7 @@ returns-in-28 c =
 
 pub returns-in-29 : goal.returns-in-29
 unfolding whole_unary
-returns-in-29 c = λ is h. kept (goal.at.returns-in-29 c).Start is c.in-29.is c.int_from-in-29.type_inv (c.int_from-in-29.ensures is h) refl
+returns-in-29 c = λ is h. search (rules, kept (goal.at.returns-in-29 c).Start)
 
 pub returns-in_default : goal.returns-in_default
 unfolding whole_unary

@@ -4,9 +4,11 @@ use lib.IntN.{ℤ, ◌+ℤ◌, ◌-ℤ◌, ◌*ℤ◌}
 use borrow.Author.Tests.{ne_eqb}
 use Rattle.number_operators.specs.Numbers.{arith_z}
 use Rattle.ink_value.proofs.Arms.{at}
-use Rattle.ink_number.specs.Int.{wrap, quotient, remainder, min_z, max_z}
+use Rattle.ink_number.specs.Int.{wrap, quotient, remainder}
 use Rattle.ink_number.specs.Answer.{gives}
 use Rattle.ink_number.proofs.Signed.{read2, returned}
+use native.Mathlib.Omega.{arith}
+use Rattle.std.proofs.lemmas.Int.{to_z-of_z}
 use Rattle.number_operators.proofs.arith_int.Goals as goal
 
 pub returns-in-0 : goal.returns-in-0
@@ -37,12 +39,12 @@ returns-in-4 c = at (λ o. arith_z o c.args.x c.args.y) c.in-4.is
 pub returns-in-15 : goal.returns-in-15
 unfolding arith_z
 returns-in-15 c = at (λ o. arith_z o c.args.x c.args.y) c.in-15.is
-    (ap gives (returned c.min.type_inv ∙ c.min.ensures ∙ read2 (min_z) c.args.x c.args.y c.ranges.x c.ranges.y))
+    (grind (arith, to_z-of_z))
 
 pub returns-in-16 : goal.returns-in-16
 unfolding arith_z
 returns-in-16 c = at (λ o. arith_z o c.args.x c.args.y) c.in-16.is
-    (ap gives (returned c.max.type_inv ∙ c.max.ensures ∙ read2 (max_z) c.args.x c.args.y c.ranges.x c.ranges.y))
+    (grind (arith, to_z-of_z))
 
 pub returns-in_default : goal.returns-in_default
 unfolding arith_z

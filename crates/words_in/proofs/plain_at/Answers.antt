@@ -2,6 +2,7 @@
 use borrow.Author.Tests.{ne_eqb}
 use Rattle.ink_value.proofs.Arms.{at}
 use Rattle.words_in.specs.Words.{plain_at}
+use borrow.Author.Rules.{rules}
 use Rattle.words_in.proofs.plain_at.Goals as goal
 
 pub returns-in-0 : goal.returns-in-0
@@ -12,7 +13,7 @@ returns-in-0 c =
 pub returns-in-1 : goal.returns-in-1
 unfolding plain_at
 returns-in-1 c =
-    at (λ k. plain_at k c.args.w) c.in-1.is c.int_at.ensures
+    at (λ k. plain_at k c.args.w) c.in-1.is (search rules)
 
 pub returns-in-2 : goal.returns-in-2
 unfolding plain_at
