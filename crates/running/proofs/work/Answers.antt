@@ -218,7 +218,7 @@ pub returns-then-n-eq1 : goal.returns-then-n-eq1
 returns-then-n-eq1 c =
     let l = c.loop-at in
     let sp = c.sheet_span-span.ensures in
-    record { end_is = one_left c.args.pack.now c.args.sheet (definitions c.args.ends.now c.args.defined.now c.args.format.limit) (map (val_of c.args.slot_items.now c.args.slot_values.now) c.args.slots) c.args.work_items.now c.args.work_values.now l.used l.work_items l.work_values l.stack l.n l.at l.i l.invariant (omega (arith, sp.ends, c.loop-at-test.false)) c.if-n-eq1.true; end_formed = l.invariant.formed 0 (omega (arith, c.if-n-eq1.true)); items_touched = l.invariant.items_touched; values_touched = l.invariant.values_touched; few = l.invariant.few }
+    record { end_is = one_left c.args.pack.now c.args.sheet (definitions c.args.ends.now c.args.defined.now c.args.format.limit) (map (val_of c.args.slot_items.now c.args.slot_values.now) c.args.slots) c.args.work_items.now c.args.work_values.now l.used l.work_items l.work_values l.stack l.n l.at l.i l.invariant (omega (arith, sp.ends)) c.if-n-eq1.true; end_formed = l.invariant.formed 0 (omega (arith, c.if-n-eq1.true)); items_touched = l.invariant.items_touched; values_touched = l.invariant.values_touched; few = l.invariant.few }
 
 pub shape_of-used-else-n-eq1 : goal.shape_of-used-else-n-eq1
 shape_of-used-else-n-eq1 c =
@@ -239,4 +239,4 @@ pub returns-else-n-eq1 : goal.returns-else-n-eq1
 returns-else-n-eq1 c =
     let l = c.loop-at in
     let sp = c.sheet_span-span.ensures in
-    record { end_is = not_one c.args.pack.now c.args.sheet (definitions c.args.ends.now c.args.defined.now c.args.format.limit) (map (val_of c.args.slot_items.now c.args.slot_values.now) c.args.slots) c.args.work_items.now c.args.work_values.now l.used l.work_items l.work_values l.stack l.n l.at l.i l.invariant (omega (arith, sp.ends, c.loop-at-test.false)) c.if-n-eq1.false; end_formed = tt; items_touched = l.invariant.items_touched; values_touched = l.invariant.values_touched; few = l.invariant.few }
+    record { end_is = not_one c.args.pack.now c.args.sheet (definitions c.args.ends.now c.args.defined.now c.args.format.limit) (map (val_of c.args.slot_items.now c.args.slot_values.now) c.args.slots) c.args.work_items.now c.args.work_values.now l.used l.work_items l.work_values l.stack l.n l.at l.i l.invariant (omega (arith, sp.ends)) c.if-n-eq1.false; end_formed = tt; items_touched = l.invariant.items_touched; values_touched = l.invariant.values_touched; few = l.invariant.few }
