@@ -11,6 +11,7 @@ use ink_value::{Value, kind_code};
 
 // The set that an empty result of two operands keeps: after Subtract of two lists the left one's. Entries are not looked
 // at, so it is so wherever they stand.
+#[tactic(auto, using(crate::proofs::Rule::kept_left, crate::proofs::Rule::kept_right, crate::proofs::Rule::kept_other))]
 fn origins_kept(op: u8, a: Value, b: Value) -> u64
     ensures { (is : List ℕ) (vs : List ℤ) → result ≡ origins_kept op (val_of is vs a ∷ val_of is vs b ∷ []) }
 {
@@ -23,6 +24,7 @@ fn origins_kept(op: u8, a: Value, b: Value) -> u64
 }
 
 // The origin set of a result with these items, of the first `count` of a, b and any third operand.
+#[tactic(auto, using(crate::proofs::Rule::some_items, crate::proofs::Rule::no_items, crate::proofs::Rule::not_two))]
 pub fn origins_after(op: u8, count: usize, a: Value, b: Value, items: &[u16], ends: &[u16]) -> u64
     requires { Ascends 0 item_numbers items.now × (length ends.now ≤ 64) }
     ensures { (is : List ℕ) (vs : List ℤ) (c : Value)
