@@ -67,6 +67,7 @@ fn vet_op(op: u8, table: &[[u8; PAIRS]; OPERATORS], stack: &[u8; 64], n: usize) 
 }
 
 // A push of a kind on a stack of n: question 9.
+#[tactic(auto, using(machine::proofs::Stack::push_fits, machine::proofs::Stack::push_full))]
 fn vet_push(kind: u8, n: usize) -> KindStep
     requires { (kind < 5) × (n ≤ 64) }
     ensures { ((f : ℕ → Kind) → stepped result f ≡ step_push (kind_at kind) (stack_of f n)) × Within result n }
