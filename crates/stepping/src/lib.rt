@@ -26,6 +26,7 @@ use pack::format::Format;
 use pack::instruction::Instruction;
 
 // A push of a value that is no list, on a stack of n: question 9.
+#[tactic(auto, using(crate::proofs::Pushing::push_put, crate::proofs::Pushing::push_no, operating::proofs::Putting::put_plain))]
 fn push_value(value: Value, n: usize) -> Step
     requires { code_of_value value ≡ 3 → ⊥ }
     ensures { (is : List ℕ) (vs : List ℤ) → Bare (pushed n (val_of is vs value)) n result }
