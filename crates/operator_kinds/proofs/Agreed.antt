@@ -5,11 +5,11 @@ use Prim.Native.Nat.{ℕ, ◌+◌, ◌-◌, ◌<◌, ◌≤◌, max}
 use native.Mathlib.Omega.{arith}
 use lib.Dec.{eqb, ltb}
 use borrow.Author.Tests.{eq-eqb, ne_eqb, eqb-true, lt-ltb}
-use Rattle.slices.specs.Every.{every}
+use Rattle.slices.specs.Every.{every, ◌and◌}
 use Rattle.slices.proofs.Every.{every_at, not_both}
 use Rattle.ink_value.specs.Val.{Kind, boolK, intK, floatK, listK, voidK, kind_at, code_of}
 use Rattle.ink_number.specs.Answer.{Answer, gives, refuses}
-use Rattle.operator_kinds.specs.Kinds.{kind_entry, operand_count, decoded, bits_of}
+use Rattle.operator_kinds.specs.Kinds.{kind_entry, known, unary, arity, kind_unary, kind_binary, operand_count, decoded, bits_of}
 
 abbrev pub same : Answer Kind → Answer Kind → Bool
 same (gives k) (gives j) = eqb (code_of k) (code_of j)
@@ -98,6 +98,17 @@ pub of_mixed : (code : ℕ → ℕ) (lo n : ℕ) → Agree one_list (λ o a b. c
 of_mixed code lo n t o a b h l k ne m =
     agreed one_list (λ o a b. code b) lo n t o a b h l (omega arith) (omega arith) (rw (eq-eqb (operand_count o) 2 k, ne_eqb a b ne, eq-eqb (max a b) 3 m) refl)
 
+-- Add and Subtract, by their right operand: an Int, or not
+pub list_and_int : (o a b : ℕ) → o < 2 → operand_count o ≡ 2 → (a ≡ b → ⊥) → max a b ≡ 3 → b ≡ 1 → decoded 3 ≡ kind_entry o (kind_at a) (kind_at b)
+unfolding kind_entry known unary arity kind_unary kind_binary operand_count every ◌and◌
+list_and_int o a b l k ne m e =
+    sym (ap (λ (t : Bool). decoded (cond t 3 12)) (eq-eqb b 1 e)) ∙ of_mixed (λ b. cond (eqb b 1) 3 12) 0 2 refl o a b (omega arith) (omega arith) k ne m
+
+pub list_and_other : (o a b : ℕ) → o < 2 → operand_count o ≡ 2 → (a ≡ b → ⊥) → max a b ≡ 3 → (b ≡ 1 → ⊥) → decoded 12 ≡ kind_entry o (kind_at a) (kind_at b)
+unfolding kind_entry known unary arity kind_unary kind_binary operand_count every ◌and◌
+list_and_other o a b l k ne m e =
+    sym (ap (λ (t : Bool). decoded (cond t 3 12)) (ne_eqb b 1 e)) ∙ of_mixed (λ b. cond (eqb b 1) 3 12) 0 2 refl o a b (omega arith) (omega arith) k ne m
+
 -- ---- Void
 
 abbrev pub some_void : ℕ → ℕ → ℕ → Bool
@@ -112,3 +123,7 @@ of_void t o a b l k m alike =
     go : (t : Bool) → eqb (operand_count o) 1 ≡ t → cond t (eqb a b) true ≡ true
     go true w = eq-eqb a b (alike (eqb-true (operand_count o) 1 w))
     go false w = refl
+
+pub has_void : (o a b : ℕ) → o < 31 → 1 ≤ operand_count o → max a b ≡ 4 → (operand_count o ≡ 1 → a ≡ b) → decoded 11 ≡ kind_entry o (kind_at a) (kind_at b)
+unfolding kind_entry known unary arity kind_unary kind_binary operand_count every ◌and◌
+has_void o a b l k m alike = of_void refl o a b l k m alike

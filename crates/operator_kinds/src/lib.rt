@@ -78,6 +78,7 @@ fn lists(op: u8) -> u8
 }
 
 // The answer for an operator of two operands, a List and a number or a number and a List.
+#[tactic(auto, using(crate::proofs::Agreed::list_and_int, crate::proofs::Agreed::list_and_other))]
 fn mixed(op: u8, left: u8, right: u8) -> u8
     requires { (op < op_range) × (operand_count op ≡ 2) × (left ≡ right → ⊥) × (max left right ≡ code_of listK) }
     ensures { decoded result ≡ kind_entry op (kind_at left) (kind_at right) }
@@ -98,6 +99,7 @@ fn mixed(op: u8, left: u8, right: u8) -> u8
 }
 
 // The answer for an operator below range and two kind codes, or one twice where it takes one operand.
+#[tactic(auto, using(crate::proofs::Agreed::has_void))]
 pub fn entry(op: u8, left: u8, right: u8) -> u8
     requires { (op < op_range) × (left < 5) × (right < 5) × (1 ≤ operand_count op) × (operand_count op ≡ 1 → left ≡ right) }
     ensures { decoded result ≡ kind_entry op (kind_at left) (kind_at right) }
@@ -166,6 +168,7 @@ pub fn answer(op: u8, count: usize, left: u8, middle: u8, right: u8) -> u8
 }
 
 // The same of any operator and count, after questions 8 and 10.
+#[tactic(auto, using(crate::proofs::Counting::above_all, crate::proofs::Counting::none_taken, crate::proofs::Counting::miscounted))]
 pub fn kinds(op: u8, count: usize, left: u8, middle: u8, right: u8) -> u8
     requires { (left < 5) × (middle < 5) × (right < 5) }
     ensures { KindsGiven op count (take count (kind_at left ∷ kind_at middle ∷ kind_at right ∷ [])) result }

