@@ -20,6 +20,7 @@ pub enum Vetted {
 }
 
 // A sheet of a pack that has passed, its forecast written to an array.
+#[tactic(auto, using(crate::proofs::Going::none_left, crate::proofs::Going::ends_one, crate::proofs::Going::ends_other, crate::proofs::Going::no_stacks))]
 pub fn vet_into(
     pack: &[u8],
     sheet: usize,

@@ -1,7 +1,7 @@
 -- `vet_program::vet_into` meets its contract. The invariant (proofs/Going.antt): what is left of vetting from the stack as it stands is the end of
 use mathlib.Core.Path.{◌≡◌, sym, ap, ◌∙◌}
 use mathlib.Core.List.{◌∷◌, map}
-use Prim.Native.Nat.{◌-◌, ◌<◌}
+use Prim.Native.Nat.{◌<◌}
 use native.Mathlib.Omega.{arith}
 use lib.ListN.{get_or}
 use Rattle.ink_number.specs.Answer.{gives, refuses}
@@ -11,12 +11,12 @@ use Rattle.pack.specs.Contents.{literal_count}
 use Rattle.pack.specs.Instruction.{Instr, instr_of, push, push_void}
 use Rattle.pack.specs.Read.{program, sheet_end}
 use Rattle.pack.proofs.Allowed.{allowed}
-use Rattle.pack.proofs.Programs.{whole, last_of}
+use Rattle.pack.proofs.Programs.{whole}
 use Rattle.pack.proofs.Steps.{wide_some}
 use Rattle.machine.specs.Machine.{step, kind_pushed}
 use Rattle.machine.specs.Stack.{stack_of}
 use Rattle.vet_steps.specs.Step.{kind_on}
-use Rattle.vet_program.proofs.Going.{begin, advance, refused, not_one, one, count_is, begins}
+use Rattle.vet_program.proofs.Going.{begin, advance, refused}
 use Rattle.vet_program.proofs.vet_into.Goals as goal
 
 pub sheet_span-span-requires : goal.sheet_span-span-requires
@@ -147,17 +147,3 @@ returns-in-No c =
     let e : refuses c.in-No.number ≡ step (kind_pushed (map kind_at c.args.kinds)) kind_apply (get_or (program p c.args.sheet) l.i (push push_void)) (stack_of (kind_on l.stack) l.n) =
     rw c.in-No.is at c.vet_step-step.ensures.0 ∙ ap (λ (x : Instr). step (kind_pushed (map kind_at c.args.kinds)) kind_apply x (stack_of (kind_on l.stack) l.n)) (sym k) in
     (refused (program p c.args.sheet) (map kind_at c.args.kinds) l.out l.stack l.n l.i l.invariant.0 c.in-No.number next.below e, tt, l.invariant.0.out_is)
-
-pub returns-then-n-eq1 : goal.returns-then-n-eq1
-returns-then-n-eq1 c =
-    let p = c.args.pack.now in
-    let l = c.loop-at in
-    let d = last_of p c.args.sheet l.i l.at l.invariant.1 (omega (arith, c.loop-at-test.false, l.invariant.2)) in
-    (one (program p c.args.sheet) (map kind_at c.args.kinds) l.out l.stack l.n l.i l.invariant.0 d c.if-n-eq1.true, (count_is (program p c.args.sheet) (map kind_at c.args.kinds) l.out l.stack l.n l.i l.invariant.0 d, l.invariant.0.few, begins (program p c.args.sheet) (map kind_at c.args.kinds) l.out l.stack l.n l.i l.invariant.0 d), l.invariant.0.out_is)
-
-pub returns-else-n-eq1 : goal.returns-else-n-eq1
-returns-else-n-eq1 c =
-    let p = c.args.pack.now in
-    let l = c.loop-at in
-    let d = last_of p c.args.sheet l.i l.at l.invariant.1 (omega (arith, c.loop-at-test.false, l.invariant.2)) in
-    (not_one (program p c.args.sheet) (map kind_at c.args.kinds) l.out l.stack l.n l.i l.invariant.0 d c.if-n-eq1.false, tt, l.invariant.0.out_is)
