@@ -155,10 +155,10 @@ of_numbers ws o n r h e l t q d =
 -- ---- where there is no such result
 
 -- an operator that refuses, or that gives what is no number
-refuses_none : {ws : List ℕ} {o n : ℕ} (q : ℕ) → 4 < q → ((is : List ℕ) (vs : List ℤ) → KindsGiven o n (map kind_of (take n (vals_at is vs ws))) q)
-    → (kind : ℕ) → OfNumbers ws o n kind → ⊥
-refuses_none q l g kind m =
-    let e = sym (decoded_no q l) ∙ (g [] []).answered ∙ m.answered [] [] in
+refuses_none : (ws : List ℕ) (o n : ℕ) (q : ℕ) → 4 < q → ((is : List ℕ) (vs : List ℤ) → KindsGiven o n (map kind_of (take n (vals_at is vs ws))) q)
+    → (kind : ℕ) → ((is : List ℕ) (vs : List ℤ) → kind_call o n (map kind_of (take n (vals_at is vs ws))) ≡ gives (kind_at kind)) → ⊥
+refuses_none ws o n q l g kind a =
+    let e = sym (decoded_no q l) ∙ (g [] []).answered ∙ a [] [] in
     let z : ◌≡◌ {A = ℕ} 0 1 = cc in
     omega arith
 
@@ -168,19 +168,20 @@ gives_none r kind h l m e =
     let c : r ≡ kind = sym (code_at_lem r l) ∙ ap code_of k ∙ code_at_lem kind (omega arith) in
     omega arith
 
-pub no_number_operator : (ws : List ℕ) (o n : ℕ) → 30 < o → (kind : ℕ) → OfNumbers ws o n kind → ⊥
-no_number_operator ws o n h kind m = go (ltb o 32) refl
+-- with the parts of `OfNumbers` for premises, since the check finds it so
+pub no_number_operator : (ws : List ℕ) (o n kind : ℕ) → ((is : List ℕ) (vs : List ℤ) → kind_call o n (map kind_of (take n (vals_at is vs ws))) ≡ gives (kind_at kind)) → 30 < o → n ≤ 2 → ⊥
+no_number_operator ws o n kind a h few = go (ltb o 32) refl
   where
     go : (t : Bool) → ltb o 32 ≡ t → ⊥
     go true e =
         let l = ltb-true o 32 e in
         let three : operand_count o ≡ 3 = ap operand_count (let q : o ≡ 31 = omega arith in q) ∙ range_three in
-        refuses_none 10 (omega arith) (λ is vs. miscounted o 3 n _ three (λ q. omega arith) (λ q. omega (arith, m.few))) kind m
-    go false e = refuses_none 8 (omega arith) (λ is vs. above_all o n _ (ltb-false o 32 e)) kind m
+        refuses_none ws o n 10 (omega arith) (λ is vs. miscounted o 3 n _ three (λ q. omega arith) (λ q. omega arith)) kind a
+    go false e = refuses_none ws o n 8 (omega arith) (λ is vs. above_all o n _ (ltb-false o 32 e)) kind a
 
 pub other_count : (ws : List ℕ) (o n c : ℕ) → operand_count o ≡ c → (c ≡ n → ⊥) → (kind : ℕ) → OfNumbers ws o n kind → ⊥
-other_count ws o n zero e ne kind m = refuses_none 8 (omega arith) (λ is vs. none_taken o n _ e) kind m
-other_count ws o n (suc c) e ne kind m = refuses_none 10 (omega arith) (λ is vs. miscounted o (suc c) n _ e (λ q. omega arith) ne) kind m
+other_count ws o n zero e ne kind m = refuses_none ws o n 8 (omega arith) (λ is vs. none_taken o n _ e) kind m.answered
+other_count ws o n (suc c) e ne kind m = refuses_none ws o n 10 (omega arith) (λ is vs. miscounted o (suc c) n _ e (λ q. omega arith) ne) kind m.answered
 
 pub no_numbers : (ws : List ℕ) (o n : ℕ) → Held ws n → false ≡ cond (ltb (code_at ws 0) 3) (cond (ltb n 2) true (ltb (code_at ws 1) 3)) false
     → (kind : ℕ) → OfNumbers ws o n kind → ⊥
