@@ -12,8 +12,8 @@ use Rattle.operator_kinds.specs.Kinds.{kind_apply}
 use Rattle.pack.specs.Instruction.{Instr, Push, push, push_void, instructions}
 use Rattle.machine.specs.Machine.{Run, ended, stopped, finish, onward, step, run_from, kind_pushed, vet}
 use Rattle.machine.specs.Stack.{stack_of}
-use Rattle.machine.specs.Foretold.{turned, verdict, forecast}
-use Rattle.machine.proofs.Stack.{stack_length, stack_put, run_more, run_stop}
+use Rattle.machine.specs.Foretold.{passed, turned, verdict, forecast, Begins}
+use Rattle.machine.proofs.Stack.{stack_length, stack_put, run_more, run_stop, run_done}
 use Rattle.operator_kinds.proofs.Counting.{code_at_lem}
 use Rattle.pack.specs.Format.{instruction_limit}
 use Rattle.pack.proofs.Steps.{at_end}
@@ -158,6 +158,26 @@ module _ (s : List Instr) (ks : List Kind) (out stack : List ℕ) (n i : ℕ) (g
       → turned r i ≡ verdict (vet s ks).end
   refused r h e =
       sym (ap verdict (sym g.end_same ∙ run_stop (kind_pushed ks) kind_apply s i r (stack_of (kind_on stack) n) h (sym e)))
+
+  rest_none : drop i s ≡ [] → rest s ks stack n i ≡ record { stacks = []; end = finish i (stack_of (kind_on stack) n) }
+  rest_none h = run_done (kind_pushed ks) kind_apply s i (stack_of (kind_on stack) n) h
+
+  end_is : drop i s ≡ [] → (vet s ks).end ≡ finish i (stack_of (kind_on stack) n)
+  end_is h = sym g.end_same ∙ ap (λ (r : Run Kind). r.end) (rest_none h)
+
+  pub not_one : drop i s ≡ [] → (n ≡ 1 → ⊥) → turned 17 i ≡ verdict (vet s ks).end
+  not_one h ne = sym (ap verdict (end_is h ∙ finish_not_one (kind_on stack) i n ne))
+
+  pub one : drop i s ≡ [] → n ≡ 1 → passed ≡ verdict (vet s ks).end
+  one h e = sym (ap verdict (end_is h ∙ ap (λ (m : ℕ). finish i (stack_of (kind_on stack) m)) e))
+
+  pub count_is : drop i s ≡ [] → length (vet s ks).stacks ≡ i
+  count_is h =
+      let z : length (rest s ks stack n i).stacks ≡ 0 = ap (λ (r : Run Kind). length r.stacks) (rest_none h) in
+      g.count ∙ omega arith
+
+  pub begins : drop i s ≡ [] → Begins out (vet s ks).stacks
+  begins h j l = g.done j (omega (arith, count_is h))
 
 -- at a sheet's end no instruction is left, and what is left of vetting is its end: laws that the check finds
 pub none_left : (literals : ℕ) (p : List ℕ) (n at end : ℕ) → at ≡ end → instructions literals p n at end ≡ some []

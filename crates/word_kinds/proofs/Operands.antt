@@ -169,8 +169,8 @@ gives_none r kind h l m e =
     omega arith
 
 -- with the parts of `OfNumbers` for premises, since the check finds it so
-pub no_number_operator : (ws : List ℕ) (o n kind : ℕ) → ((is : List ℕ) (vs : List ℤ) → kind_call o n (map kind_of (take n (vals_at is vs ws))) ≡ gives (kind_at kind)) → 30 < o → n ≤ 2 → ⊥
-no_number_operator ws o n kind a h few = go (ltb o 32) refl
+pub no_number_above : (ws : List ℕ) (o n kind : ℕ) → ((is : List ℕ) (vs : List ℤ) → kind_call o n (map kind_of (take n (vals_at is vs ws))) ≡ gives (kind_at kind)) → 30 < o → n ≤ 2 → ⊥
+no_number_above ws o n kind a h few = go (ltb o 32) refl
   where
     go : (t : Bool) → ltb o 32 ≡ t → ⊥
     go true e =
@@ -178,6 +178,9 @@ no_number_operator ws o n kind a h few = go (ltb o 32) refl
         let three : operand_count o ≡ 3 = ap operand_count (let q : o ≡ 31 = omega arith in q) ∙ range_three in
         refuses_none ws o n 10 (omega arith) (λ is vs. miscounted o 3 n _ three (λ q. omega arith) (λ q. omega arith)) kind a
     go false e = refuses_none ws o n 8 (omega arith) (λ is vs. above_all o n _ (ltb-false o 32 e)) kind a
+
+pub no_number_operator : (ws : List ℕ) (o n : ℕ) → 30 < o → (kind : ℕ) → OfNumbers ws o n kind → ⊥
+no_number_operator ws o n h kind m = no_number_above ws o n kind m.answered h m.few
 
 pub other_count : (ws : List ℕ) (o n c : ℕ) → operand_count o ≡ c → (c ≡ n → ⊥) → (kind : ℕ) → OfNumbers ws o n kind → ⊥
 other_count ws o n zero e ne kind m = refuses_none ws o n 8 (omega arith) (λ is vs. none_taken o n _ e) kind m.answered

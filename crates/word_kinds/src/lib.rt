@@ -27,7 +27,7 @@ fn numbers(count: usize, left: u8, right: u8) -> bool
 }
 
 // The kind of a result of numbers; a code from a List's on where an operand, or the result, is no number.
-#[tactic(auto, using(crate::proofs::Operands::kind_beyond, crate::proofs::Operands::no_number_operator))]
+#[tactic(auto, using(crate::proofs::Operands::kind_beyond, crate::proofs::Operands::no_number_above))]
 pub fn number_kind(op: u8, count: usize, operands: &[u64; 9]) -> u8
     requires { Held operands.now count }
     ensures { NumberKind operands.now op count result }
