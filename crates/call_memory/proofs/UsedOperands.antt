@@ -1,17 +1,17 @@
 -- Operands that are not used, and question 7 of those that are. Assumes nothing.
-use mathlib.Core.Path.{◌≡◌, refl, ap, ◌∙◌}
+use mathlib.Core.Path.{◌≡◌, refl, sym, ap, ◌∙◌}
 use mathlib.Core.Bool.{Bool, true, false, cond}
 use mathlib.Core.List.{List, [], ◌∷◌}
-use Prim.Native.Nat.{ℕ, zero, suc, ◌^◌, ◌≤◌}
+use Prim.Native.Nat.{ℕ, zero, suc, ◌^◌, ◌≤◌, ◌<◌}
 use native.Mathlib.Omega.{arith}
 use lib.Dec.{ltb, leb, eqb}
 use lib.IntN.{ℤ}
 use lib.ListN.{length, take}
 use lib.Pow.{pow_pos}
-use borrow.Author.Tests.{lt-ltb, le-leb, eq-eqb, ne_eqb}
+use borrow.Author.Tests.{lt-ltb, le-leb, lt-leb, eq-eqb, ne_eqb}
 use Rattle.slices.specs.Every.{◌and◌}
 use Rattle.ink_list.specs.Entries.{bits_below, formed}
-use Rattle.slices.proofs.Every.{and_on, and_true, and_left, and_right, and_no_left}
+use Rattle.slices.proofs.Every.{and_on, and_true, and_left, and_right, and_no_left, and_no_right}
 use Rattle.ink_value.specs.Value.{FirstFormed, formed_in, each_formed, all_formed}
 use Rattle.ink_value.specs.declared.Value.{Value}
 use Rattle.ink_value.proofs.Forming.{formed_yes}
@@ -49,6 +49,10 @@ kept_formed total d is vs (suc (suc (suc (suc n)))) a b c =
 pub rooms : (f : Bool) (m n limit : ℕ) → limit ≤ m → limit ≤ n → f and (leb limit m and leb limit n) ≡ f
 unfolding ◌and◌
 rooms f m n limit h k = rw (le-leb limit m h, le-leb limit n k) (and_true f)
+
+-- where the first is not
+pub short_items : (f : Bool) (m n limit : ℕ) → m < limit → false ≡ f and (leb limit m and leb limit n)
+short_items f m n limit h = sym (and_no_right _ _ (and_no_left _ _ (lt-leb limit m h)))
 
 module _ (total d : ℕ) (is : List ℕ) (vs : List ℤ) where
   pub unlike_long : (l : List Value) → (length is ≡ length vs → ⊥) → all_formed total d is vs l ≡ false

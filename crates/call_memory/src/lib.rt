@@ -78,6 +78,7 @@ fn used_formed(
 }
 
 // Question 7 of the first `count` of three operands and of result slices of these lengths, which `limit` entries must fit.
+#[tactic(auto, using(crate::proofs::UsedOperands::short_items))]
 pub fn lent_well(
     count: usize,
     a: Value,

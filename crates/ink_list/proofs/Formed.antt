@@ -5,14 +5,16 @@ use mathlib.Core.Bool.{Bool, true, false}
 use mathlib.Core.List.{List, [], ◌∷◌}
 use Prim.Native.Nat.{ℕ, zero, suc, ◌+◌, ◌*◌, ◌/◌, ◌^◌, ◌≤◌, ◌<◌}
 use native.Mathlib.Decide.{dec_lt}
-use native.Mathlib.Nat.{div-eq_of_lt, le-div_iff_mul-le, one-mul}
+use native.Mathlib.Nat.{div-eq_of_lt, le-div_iff_mul-le, one-mul, lt_of_lt_of_le}
 use native.Mathlib.Numerals.{add-one}
 use native.Mathlib.Omega.{arith}
 use borrow.Author.Tests.{lt-ltb, le-ltb, le-leb, lt-leb, eq-eqb, ne_eqb, ltb-true, ltb-false, leb-false, eqb-true}
 use lib.Dec.{eqb, ltb, leb}
 use lib.IntN.{ℤ}
 use lib.ListN.{length, get_or, drop, drop_of_length-le}
-use lib.Pow.{pow_pos}
+use lib.Pow.{pow_mono, pow_pos}
+use mir.Syntax.{w64}
+use mir.Val.{Fits}
 use Rattle.slices.specs.Every.{◌and◌}
 use Rattle.ink_list.specs.Entries.{Ascends, Lent, ascends, bits_below, formed, formed_lent}
 use Rattle.slices.proofs.Every.{not_both, and_left, and_right, and_both}
@@ -65,6 +67,10 @@ shifted_out a d = none_left a (2 ^ d) (pow_pos d)
 pub all_below : (a d : ℕ) → a < 2 ^ d → bits_below d a ≡ true
 unfolding bits_below
 all_below a d h = lt-ltb a (2 ^ d) h
+
+-- a set of 64 bits has no bit from 64 on
+pub all_fit : (a d : ℕ) → Fits w64 a → 64 ≤ d → true ≡ bits_below d a
+all_fit a d f h = sym (all_below a d (lt_of_lt_of_le f.fits (pow_mono h)))
 
 -- ---- formed as a literal
 

@@ -5,6 +5,7 @@ ghost use Rattle.ink_list.specs.Entries.{entries, ascends, bits_below, formed_le
 ghost use Rattle.ink_list.specs.Slices.{list, Answers, Appends};
 
 // Has an origin set bits below d alone.
+#[tactic(auto, using(crate::proofs::Formed::all_fit))]
 pub fn bits_below(set: u64, d: usize) -> bool
     ensures { result ≡ bits_below d set }
 {

@@ -3,6 +3,7 @@ use mathlib.Core.Path.{◌≡◌, sym, ◌∙◌}
 use mathlib.Core.Bool.{true, false}
 use mathlib.Core.List.{List}
 use Prim.Native.Nat.{ℕ, ◌+◌, ◌≤◌, ◌<◌}
+use native.Mathlib.Omega.{arith}
 use lib.IntN.{ℤ}
 use lib.ListN.{length}
 use borrow.Author.Tests.{le-leb, lt-leb, eq-eqb, leb-true}
@@ -22,6 +23,10 @@ module _ (total d : ℕ) (is : List ℕ) (vs : List ℤ) (v : Value) where
 
   pub past_values : length vs < start_of v + len_of v → formed_in total d is vs v ≡ false
   past_values h = and_no_left _ _ (and_no_right _ _ (lt-leb (start_of v + len_of v) (length vs) h))
+
+  -- the same, as the code has the numbers
+  pub past_end : (start len : ℕ) → start ≡ start_of v → len ≡ len_of v → length vs < start + len → false ≡ formed_in total d is vs v
+  past_end start len p q h = sym (past_values (omega arith))
 
   module _ (hi : start_of v + len_of v ≤ length is) (hv : start_of v + len_of v ≤ length vs) where
     pub inside : formed_in total d is vs v ≡ formed total d (set_in v) (part (start_of v) (len_of v) is)

@@ -266,6 +266,7 @@ pub fn is_truthy(v: Value) -> bool
 
 // Question 7 of one value: a list's entries stand whole in the two slices and are formed as a literal's, in a pack of this many items and
 // definitions.
+#[tactic(auto, using(crate::proofs::Forming::past_end))]
 pub fn is_formed(v: Value, items: &[u16], values: &[i32], total: usize, definitions: usize) -> bool
     ensures { result ≡ formed_in total definitions items.now values.now v }
 {

@@ -14,6 +14,7 @@ use lib.ListN.{length, get_or, drop, drop_of_length-le}
 use Rattle.ink_list.specs.Entries.{Entry, member, Ascends, put, gather_from, gather}
 use Rattle.ink_list.specs.Steps.{drop_below, head_is}
 use Rattle.list_definitions.specs.Defs.{Ends, origin_of, in_set, unheld, invert, all}
+use Rattle.ink_list.proofs.Output.{Writing, turn}
 use Rattle.ink_list.proofs.Laws.{from_ext, length_gather, lt_or_le}
 use Rattle.slices.proofs.Lists.{drop_at}
 use Rattle.ink_list.proofs.SiftLaws.{member_skip, skip_tells, ascends_drop}
@@ -145,3 +146,19 @@ invert_start ends defined set is = onward_start (length defined) (unheld ends de
 pub all_is : (ends : List ℕ) (defined : List ℤ) (set : ℕ) → invert ends defined set [] ≡ all ends defined set
 unfolding invert all
 all_is ends defined set = refl
+
+-- ---- a turn at a definition that is not in the set
+
+-- of the definitions from d on, the first ends by the total
+pub end_bound : (low k total d : ℕ) (ends : List ℕ) → Ends low total (drop d ends) → low ≤ k → k < total → get_or ends d 0 ≤ total
+end_bound low k total d ends b l h = ends_below low total d ends (ends_at low total d ends b (omega arith)) b
+
+pub bounded_on : (low k e total : ℕ) (es : List ℕ) → Ends low total es → low ≤ k → k < e → (x : ℕ) × (x ≤ e) × Ends x total es
+bounded_on low k e total es b l h = (low, omega arith, b)
+
+pub passed_over : {at n : ℕ} {answer : List Entry} {oi oi' : List ℕ} {ov ov' : List ℤ} (low : ℕ) (defined : List ℤ) (ends : List ℕ) (d s : ℕ) (is : List ℕ) (k total : ℕ)
+    → Writing at answer n (onward k total (unheld (drop d ends) defined s is)) oi oi' ov ov'
+    → Ends low total (drop d ends) → low ≤ k → k < total → k < get_or ends d 0 → s % 2 ≡ 0
+    → Writing at answer n (onward (get_or ends d 0) total (unheld (drop d ends) defined s is)) oi oi' ov ov'
+passed_over low defined ends d s is k total w b m h l z =
+    turn w (not_in defined ends d (ends_at low total d ends b (omega arith)) s is k total l (end_bound low k total d ends b m h) z)

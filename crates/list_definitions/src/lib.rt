@@ -11,6 +11,7 @@ use ink_list::cursor::{skip_below, stands};
 use ink_list::entries::push;
 
 // Invert: all items of the set's definitions that a has not, with their defined values.
+#[tactic(auto, using(crate::proofs::DefLaws::end_bound, crate::proofs::DefLaws::bounded_on, crate::proofs::DefLaws::passed_over))]
 pub fn invert(
     ai: &[u16],
     set: u64,

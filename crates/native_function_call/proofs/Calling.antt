@@ -2,7 +2,7 @@
 use mathlib.Core.Path.{◌≡◌, refl, sym, ap, ◌∙◌}
 use mathlib.Core.Bool.{Bool, true, false}
 use mathlib.Core.List.{List, [], ◌∷◌, map}
-use Prim.Native.Nat.{ℕ, zero, suc, ◌≤◌}
+use Prim.Native.Nat.{ℕ, zero, suc, ◌≤◌, ◌<◌}
 use native.Mathlib.Omega.{arith}
 use lib.Dec.{eqb}
 use lib.IntN.{ℤ}
@@ -17,9 +17,10 @@ use Rattle.slices.proofs.Lists.{ap3}
 use Rattle.ink_value.proofs.Reading.{code_in}
 use Rattle.ink_value.proofs.Given.{gave_plain}
 use Rattle.number_operators.specs.Numbers.{arith_z}
-use Rattle.operator_kinds.specs.Kinds.{known, arity, kind_apply, kind_call}
-use Rattle.operator_kinds.proofs.Counting.{other_kind}
+use Rattle.operator_kinds.specs.Kinds.{known, arity, kind_apply, kind_call, decoded}
+use Rattle.operator_kinds.proofs.Counting.{other_kind, decoded_no}
 use Rattle.list_definitions.specs.Defs.{ListDefinitions}
+use Rattle.list_operators.specs.Lists.{list_result}
 use Rattle.native_function_call.specs.Apply.{of_int, whole, apply_op, compute, call}
 
 pub apply_gives : (u : ListDefinitions) (o : ℕ) (vs : List Val) (k : Kind) → kind_apply o (map kind_of vs) ≡ gives k → apply_op u o vs ≡ compute u o vs k
@@ -108,3 +109,15 @@ pub scalar_gave : (u : ListDefinitions) (o k n : ℕ) (a b c : Val) {r : Outcome
 scalar_gave u o k n a b c {r} {oi} {ov} h l m e =
     gave_plain (compute u o (take n (a ∷ b ∷ c ∷ [])) (kind_at k)) r oi ov (scalar_none u o (take n (a ∷ b ∷ c ∷ [])) k h)
     (e ∙ ap (λ (vs : List Val). placed (compute u o vs (kind_at k))) (two_of n a b c l m))
+
+-- ---- what `computed` and `apply` come to, as the check finds it
+
+pub compute_list : (u : ListDefinitions) (o k : ℕ) (vs : List Val) → k ≡ 3 → compute u o vs (kind_at k) ≡ gives (list_result u o vs)
+unfolding compute
+compute_list u o k vs e = ap (λ (j : ℕ). compute u o vs (kind_at j)) e
+
+pub call_refused : (u : ListDefinitions) (o n : ℕ) (is : List ℕ) (vs : List ℤ) (a b c : Value) (i j k q : ℕ)
+    → decoded q ≡ kind_call o n (take n (kind_at i ∷ kind_at j ∷ kind_at k ∷ [])) → i ≡ code_of_value a → j ≡ code_of_value b → k ≡ code_of_value c → 4 < q
+    → call u o n (first_of is vs n a b c) ≡ refuses q
+call_refused u o n is vs a b c i j k q g x y z h =
+    call_refuses u o n (first_of is vs n a b c) q (ap (kind_call o n) (codes_are is vs n a b c i j k x y z) ∙ sym g ∙ decoded_no q h)

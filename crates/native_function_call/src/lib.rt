@@ -250,6 +250,7 @@ fn scalar(op: u8, kind: u8, n: usize, a: Value, b: Value, items: &[u16], values:
 }
 
 // An operator whose operands' kinds are right, by the kind of its result.
+#[tactic(auto, using(crate::proofs::Calling::compute_list))]
 fn computed(
     op: u8,
     kind: u8,
@@ -279,6 +280,7 @@ fn computed(
 }
 
 // An operator on the first `count` of three operands: questions 8, 10 to 13 and 15, and the result.
+#[tactic(auto, using(crate::proofs::Calling::call_refused))]
 pub fn apply(
     op: u8,
     count: usize,

@@ -40,6 +40,7 @@ fn with_four(at: usize, end: usize) -> usize
 }
 
 // The bytes of the instruction at a position, 0 where none is well formed and ends in time.
+#[tactic(auto, using(crate::proofs::Alone::void_alone))]
 fn checked_width(p: &[u8], at: usize, end: usize, literals: usize) -> usize
     requires { (at < end) × (end ≤ length p.now) }
     ensures { result ≡ taken at end (instruction literals p.now at) }

@@ -6,7 +6,7 @@ use lib.ListN.{length, drop, get_or, set}
 use borrow.Author.Rules.{rules}
 use Rattle.ink_list.specs.Entries.{item_numbers}
 use Rattle.ink_list.proofs.Output.{begin, has_room, pushed, kept, turn, done}
-use Rattle.list_definitions.proofs.DefLaws.{onward_end, ends_at, ends_here, ends_below, past_def, not_in, item_held, item_unheld, invert_length, invert_start}
+use Rattle.list_definitions.proofs.DefLaws.{onward_end, ends_at, ends_here, past_def, item_held, item_unheld, invert_length, invert_start}
 use Rattle.list_definitions.proofs.invert.Goals.{In-loop-k}
 use Rattle.list_definitions.proofs.invert.Goals as goal
 
@@ -59,26 +59,6 @@ loop-k-preserved-then-end-k c =
       turn l.invariant.6 (past_def a.defined.now a.ends.now l.d h l.s (drop l.j a.ai.now) l.k _ c.if-end-k.true),
     )
 
-pub loop-k-smaller-then-s-eq0 : goal.loop-k-smaller-then-s-eq0
-loop-k-smaller-then-s-eq0 c =
-    omega (arith, here (goal.at.loop-k-smaller-then-s-eq0 c).In-loop-k, ends_below c.loop-k.invariant.5.0 _ c.loop-k.d c.args.ends.now (here (goal.at.loop-k-smaller-then-s-eq0 c).In-loop-k) c.loop-k.invariant.5.2)
-
-pub loop-k-preserved-then-s-eq0 : goal.loop-k-preserved-then-s-eq0
-loop-k-preserved-then-s-eq0 c =
-    let a = c.args in
-    let l = c.loop-k in
-    let h = here (goal.at.loop-k-preserved-then-s-eq0 c).In-loop-k in
-    let e = ends_below l.invariant.5.0 _ l.d a.ends.now h l.invariant.5.2 in
-    let b : l.invariant.5.0 ≤ l.k = l.invariant.5.1 in (
-      l.invariant.0,
-      e,
-      l.invariant.2,
-      l.invariant.3,
-      l.invariant.4,
-      (l.invariant.5.0, omega (arith, c.if-end-k.false), l.invariant.5.2),
-      turn l.invariant.6 (not_in a.defined.now a.ends.now l.d h l.s (drop l.j a.ai.now) l.k _ c.if-end-k.false e c.if-s-eq0.true),
-    )
-
 pub overflow_cast-x : goal.overflow_cast-x
 overflow_cast-x c = omega (arith, c.requires.tables.few)
 
@@ -88,7 +68,7 @@ push-n-requires c =
     let l = c.loop-k in
     has_room l.invariant.6
     (item_unheld a.defined.now a.ends.now l.d (here (goal.at.push-n-requires c).In-loop-k) l.s item_numbers a.ai.now c.requires.ascends l.j c.skip_below-j.result l.k
-    c.if-end-k.false (omega (arith, c.if-s-eq0.false)) _ c.loop-k-test.true c.skip_below-j.ensures.1
+    c.if-end-k.false (omega arith) _ c.loop-k-test.true c.skip_below-j.ensures.1
     (sym c.stands.ensures ∙ c.if-not-stands.true))
 
 pub loop-k-preserved-then-not-stands : goal.loop-k-preserved-then-not-stands
@@ -97,7 +77,7 @@ loop-k-preserved-then-not-stands c =
     let l = c.loop-k in
     let w = pushed l.invariant.6
     (item_unheld a.defined.now a.ends.now l.d (here (goal.at.loop-k-preserved-then-not-stands c).In-loop-k) l.s item_numbers a.ai.now c.requires.ascends l.j c.skip_below-j.result l.k
-    c.if-end-k.false (omega (arith, c.if-s-eq0.false)) _ c.loop-k-test.true c.skip_below-j.ensures.1
+    c.if-end-k.false (omega arith) _ c.loop-k-test.true c.skip_below-j.ensures.1
     (sym c.stands.ensures ∙ c.if-not-stands.true))
     c.v-1.given c.push-n.ensures in
     let e = kept w in
@@ -110,7 +90,7 @@ loop-k-preserved c =
     let l = c.loop-k in
     let w = turn l.invariant.6
     (item_held a.defined.now a.ends.now l.d (here (goal.at.loop-k-preserved c).In-loop-k) l.s item_numbers a.ai.now c.requires.ascends l.j c.skip_below-j.result l.k
-    c.if-end-k.false (omega (arith, c.if-s-eq0.false)) _ c.loop-k-test.true c.skip_below-j.ensures.1
+    c.if-end-k.false (omega arith) _ c.loop-k-test.true c.skip_below-j.ensures.1
     (sym c.stands.ensures ∙ c.if-not-stands.false)) in
     let b : l.invariant.5.0 ≤ l.k = l.invariant.5.1 in
     (c.skip_below-j.ensures.0, omega (arith, c.loop-k-test.true), l.invariant.2, l.invariant.3, l.invariant.4, (l.invariant.5.0, omega arith, l.invariant.5.2), w)

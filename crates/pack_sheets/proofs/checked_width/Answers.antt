@@ -7,7 +7,7 @@ use Prim.Native.Nat.{◌+◌}
 use mathlib.Core.Path.{refl, ◌∙◌}
 use native.Mathlib.Omega.{arith}
 use borrow.Author.Tests.{le-leb}
-use Rattle.pack.proofs.Steps.{tested, is_op, is_bool_lem, is_int_lem, is_float_lem, is_list_lem, is_slot, is_void_lem, is_none}
+use Rattle.pack.proofs.Steps.{tested, is_op, is_bool_lem, is_int_lem, is_float_lem, is_list_lem, is_slot, is_none}
 use Rattle.pack_sheets.proofs.checked_width.Goals as goal
 
 pub returns-then-code-lt-BOOL : goal.returns-then-code-lt-BOOL
@@ -45,12 +45,6 @@ returns-then-code-eq-SLOT c =
     let a = c.args in
     let p = a.p.now in
     rw (is_slot a.literals p a.at c.if-code-eq-SLOT.true) (c.with_byte-then-code-eq-SLOT.ensures ∙ tested a.at a.end (ltb (byte p (a.at + 1)) slot_limit) (push_slot (byte p (a.at + 1))) refl)
-
-pub returns-then-code-eq-VOID : goal.returns-then-code-eq-VOID
-returns-then-code-eq-VOID c =
-    let a = c.args in
-    let p = a.p.now in
-    rw (is_void_lem a.literals p a.at (omega arith), le-leb (a.at + 1) a.end (omega arith))
 
 pub returns : goal.returns
 returns c =

@@ -1,6 +1,6 @@
 -- `pack_sheets::sheet_ok` meets its contract. The loop's invariant: whether the instructions from `at` on, at most `left`, are well formed
 use Prim.Native.Nat.{◌+◌, ◌-◌}
-use mathlib.Core.Path.{◌≡◌, sym, ◌∙◌}
+use mathlib.Core.Path.{◌≡◌, refl, sym, ◌∙◌}
 use native.Mathlib.Omega.{arith}
 use Rattle.pack.specs.Bodies.{sheet}
 use Rattle.pack.specs.Format.{instruction_limit}
@@ -17,6 +17,9 @@ offset-at-requires c = omega (arith, c.requires.placed.frame)
 
 pub size-requires : goal.size-requires
 size-requires c = omega (arith, c.requires.placed.frame)
+
+pub loop-at-init : goal.loop-at-init
+loop-at-init c = (omega arith, refl)
 
 pub returns-then-left-eq0 : goal.returns-then-left-eq0
 returns-then-left-eq0 c =

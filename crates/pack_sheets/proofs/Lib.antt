@@ -1,0 +1,2 @@
+-- The law that `checked_width`'s check cites.
+mod Alone
