@@ -94,7 +94,6 @@ fn floats() {
     assert_eq!(p.call(op::NEGATE, &[Float(0.0)]).map(|v| matches!(v, Float(x) if x.to_bits() == 0x8000_0000)), Ok(true));
 }
 
-/// Floor and Ceiling of a Float, by their bits, beside Rust's own.
 /// Ints of every size around powers of two, ties and carries, both signs: the processor rounds to the nearest, ties to even, too.
 #[test]
 fn int_to_float() {
@@ -113,6 +112,7 @@ fn int_to_float() {
     }
 }
 
+/// Floor and Ceiling of a Float, by their bits, beside Rust's own.
 #[test]
 fn rounding() {
     let p = six_items();
