@@ -154,8 +154,8 @@ pub fn run_step(
         × IfOp (instr_of i) (λ o. OperandsFormed format work_items.old work_values.old a b c n (operand_count o)) }
     ensures { (slots : Slots) → SlotIs slots slot (instr_of i)
         → (f : ℕ → Val) → IfOp (instr_of i) (λ o. OperandsIn work_items work_values a b c n (operand_count o) f)
-        → StepsIn format n (step_in format pack ends defined (map (val_in slot_items slot_values) slots) (instr_of i) (stack_of f n)) f result
-        work_items work_values }
+        → StepsIn format n (step_in format pack ends defined (map (val_in slot_items slot_values) slots) (instr_of i) (stack_of f n))
+        f result work_items work_values }
 {
     match i {
         Instruction::Op(op) => run_op(

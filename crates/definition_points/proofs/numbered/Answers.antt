@@ -1,4 +1,5 @@
 -- `definition_points::numbered` meets its contract: where the ends from d on number the items from `low` on, all of them number the items.
+-- Assumes nothing.
 use Prim.Native.Nat.{◌-◌}
 use native.Mathlib.Omega.{arith}
 use borrow.Author.Rules.{rules}

@@ -1,4 +1,5 @@
 -- `definition_tables::read_tables` meets its contract: question 7 of the slices, and then the tables that the pack's reader writes. Assumes
+-- nothing.
 use mathlib.Core.Path.{refl}
 use native.Mathlib.Omega.{arith}
 use Rattle.pack.proofs.Judged.{judged}

@@ -1,4 +1,5 @@
 -- `extreme_values::extreme_value` meets its contract: the extreme of all values is that of the best so far and those from the cursor on.
+-- Assumes nothing.
 use mathlib.Core.Path.{◌≡◌}
 use Prim.Native.Nat.{◌-◌, ◌≤◌}
 use lib.ListN.{length, drop}

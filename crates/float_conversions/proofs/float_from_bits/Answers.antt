@@ -1,4 +1,5 @@
 -- `float_conversions::float_from_bits` meets its contract. A pattern is a NaN's where it is above an infinity's, the sign dropped.
+-- Assumes nothing.
 use Rattle.std.proofs.Common.{refl}
 use Rattle.binary32.proofs.Meets.{meant, of_bits_meets}
 use Rattle.float_conversions.proofs.Nans.{no_nan_bits, nan_bits_lem}

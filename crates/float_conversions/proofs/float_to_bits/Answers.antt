@@ -1,4 +1,5 @@
 -- `float_conversions::float_to_bits` meets its contract. Only a NaN differs from itself.
+-- Assumes nothing.
 use Rattle.std.proofs.Common.{refl}
 use Rattle.binary32.proofs.Binary32.{fitting}
 use Rattle.binary32.proofs.Meets.{meant_number, to_bits_meets}

@@ -1,4 +1,5 @@
 -- `float_conversions::float_to_int` meets its contract. Within the range the whole part as an i64 is that as an i32; outside it is an end (proofs/Truncation.antt).
+-- Assumes nothing.
 use Rattle.std.proofs.Common.{◌≡◌, ℤ, sym, ap, ◌∙◌, subst, w32, w64, SFits}
 use lib.Ieee.{of_bits, neg, to_signed}
 use lib.Ieee.Casts.{to_signed_in}
@@ -9,6 +10,7 @@ use Rattle.float_conversions.proofs.Truncation.{inside, above, under, none}
 use Rattle.float_conversions.proofs.float_to_int.Goals.{After-truncating_f32_to_i64}
 use Rattle.float_conversions.proofs.float_to_int.Goals as goal
 
+-- the whole part, which is an i32's
 whole : (c : After-truncating_f32_to_i64) → back w64 c.truncating_f32_to_i64.result ≡ to_signed 31 c.args.x
 unfolding of_bits neg
 whole c =

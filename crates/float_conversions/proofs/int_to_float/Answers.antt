@@ -1,4 +1,5 @@
 -- `float_conversions::int_to_float` meets its contract. A negative Int's Float is that of its magnitude, negated (proofs/Magnitude.antt).
+-- Assumes nothing.
 use Rattle.std.proofs.Common.{ap, ◌∙◌}
 use lib.Ieee.{neg}
 use Rattle.binary32.proofs.Meets.{meant, of_int_meets}

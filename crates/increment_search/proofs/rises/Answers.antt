@@ -1,4 +1,5 @@
 -- `increment_search::rises` meets its contract: the values before cursor i rise, the last of them being `last`, and are Ints.
+-- Assumes nothing.
 use mathlib.Core.Path.{◌≡◌, refl, sym, ap, ◌∙◌, subst}
 use mathlib.Core.List.{List}
 use Prim.Native.Nat.{◌+◌, ◌-◌}

@@ -1,4 +1,5 @@
 -- `increment_search::rises` meets its contract: the values before cursor i rise, the last of them being `last`, and are Ints.
+-- Assumes nothing.
 use mathlib.Core.Path.{◌≡◌}
 use Prim.Native.Nat.{◌-◌, ◌≤◌}
 use lib.IntN.{pos}

@@ -1,4 +1,5 @@
 -- `increment_search::search_each` meets its contract: what is left to be stored is what is chosen of the definition's values from cursor k
+-- on, those before it being the first k. Assumes nothing.
 use mathlib.Core.List.{[]}
 use mathlib.Core.Path.{◌≡◌}
 use Prim.Native.Nat.{◌+◌, ◌-◌, ◌≤◌}

@@ -1,4 +1,5 @@
 -- `increment_search::search_rising` meets its contract: what is left to be stored are the definition's values from cursor k on that are
+-- among the entries' from cursor i on. Assumes nothing.
 use mathlib.Core.List.{[]}
 use mathlib.Core.Path.{◌≡◌, refl, sym, ap, ◌∙◌}
 use mathlib.Core.Bool.{true}

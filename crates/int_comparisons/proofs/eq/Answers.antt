@@ -1,4 +1,5 @@
 -- `int_comparisons::eq` meets its contract. Two Ints are the same where their bits are.
+-- Assumes nothing.
 use Rattle.ink_number.proofs.Signed.{same_bits}
 use Rattle.int_comparisons.proofs.eq.Goals as goal
 

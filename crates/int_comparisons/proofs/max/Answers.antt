@@ -1,4 +1,5 @@
 -- `int_comparisons::max` meets its contract. The machine compares what it reads back from the bits.
+-- Assumes nothing.
 use mathlib.Core.Path.{sym, ◌∙◌}
 use Rattle.ink_number.proofs.Signed.{back32, max_z_true, max_z_false}
 use Rattle.int_comparisons.proofs.max.Goals as goal

@@ -1,4 +1,5 @@
 -- `int_comparisons::ne` meets its contract. Two Ints are the same where their bits are.
+-- Assumes nothing.
 use mathlib.Core.Path.{ap}
 use mathlib.Core.Bool.{not}
 use Rattle.ink_number.proofs.Signed.{same_bits}

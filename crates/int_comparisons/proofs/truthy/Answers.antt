@@ -1,4 +1,5 @@
 -- `int_comparisons::truthy` meets its contract. An Int is 0 where its bits are.
+-- Assumes nothing.
 use mathlib.Core.Path.{ap}
 use mathlib.Core.Bool.{not}
 use lib.IntN.{pos}

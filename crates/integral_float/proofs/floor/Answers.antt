@@ -1,4 +1,5 @@
 -- `integral_float::floor` meets its contract: a negative x is rounded up without its sign, and a zero and a NaN are their own. Assumes
+-- nothing.
 use mathlib.Core.Path.{sym, ap, ◌∙◌}
 use lib.Ieee.{Float, neg, of_int, of_bits}
 use Rattle.binary32.specs.Operations.{opposite}

@@ -1,4 +1,5 @@
 -- `integral_float::whole_above` meets its contract: below 2^23 it is the whole number nearby, or one more where that is below x; from there
+-- on there is no fraction. Assumes nothing.
 use mathlib.Core.Path.{ap, ◌∙◌}
 use lib.Ieee.{binary32, add}
 use Rattle.integral_float.proofs.Tests.{in_contract, large}

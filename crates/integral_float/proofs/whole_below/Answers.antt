@@ -1,4 +1,5 @@
 -- `integral_float::whole_below` meets its contract: below 2^23 it is the whole number nearby, or one less where that is above x; from there
+-- on there is no fraction. Assumes nothing.
 use mathlib.Core.Path.{ap, ◌∙◌}
 use lib.Ieee.{binary32, sub}
 use Rattle.integral_float.proofs.Tests.{in_contract, large}

@@ -10,6 +10,7 @@ use Rattle.ink_list.proofs.TestLaws.{greater_left_empty, greater_right_empty, gr
 use Rattle.list_comparisons.proofs.greater_or_equals.Goals.{After-extreme_value-al}
 use Rattle.list_comparisons.proofs.greater_or_equals.Goals as goal
 
+-- the test of the least values, as the calls gave them
 lows : (c : After-extreme_value-al)
     → le_z (to_z w32 (of_z w32 c.extreme_value-bl.result)) (to_z w32 (of_z w32 c.extreme_value-al.result))
     ≡ le_z (extreme_value true c.args.bv.now) (extreme_value true c.args.av.now)

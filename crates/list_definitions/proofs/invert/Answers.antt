@@ -1,4 +1,5 @@
 -- `list_definitions::invert` meets its contract: what is left of the answer are the items from k on that the list from cursor j on has not, in the definitions from d on, whose set is s.
+-- Assumes nothing.
 use mathlib.Core.Path.{refl, sym, ◌∙◌}
 use Prim.Native.Nat.{◌-◌, ◌≤◌, ◌<◌}
 use native.Mathlib.Omega.{arith}
@@ -10,6 +11,7 @@ use Rattle.list_definitions.proofs.DefLaws.{onward_end, ends_at, ends_here, past
 use Rattle.list_definitions.proofs.invert.Goals.{In-loop-k}
 use Rattle.list_definitions.proofs.invert.Goals as goal
 
+-- in a turn there is a definition at the cursor
 here : (c : In-loop-k) → c.loop-k.d < length c.args.ends.now
 here c =
     let l = c.loop-k in

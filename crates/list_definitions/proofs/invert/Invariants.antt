@@ -1,4 +1,5 @@
 -- `list_definitions::invert` meets its contract: what is left of the answer are the items from k on that the list from cursor j on has not, in the definitions from d on, whose set is s.
+-- Assumes nothing.
 use mathlib.Core.Path.{◌≡◌}
 use Prim.Native.Nat.{ℕ, ◌+◌, ◌-◌, ◌≤◌}
 use lib.ListN.{length, drop, set}

@@ -1,4 +1,5 @@
 -- `list_definitions::origins_of` meets its contract: the bits of the definitions before d are set, and those from d on are the origins of the items from cursor j on.
+-- Assumes nothing.
 use mathlib.Core.Path.{sym, ap, ◌∙◌, subst}
 use Prim.Native.Nat.{ℕ, ◌+◌, ◌-◌, ◌<◌, ◌^◌, ◌*◌}
 use native.Mathlib.Omega.{arith}

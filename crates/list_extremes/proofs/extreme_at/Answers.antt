@@ -1,4 +1,5 @@
 -- `list_extremes::extreme_at` meets its contract: of the values before cursor i the best is at `best`, so that the extreme of all is
+-- that of the best and those from i on. Assumes nothing.
 use mathlib.Core.Path.{◌≡◌, sym, ap, ◌∙◌}
 use mathlib.Core.List.{◌∷◌, []}
 use Prim.Native.Nat.{◌-◌}

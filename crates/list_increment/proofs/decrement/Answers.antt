@@ -9,6 +9,7 @@ use Rattle.ink_list.specs.Entries.{entries}
 use Rattle.list_definitions.proofs.Raised.{wrote_lower}
 use Rattle.list_increment.proofs.decrement.Goals as goal
 
+-- n times -1 is -n
 less : (n : ℤ) → n *ℤ negsuc 0 ≡ neg_ℤ n
 less (pos a) = ap (λ (k : ℕ). neg_ℤ (pos k)) (mul-one a)
 less (negsuc a) = ap pos (mul-one (suc a))

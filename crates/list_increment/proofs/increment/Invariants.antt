@@ -1,4 +1,5 @@
 -- `list_increment::increment` meets its contract: what is left of the answer are the targets from the first item of definition d on,
+-- those of the entries from cursor j on. Assumes nothing.
 use mathlib.Core.Path.{◌≡◌}
 use Prim.Native.Nat.{◌-◌, ◌≤◌}
 use lib.ListN.{length, drop}

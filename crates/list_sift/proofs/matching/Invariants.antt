@@ -1,4 +1,5 @@
 -- `list_sift::matching` meets its contract: what is left of the answer are the entries from cursor i on whose items are among b's from cursor j on, or are not.
+-- Assumes nothing.
 use mathlib.Core.Path.{◌≡◌}
 use mathlib.Core.Bool.{beq}
 use Prim.Native.Nat.{◌-◌, ◌≤◌}

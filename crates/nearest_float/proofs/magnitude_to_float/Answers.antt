@@ -1,4 +1,5 @@
 -- `nearest_float::magnitude_to_float` meets its contract. m has 24 + k digits, so rounding it to 24 digits and scaling back is rounding it once (proofs/Significand.antt).
+-- Assumes nothing.
 use mathlib.Core.Path.{refl}
 use lib.IntN.{pos}
 use Rattle.binary32.proofs.Meets.{meant, of_int_meets}

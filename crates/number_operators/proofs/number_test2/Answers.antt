@@ -14,6 +14,7 @@ use Rattle.operator_kinds.specs.Kinds.{common}
 use Rattle.number_operators.specs.Numbers.{test_z, test_f, test_numbers}
 use Rattle.number_operators.proofs.number_test2.Goals as goal
 
+-- the choice that the code makes
 by_kinds : (o : ℕ) (s t : Bool) (z w : ℤ) (x y : Float)
     → test_numbers (common (kind_of (cond s (float x) (int z))) (kind_of (cond t (float y) (int w)))) o (cond s (float x) (int z)) (cond t (float y) (int w))
     ≡ cond (s || t) (test_f o (as_float (cond s (float x) (int z))) (as_float (cond t (float y) (int w)))) (test_z o (as_int (cond s (float x) (int z))) (as_int (cond t (float y) (int w))))

@@ -19,6 +19,7 @@ use Rattle.number_operators.specs.Numbers.{whole_unary}
 use Rattle.number_operators.proofs.number_whole1.Goals.{Start}
 use Rattle.number_operators.proofs.number_whole1.Goals as goal
 
+-- a number has no entries
 uncounted : (k : ℕ) (z : ℤ) (x : Float) (t : Bool) → pos 0 ≡ cond t (pos (length (entries_of (number_of k z x)))) (pos 0)
 uncounted k z x true = go (eqb k 2)
   where
@@ -27,6 +28,7 @@ uncounted k z x true = go (eqb k 2)
     go false = refl
 uncounted k z x false = refl
 
+-- at an operator that leaves the Int as it is
 kept : (s : Start) {k : ℕ} {z : ℤ} → s.args.op ≡ k → mag z < 2 ^ 31 → z ≡ as_int (number_of s.args.ka (back w32 s.args.za) s.args.xa)
     → as_int (number_of s.args.ka s.args.za s.args.xa) ≡ whole_unary k (number_of s.args.ka s.args.za s.args.xa)
     → back w32 z ≡ whole_unary s.args.op (number_of s.args.ka s.args.za s.args.xa)

@@ -1,4 +1,5 @@
 -- `number_points::pairs` is safe and ends. The loop's invariant: the index is at most the slice's length.
+-- Assumes nothing.
 use mathlib.Core.Path.{◌≡◌}
 use Prim.Native.Nat.{◌-◌, ◌≤◌}
 use lib.ListN.{length}

@@ -1,4 +1,5 @@
 -- `operating::operate` meets its contract: the answer on kinds is a no, or the kind of the result, by which the result is made.
+-- Assumes nothing.
 use mathlib.Core.Path.{◌≡◌, refl, ap, ◌∙◌}
 use Prim.Native.Nat.{ℕ}
 use native.Mathlib.Omega.{arith}

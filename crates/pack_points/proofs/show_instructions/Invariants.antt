@@ -1,4 +1,5 @@
 -- `pack_points::show_instructions` is safe and ends. The loop's invariant: an instruction of the sheet stands at `at`, or the sheet ends
+-- there. The measure is how many bytes are left. Assumes nothing.
 use Prim.Native.Nat.{ℕ, ◌-◌}
 use Rattle.pack.specs.Read.{Standing}
 use Rattle.pack_points.proofs.show_instructions.Given as goal

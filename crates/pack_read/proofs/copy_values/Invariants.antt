@@ -1,4 +1,5 @@
 -- `pack_read::copy_values` meets its contract. The loop's invariant: k values are written. The measure is how many are left. Assumes
+-- nothing.
 use Prim.Native.Nat.{◌+◌, ◌*◌, ◌-◌, ◌≤◌}
 use mathlib.Core.Path.{◌≡◌}
 use Rattle.slices.specs.Every.{table}

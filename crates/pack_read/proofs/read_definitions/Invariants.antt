@@ -1,4 +1,5 @@
 -- `pack_read::read_definitions` meets its contract. The loop's invariant: the ends and the values of the definitions passed are written,
+-- and `items` counts them. The measure is how many are left. Assumes nothing.
 use Prim.Native.Nat.{suc, ◌-◌, ◌≤◌}
 use mathlib.Core.Path.{◌≡◌}
 use Rattle.slices.specs.Every.{table}

@@ -1,4 +1,5 @@
 -- `pack_sheets::question5` meets its contract. The loop's invariant: the sheets passed are well formed. The measure is how many are left.
+-- Assumes nothing.
 use Prim.Native.Nat.{◌-◌, ◌≤◌}
 use mathlib.Core.Bool.{true}
 use mathlib.Core.Path.{◌≡◌}

@@ -1,4 +1,5 @@
 -- `pack_sheets::sheet_ok` meets its contract. The loop's invariant: whether the instructions from `at` on, at most `left`, are well formed
+-- is whether all are. The measure is how many bytes are left. Assumes nothing.
 use Prim.Native.Nat.{◌-◌, ◌≤◌}
 use mathlib.Core.Path.{◌≡◌}
 use Rattle.pack.specs.Format.{instruction_limit}

@@ -1,4 +1,5 @@
 -- `run_checked::clear` meets its contract. The invariant: the places passed are zero as far as they were used, and the others as they were.
+-- Assumes nothing.
 use mathlib.Core.Path.{◌≡◌}
 use Prim.Native.Nat.{◌-◌, ◌≤◌}
 use lib.IntN.{pos}

@@ -1,4 +1,5 @@
 -- `run_ready::run_ready` meets its contract: questions 6 and 7 in their order, and then the run, which leaves clear work slices as
+-- they were. Assumes nothing.
 use mathlib.Core.Path.{refl, sym, ◌∙◌}
 use native.Mathlib.Omega.{arith}
 use Rattle.pack.specs.Bodies.{decoded}

@@ -1,4 +1,5 @@
 -- `running::work` meets its contract. The invariant (`Working`): what is left of the sheet, from the stack as it stands, ends as the whole
+-- does. Assumes nothing.
 use mathlib.Core.Path.{refl, sym, ap, ◌∙◌, subst}
 use Prim.Native.Nat.{ℕ, ◌-◌, ◌<◌}
 use native.Mathlib.Omega.{arith}
@@ -21,6 +22,7 @@ use Rattle.running.proofs.Working.{slot_is, inputs_none, allowed_op, allowed_slo
 use Rattle.running.proofs.work.Goals.{After-run_step-step}
 use Rattle.running.proofs.work.Goals as goal
 
+-- what the step comes to, on the stack as it stands
 stepped : (c : After-run_step-step) →
     let l = c.loop-at in
     let r = c.read_instruction-instruction in

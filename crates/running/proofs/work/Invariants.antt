@@ -1,4 +1,5 @@
 -- `running::work` meets its contract. The invariant (`Working`): what is left of the sheet, from the stack as it stands, ends as the whole
+-- does. Assumes nothing.
 use Prim.Native.Nat.{◌-◌}
 use mathlib.Core.List.{map}
 use Rattle.ink_value.specs.Value.{val_of}

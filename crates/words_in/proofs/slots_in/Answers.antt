@@ -1,4 +1,5 @@
 -- `words_in::slots_in` meets its contract. The loop's invariant: k slots are read. The measure is how many are left. Assumes
+-- nothing.
 use Prim.Native.Nat.{ℕ, ◌-◌}
 use mathlib.Core.Path.{refl, ap, ◌∙◌}
 use native.Mathlib.Omega.{arith}

@@ -1,4 +1,5 @@
 -- `words_in::slots_in` meets its contract. The loop's invariant: k slots are read. The measure is how many are left. Assumes
+-- nothing.
 use Prim.Native.Nat.{◌-◌, ◌≤◌}
 use mathlib.Core.Path.{◌≡◌}
 use Rattle.slices.specs.Every.{table}

@@ -1,4 +1,5 @@
 -- `ink_list::entries::ascends` meets its contract: from cursor i on, with `low` one past the last item, the test is that of the whole.
+-- Assumes nothing.
 use mathlib.Core.Path.{refl, sym, ◌∙◌}
 use Prim.Native.Nat.{◌-◌}
 use native.Mathlib.Omega.{arith}

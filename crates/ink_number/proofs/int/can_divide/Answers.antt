@@ -1,4 +1,5 @@
 -- `ink_number::int::can_divide` meets its contract. Two Ints are the same where their bits are (proofs/Division.antt).
+-- Assumes nothing.
 use Rattle.std.proofs.Common.{sym}
 use Rattle.ink_number.proofs.Division.{by_zero, by_less_one, by_other}
 use Rattle.ink_number.proofs.int.can_divide.Goals as goal

@@ -1,4 +1,5 @@
 -- `ink_number::int::divide` meets its contract. Where `can_divide` says yes the division is defined (proofs/Division.antt).
+-- Assumes nothing.
 use Rattle.ink_number.proofs.Division.{defined, quotient_yes, quotient_no}
 use Rattle.ink_number.proofs.int.divide.Goals as goal
 

@@ -1,4 +1,5 @@
 -- `ink_number::int::pattern` meets its contract. The cast to i64 keeps the number.
+-- Assumes nothing.
 use Rattle.std.proofs.Common.{ap, ◌∙◌}
 use Rattle.ink_number.specs.Int.{residue}
 use Rattle.ink_number.proofs.Signed.{widens, back64}

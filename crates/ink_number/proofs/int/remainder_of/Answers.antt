@@ -1,4 +1,5 @@
 -- `ink_number::int::remainder_of` meets its contract. Where `can_divide` says yes the division is defined (proofs/Division.antt).
+-- Assumes nothing.
 use Rattle.ink_number.proofs.Division.{defined, remainder_yes, remainder_no}
 use Rattle.ink_number.proofs.int.remainder_of.Goals as goal
 

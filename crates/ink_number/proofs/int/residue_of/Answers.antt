@@ -1,4 +1,5 @@
 -- `ink_number::int::residue_of` meets its contract. The remainder by 2^32 is taken with the dividend's sign, and 2^32 is added to a negative one (proofs/Residue.antt).
+-- Assumes nothing.
 use Rattle.ink_number.proofs.Residue.{divides_out, raised, kept}
 use Rattle.ink_number.proofs.int.residue_of.Goals as goal
 

@@ -1,4 +1,5 @@
 -- `ink_number::int::signed_of` meets its contract. A pattern from 2^31 up, less 2^32, is the negative number that it stands for (proofs/Residue.antt).
+-- Assumes nothing.
 use Rattle.ink_number.proofs.Residue.{upper, signed_is}
 use Rattle.ink_number.proofs.int.signed_of.Goals as goal
 

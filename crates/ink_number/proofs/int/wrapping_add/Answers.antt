@@ -1,4 +1,5 @@
 -- `ink_number::int::wrapping_add` meets its contract. The residue of a sum is the wrapped sum of the residues (proofs/Residue.antt).
+-- Assumes nothing.
 use Rattle.std.proofs.Common.{ap, ◌∙◌}
 use Rattle.ink_number.specs.Int.{residue, signed, wrap}
 use Rattle.ink_number.proofs.Signed.{read, returned}

@@ -1,4 +1,5 @@
 -- `ink_number::int::wrapping_mul` meets its contract. A product of two Ints is an i64, whose residue is taken.
+-- Assumes nothing.
 use Rattle.std.proofs.Common.{ap, ◌∙◌}
 use Rattle.ink_number.specs.Int.{residue, signed, wrap}
 use Rattle.ink_number.proofs.Signed.{widens, returned}

@@ -1,4 +1,5 @@
 -- `ink_number::int::wrapping_neg` meets its contract. The residue of -a is the one number that wraps a back to 0 (proofs/Residue.antt).
+-- Assumes nothing.
 use Rattle.std.proofs.Common.{ap, ◌∙◌}
 use Rattle.ink_number.specs.Int.{residue, signed, wrap}
 use Rattle.ink_number.proofs.Signed.{read, returned}

@@ -1,4 +1,5 @@
 -- `ink_number::int::wrapping_sub` meets its contract. The residue of a difference is the one number that wraps back (proofs/Residue.antt).
+-- Assumes nothing.
 use Rattle.std.proofs.Common.{ap, ◌∙◌}
 use Rattle.ink_number.specs.Int.{residue, signed, wrap}
 use Rattle.ink_number.proofs.Signed.{read, returned}

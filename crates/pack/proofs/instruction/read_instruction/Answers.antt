@@ -1,4 +1,5 @@
 -- `pack::instruction::read_instruction` meets its contract: a whole instruction stands there, so the bytes of its operand do too. Assumes
+-- nothing.
 use lib.Dec.{ltb, eqb}
 use Rattle.pack.specs.Format.{slot_limit}
 use Rattle.pack.specs.Instruction.{push, push_bool, push_int, push_float, push_list, push_slot}

@@ -1,4 +1,5 @@
 -- `pack_check::questions::question2` meets its contract. The loop's invariant: `at` is where body b has to start, and the bodies before it start
+-- where they have to. The measure is how many are left. Assumes nothing.
 use Prim.Native.Nat.{◌+◌, ◌*◌, ◌-◌, ◌≤◌}
 use mathlib.Core.Bool.{true}
 use mathlib.Core.Path.{◌≡◌}

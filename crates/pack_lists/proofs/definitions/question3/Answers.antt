@@ -1,4 +1,5 @@
 -- `pack_lists::definitions::question3` meets its contract. The loop's invariant: the definitions passed are well formed, and `items` counts
+-- their items. The measure is how many are left. Assumes nothing.
 use Prim.Native.Nat.{ℕ, ◌-◌}
 use mathlib.Core.Bool.{true}
 use mathlib.Core.Path.{◌≡◌, refl, sym, ap, ◌∙◌, subst}

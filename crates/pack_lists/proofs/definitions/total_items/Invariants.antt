@@ -1,4 +1,5 @@
 -- `pack_lists::definitions::total_items` meets its contract. The loop's invariant: `items` counts the items of the definitions passed. The
+-- measure is how many are left. Assumes nothing.
 use Prim.Native.Nat.{◌-◌, ◌≤◌}
 use mathlib.Core.Path.{◌≡◌}
 use Rattle.pack.specs.Bodies.{items_below}

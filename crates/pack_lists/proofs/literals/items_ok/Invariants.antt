@@ -1,4 +1,5 @@
 -- `pack_lists::literals::items_ok` meets its contract. The loop's invariant: whether the items from k on rise from `least` is whether all rise.
+-- The measure is how many are left. Assumes nothing.
 use Prim.Native.Nat.{◌-◌, ◌≤◌}
 use mathlib.Core.Path.{◌≡◌}
 use lib.ListN.{drop}
