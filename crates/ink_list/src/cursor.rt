@@ -1,29 +1,24 @@
-// A cursor over rising item numbers.
+// A cursor over rising item numbers: those that are left.
 
-ghost use Rattle.std.specs.Prelude.{◌≡◌, ◌≤◌, length, drop};
+ghost use Rattle.std.specs.Prelude.{◌≡◌};
 ghost use Rattle.ink_list.specs.Steps.{drop_below, head_is};
 
-// From cursor j on, the first place of a number that is not below x.
-pub fn skip_below(is: &[u16], j: usize, x: u16) -> usize
-    requires { j ≤ length is.now }
-    ensures { (result ≤ length is.now) × (drop result is.now ≡ drop_below x (drop j is.now)) }
+// What is left from the first number on that is not below x.
+#[tactic(auto, using(crate::proofs::SiftLaws::below_stop, crate::proofs::SiftLaws::below_end))]
+pub fn skip_below(is: &[u16], x: u16) -> &[u16]
+    ensures { result.now ≡ drop_below x is.now }
 {
-    let mut k = j;
-    while k < is.len() {
-        if x <= is[k] {
-            return k;
+    for (k, y) in is.iter().enumerate() {
+        if x <= *y {
+            return &is[k..];
         }
-        k += 1;
     }
-    k
+    &is[..0]
 }
 
-// Does x stand at place j.
-pub fn stands(is: &[u16], j: usize, x: u16) -> bool
-    ensures { result ≡ head_is x (drop j is.now) }
+// Does x stand first.
+pub fn stands(is: &[u16], x: u16) -> bool
+    ensures { result ≡ head_is x is.now }
 {
-    if j < is.len() {
-        return is[j] == x;
-    }
-    false
+    is.first() == Some(&x)
 }

@@ -1,9 +1,9 @@
--- `ink_list::entries::is_formed` meets its contract: the three tests in turn. Assumes nothing.
+-- `ink_list::well_formed::is_formed` meets its contract: the three tests in turn. Assumes nothing.
 use mathlib.Core.Path.{sym, ◌∙◌}
 use borrow.Author.Tests.{eq-eqb, ne_eqb}
 use Rattle.ink_list.specs.Entries.{formed, formed_lent}
 use Rattle.slices.proofs.Every.{and_on, and_no_left}
-use Rattle.ink_list.proofs.entries.is_formed.Goals as goal
+use Rattle.ink_list.proofs.well_formed.is_formed.Goals as goal
 
 pub returns-then-items-values : goal.returns-then-items-values
 unfolding formed_lent

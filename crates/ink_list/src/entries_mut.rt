@@ -1,0 +1,44 @@
+// Entries written into two lent slices.
+
+ghost use Rattle.std.specs.Prelude.{[], ◌∷◌, ◌+◌, ◌<◌, ◌≤◌, length};
+ghost use Rattle.ink_list.specs.Lists.{list_of, places, AppendsTo, Fills};
+
+use crate::entries::Entries;
+
+// Two slices that entries are written into, side by side.
+#[derive(Drop)]
+pub struct EntriesMut<'a> {
+    pub items: &'a mut [u16],
+    pub values: &'a mut [i32],
+}
+
+impl<'a> EntriesMut<'a> {
+    // Stores an entry at place n; the next place.
+    pub fn push(&mut self, n: usize, item: u16, value: i32) -> usize
+        requires { n < places self.old }
+        ensures { AppendsTo n ((item, value) ∷ []) result self.old self.new }
+    {
+        self.items[n] = item;
+        self.values[n] = value;
+        n + 1
+    }
+
+    // Stores a list's entries from place n on; the next place.
+    pub fn append(&mut self, n: usize, a: Entries<'_>) -> usize
+        requires { n + length a.items.now ≤ places self.old }
+        ensures { AppendsTo n (list_of a.entry) result self.old self.new }
+    {
+        let end = n + a.items.len();
+        self.items[n..end].copy_from_slice(a.items);
+        self.values[n..end].copy_from_slice(a.values);
+        end
+    }
+
+    // Stores a list's entries from the start; their count.
+    pub fn copy(&mut self, a: Entries<'_>) -> usize
+        requires { length a.items.now ≤ places self.old }
+        ensures { Fills (list_of a.entry) result self.old self.new }
+    {
+        self.append(0, a)
+    }
+}
