@@ -6,7 +6,7 @@ ghost use Rattle.std.specs.Prelude.{◌≡◌, true, ◌≤◌, length};
 ghost use Rattle.ink_list.specs.Entries.{Lent};
 ghost use Rattle.list_definitions.specs.Defs.{Tables};
 
-use ink_list::entries::is_formed;
+use ink_list::well_formed::is_formed;
 use list_cases::read::{
     CASE, CASES, FIRST, NUMBER, OTHER_NUMBER, POOL, SECOND, TITLE, WHAT, byte, items_of, place,
     pool, title, value, values_of,

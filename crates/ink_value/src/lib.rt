@@ -282,7 +282,7 @@ pub fn is_formed(v: Value, items: &[u16], values: &[i32], total: usize, definiti
     if values.len() < end {
         return false;
     }
-    ink_list::entries::is_formed(
+    ink_list::well_formed::is_formed(
         &items[start..end],
         &values[start..end],
         origins_in(v),

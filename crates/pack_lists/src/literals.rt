@@ -55,7 +55,7 @@ fn literal_ok(p: &[u8], b: usize, total: usize, format: Format) -> bool
         return false;
     }
     let at = offset(p, b);
-    if !ink_list::entries::bits_below(u64_at(p, at), byte_at(p, 1)) {
+    if !ink_list::well_formed::bits_below(u64_at(p, at), byte_at(p, 1)) {
         return false;
     }
     items_ok(p, b, k, total, format)
