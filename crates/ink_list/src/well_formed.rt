@@ -36,5 +36,11 @@ fn ascends(items: &[u16], limit: usize) -> bool
 pub fn is_formed(items: &[u16], values: &[i32], set: u64, total: usize, definitions: usize) -> bool
     ensures { result ≡ formed_lent total definitions set items.now values.now }
 {
-    items.len() == values.len() && bits_below(set, definitions) && ascends(items, total)
+    if items.len() != values.len() {
+        return false;
+    }
+    if !bits_below(set, definitions) {
+        return false;
+    }
+    ascends(items, total)
 }
