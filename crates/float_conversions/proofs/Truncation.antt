@@ -2,9 +2,9 @@
 -- as an i64 is that as an i32, elsewhere it is an end of the range. Assumes nothing.
 use Rattle.std.proofs.Common.{◌≡◌, ℕ, ◌+◌, ◌-◌, ◌*◌, ◌/◌, ◌^◌, ◌<◌, ◌≤◌, min, Bool, true, false, ◌&&◌, ◌||◌, T, eqb, ltb, pos, negsuc, neg_ℤ, sym, refl, ap, subst, true≢false, le_of_eq, le_of_lt, div-lt_iff_lt-mul, le-div_iff_mul-le, mul-one, arith, lt→ltb, ltb-false, ltb-true, eqb-true}
 use mathlib.Core.Bool.{false≢true}
-use lib.Ieee.{Float, nan, inf, fin, up, down, lt, le, eq, ne, to_signed}
+use lib.Ieee.{Float, nan, inf, fin, up, down, lt, le, eq, is_nan, to_signed}
 use lib.Ieee.Fits.{down_pos}
-use Rattle.float_conversions.proofs.Nans.{is_nan_lem, nan_ne}
+use Rattle.float_conversions.proofs.Nans.{nan_of, nan_is}
 
 -- ---- the whole part against a bound
 
@@ -100,9 +100,9 @@ above (fin false m e) p q =
     ap pos (sym (cap (m * up e / down e) (part_ge (m * up e) (down e) (2 ^ 31) (down_pos e) (ltb-false (m * up e * 1) (2147483648 * down e) q))))
 above (fin true m e) p q = let D = down_pos e in absurd (not_below (m * up e * 1) (2147483648 * down e) (omega arith) q)
 
-pub under : (x : Float) → le (fin true 1 (pos 31)) x ≡ false → ne x x ≡ false → negsuc 2147483647 ≡ to_signed 31 x
+pub under : (x : Float) → le (fin true 1 (pos 31)) x ≡ false → is_nan x ≡ false → negsuc 2147483647 ≡ to_signed 31 x
 unfolding le lt eq to_signed
-under nan p q = absurd (nan_ne q)
+under nan p q = absurd (nan_is q)
 under (inf true) p q = refl
 under (inf false) p q = absurd (true≢false p)
 under (fin false m e) p q = let D = down_pos e in absurd (not_below_l (2147483648 * down e) (m * up e * 1) _ (omega arith) p)
@@ -110,6 +110,6 @@ under (fin true m e) p q =
     ap (λ (v : ℕ). neg_ℤ (pos v))
     (sym (cap_le (m * up e / down e) (part_ge (m * up e) (down e) (2 ^ 31) (down_pos e) (or_gt (m * up e * 1) (2147483648 * down e) _ p))))
 
-pub none : (x : Float) → ne x x ≡ true → pos 0 ≡ to_signed 31 x
+pub none : (x : Float) → is_nan x ≡ true → pos 0 ≡ to_signed 31 x
 unfolding to_signed
-none x e = sym (ap (to_signed 31) (is_nan_lem x e))
+none x e = sym (ap (to_signed 31) (nan_of x e))

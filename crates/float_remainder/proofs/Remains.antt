@@ -1,15 +1,14 @@
 -- The remainder of two Floats by their numbers of units, and where it is NaN or the dividend. Assumes nothing.
 use mathlib.Core.Path.{◌≡◌, refl, sym, ap, ◌∙◌, subst}
-use mathlib.Core.Bool.{Bool, true, false, not, cond, true≢false}
+use mathlib.Core.Bool.{Bool, true, false, cond, true≢false, false≢true}
 use Prim.Native.Nat.{ℕ, zero, suc, ◌-◌, ◌*◌, ◌/◌, ◌%◌, ◌^◌, ◌≤◌, ◌<◌}
 use native.Mathlib.Nat.{mul_comm, mul_assoc, mul_right_comm, mul-pos, zero-mul, zero-lt-suc, mod-eq-sub-div-mul}
 use native.Mathlib.Omega.{arith}
-use lib.Dec.{T, leb, eqb}
+use lib.Dec.{leb, eqb}
 use lib.IntN.{ℤ}
 use lib.Pow.{pow_pos}
-use lib.Ieee.{Float, nan, inf, fin, binary32, up, rem, div, ne, eq, is_nan, fits, of_bits, to_bits}
+use lib.Ieee.{Float, nan, inf, fin, binary32, up, rem, is_nan, fits, of_bits, to_bits}
 use lib.Ieee.Fits.{up_pos, down_pos}
-use lib.Ieee.Compare.{differs_from_itself}
 use Rattle.binary32.specs.Binary32.{numerator, denominator, Is, Binary32, Exactly}
 use Rattle.binary32.specs.Operations.{Stands, OfBits, Remainder}
 use Rattle.binary32.specs.Real.{rem_f}
@@ -85,22 +84,19 @@ told a b r f g e = meant (rem_meets a b (fitting a f) (fitting b g)) e
 
 -- ---- NaN
 
-pub quotient_nan : div binary32 (of_bits binary32 0) (of_bits binary32 0) ≡ nan
-unfolding div of_bits
-quotient_nan = refl
+pub nan_pattern : of_bits binary32 0x7fc0_0000 ≡ nan
+unfolding of_bits
+nan_pattern = refl
 
-pub is_nan_of : (x : Float) → ne x x ≡ true → x ≡ nan
-is_nan_of x e = differs_from_itself x (subst T (sym e) tt)
-
-nan_differs : ne nan nan ≡ false → ⊥
-unfolding ne eq
-nan_differs e = true≢false e
-
-pub no_nan : (x : Float) → ne x x ≡ false → T (not (is_nan x))
+nan_of : (x : Float) → is_nan x ≡ true → x ≡ nan
 unfolding is_nan
-no_nan nan e = absurd (nan_differs e)
-no_nan (inf s) e = tt
-no_nan (fin s m d) e = tt
+nan_of nan e = refl
+nan_of (inf s) e = absurd (false≢true e)
+nan_of (fin s m d) e = absurd (false≢true e)
+
+nan_is : is_nan nan ≡ false → ⊥
+unfolding is_nan
+nan_is e = true≢false e
 
 nan_left : (y : Float) → nan ≡ rem_f nan y
 unfolding rem
@@ -116,11 +112,11 @@ inf_left : (s : Bool) (y : Float) → nan ≡ rem_f (inf s) y
 unfolding rem
 inf_left s y = refl
 
-pub of_nan : (x y : Float) → ne x x ≡ true → x ≡ rem_f x y
-of_nan x y e = subst (λ (z : Float). z ≡ rem_f z y) (sym (is_nan_of x e)) (nan_left y)
+pub of_nan : (x y : Float) → is_nan x ≡ true → x ≡ rem_f x y
+of_nan x y e = subst (λ (z : Float). z ≡ rem_f z y) (sym (nan_of x e)) (nan_left y)
 
-pub by_nan : (x y : Float) → ne y y ≡ true → y ≡ rem_f x y
-by_nan x y e = subst (λ (z : Float). z ≡ rem_f x z) (sym (is_nan_of y e)) (nan_right x)
+pub by_nan : (x y : Float) → is_nan y ≡ true → y ≡ rem_f x y
+by_nan x y e = subst (λ (z : Float). z ≡ rem_f x z) (sym (nan_of y e)) (nan_right x)
 
 -- from an infinity's pattern on
 no_finite : (x : Float) → Binary32 x → infinity ≤ to_bits binary32 x % 2 ^ 31
@@ -173,11 +169,11 @@ keeps nan s t a p = refl
 keeps (inf s') s t a p = absurd p
 keeps (fin s' m e) s t a p = refl
 
-pub by_infinity : (x y : Float) → Binary32 x → Binary32 y → to_bits binary32 x % 2 ^ 31 < infinity → infinity ≤ to_bits binary32 y % 2 ^ 31 → ne y y ≡ false → x ≡ rem_f x y
+pub by_infinity : (x y : Float) → Binary32 x → Binary32 y → to_bits binary32 x % 2 ^ 31 < infinity → infinity ≤ to_bits binary32 y % 2 ^ 31 → is_nan y ≡ false → x ≡ rem_f x y
 by_infinity x y p q h k n = go (eqb (to_bits binary32 y % 2 ^ 23) 0) (no_finite y q k)
   where
     go : (t : Bool) → y ≡ cond t (inf (leb (2 ^ 31) (to_bits binary32 y))) nan → x ≡ rem_f x y
     go true e =
         let a = to_bits binary32 x in
         subst (λ (z : Float). x ≡ rem_f x z) (sym e) (keeps x (leb (2 ^ 31) a) (leb (2 ^ 31) (to_bits binary32 y)) (units a) (stands a x h (has x p)))
-    go false e = absurd (nan_differs (subst (λ (z : Float). ne z z ≡ false) e n))
+    go false e = absurd (nan_is (subst (λ (z : Float). is_nan z ≡ false) e n))

@@ -3,7 +3,6 @@
 #![tactic(auto)]
 
 ghost use Rattle.std.specs.Prelude.{◌≡◌, ◌*◌, ◌%◌, ◌^◌, ◌<◌, ◌≤◌, leb};
-ghost use Rattle.std.specs.Float.{nan};
 ghost use Rattle.binary32.specs.Binary32.{Is, Exactly};
 ghost use Rattle.binary32.specs.Operations.{Remainder};
 ghost use Rattle.binary32.specs.Real.{rem_f};
@@ -21,12 +20,6 @@ const FRACTION_DIGITS: u32 = 23;
 
 // A significand has 24 digits, and a u64 room for 40 more.
 const STEP: u32 = 40;
-
-fn not_a_number() -> f32
-    ensures { result ≡ nan }
-{
-    0.0 / 0.0
-}
 
 // The units are a significand times a power of two; this is the power's exponent.
 fn exponent(pattern: u32) -> u32
@@ -48,14 +41,15 @@ fn significand(pattern: u32) -> u32
 }
 
 // m * 2^d % n, by the digits that a u64 has room for.
+#[tactic(auto, using(crate::proofs::Scaling::room))]
 fn shifted_rem(m: u32, n: u32, d: u32) -> u32
     requires m_short { m < 2 ^ 24 }
     requires n_short { n < 2 ^ 24 }
     requires n_nonzero { 0 < n }
     ensures { result ≡ m * 2 ^ d % n }
 {
-    let divisor = n as u64;
-    let mut rest = m as u64;
+    let divisor = u64::from(n);
+    let mut rest = u64::from(m);
     let mut left = d;
     while left > STEP {
         rest = (rest << STEP) % divisor;
@@ -107,19 +101,19 @@ pub fn rem(a: f32, b: f32) -> f32
     ensures value { result ≡ rem_f a b }
     ensures exactly { Exactly (Remainder a b) result }
 {
-    if a != a {
+    if a.is_nan() {
         return a;
     }
-    if b != b {
+    if b.is_nan() {
         return b;
     }
-    let dividend = f32::to_bits(a);
-    let divisor = f32::to_bits(b);
+    let dividend = a.to_bits();
+    let divisor = b.to_bits();
     if dividend % SIGN_BIT >= INFINITY {
-        return not_a_number();
+        return f32::NAN;
     }
     if divisor % SIGN_BIT == 0 {
-        return not_a_number();
+        return f32::NAN;
     }
     if divisor % SIGN_BIT >= INFINITY {
         return a;

@@ -42,42 +42,49 @@ pub fn rem(a: f32, b: f32) -> f32
     float_remainder::rem(a, b)
 }
 
+#[tactic(auto, using(binary32::proofs::Meets::neg_meets))]
 pub fn neg(a: f32) -> f32
     ensures { result ≡ opposite a }
 {
     -a
 }
 
+#[tactic(auto, using(binary32::proofs::Meets::eq_meets))]
 pub fn eq(a: f32, b: f32) -> bool
     ensures { result ≡ equal a b }
 {
     a == b
 }
 
+#[tactic(auto, using(binary32::proofs::Meets::ne_meets))]
 pub fn ne(a: f32, b: f32) -> bool
     ensures { result ≡ not_equal a b }
 {
     a != b
 }
 
+#[tactic(auto, using(binary32::proofs::Meets::lt_meets))]
 pub fn lt(a: f32, b: f32) -> bool
     ensures { result ≡ less a b }
 {
     a < b
 }
 
+#[tactic(auto, using(binary32::proofs::Meets::le_meets))]
 pub fn le(a: f32, b: f32) -> bool
     ensures { result ≡ less_or_equal a b }
 {
     a <= b
 }
 
+#[tactic(auto, using(binary32::proofs::Meets::lt_meets))]
 pub fn gt(a: f32, b: f32) -> bool
     ensures { result ≡ less b a }
 {
     a > b
 }
 
+#[tactic(auto, using(binary32::proofs::Meets::le_meets))]
 pub fn ge(a: f32, b: f32) -> bool
     ensures { result ≡ less_or_equal b a }
 {
@@ -85,26 +92,29 @@ pub fn ge(a: f32, b: f32) -> bool
 }
 
 // The smaller: the other operand beside a NaN, the left one when equal.
+#[tactic(auto, using(crate::proofs::Nans::nan_meets, binary32::proofs::Meets::lt_meets), unfolding(binary32::specs::Operations::smaller))]
 pub fn min(a: f32, b: f32) -> f32
     ensures { result ≡ smaller a b }
 {
-    if a != a {
+    if a.is_nan() {
         return b;
     }
     if b < a { b } else { a }
 }
 
 // The greater: the other operand beside a NaN, the left one when equal.
+#[tactic(auto, using(crate::proofs::Nans::nan_meets, binary32::proofs::Meets::lt_meets), unfolding(binary32::specs::Operations::greater))]
 pub fn max(a: f32, b: f32) -> f32
     ensures { result ≡ greater a b }
 {
-    if a != a {
+    if a.is_nan() {
         return b;
     }
     if a < b { b } else { a }
 }
 
 // A NaN is truthy, since it is not 0.
+#[tactic(auto, using(binary32::proofs::Meets::truthy_meets))]
 pub fn truthy(x: f32) -> bool
     ensures { result ≡ truthy x }
 {

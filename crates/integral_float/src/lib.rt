@@ -19,7 +19,7 @@ fn nearby(x: f32) -> f32
     (x + FRACTION_LIMIT) - FRACTION_LIMIT
 }
 
-// 1 or 0, without a branch.
+// 1 or 0, without a branch; f32::from would convert a whole number.
 fn one_where(test: bool) -> f32
     ensures { result ≡ of_int32 (pos (bit_of test)) }
 {
@@ -50,7 +50,7 @@ fn whole_above(x: f32) -> f32
     x
 }
 
-// The nearest integral value from below; a zero, also -0.0, is its own, and a NaN is a NaN.
+// The nearest integral value from below; a zero, also -0.0, is its own, and a NaN is a NaN. (The library's is slower: it rounds both ways.)
 pub fn floor(x: f32) -> f32
     ensures value { result ≡ floor_f x }
     ensures exactly { Exactly (Floor x) result }

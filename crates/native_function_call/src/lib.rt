@@ -2,7 +2,7 @@
 #![tactic(auto)]
 
 ghost use Rattle.std.specs.Prelude.{◌≡◌, List, [], ◌∷◌, ℕ, ◌≤◌, ◌+◌, length, take};
-ghost use Rattle.ink_number.specs.Int.{divided};
+ghost use Rattle.ink_number.specs.Question.{answer};
 ghost use Rattle.ink_list.specs.Entries.{item_numbers};
 ghost use Rattle.list_definitions.specs.Defs.{ListDefinitions};
 ghost use Rattle.ink_value.specs.Val.{kind_at, listK, code_of};
@@ -13,16 +13,15 @@ ghost use Rattle.list_operators.specs.Lists.{Room, definitions, definitions_in};
 ghost use Rattle.native_function_call.specs.Apply.{of_int, test_lists, test, whole, real, compute, call};
 
 use ink_number::int;
-use ink_number::int::Divided;
+use ink_number::question::Question;
 use ink_value::{Outcome, Value, kind_code};
-use number_operators::{both, either};
 
-fn whole_outcome(d: Divided) -> Outcome
-    ensures { result ≡ placed (of_int (divided d)) }
+fn whole_outcome(d: Result<i32, Question>) -> Outcome
+    ensures { result ≡ placed (of_int (answer d)) }
 {
     match d {
-        Divided::Value(z) => Outcome::Value(Value::Int(z)),
-        Divided::Refused => Outcome::Refused(int::DIVISOR_QUESTION),
+        Ok(z) => Outcome::Value(Value::Int(z)),
+        Err(question) => Outcome::Refused(question.number()),
     }
 }
 
@@ -48,14 +47,9 @@ fn test_lists(
     ensures { result ≡ test_lists op (parts_in items values ka za xa sa na) (parts_in items values kb zb xb sb nb) }
 {
     match op {
-        op::AND => both(
-            ink_value::truth_from(ka, za, xa, na),
-            ink_value::truth_from(kb, zb, xb, nb),
-        ),
-        op::OR => either(
-            ink_value::truth_from(ka, za, xa, na),
-            ink_value::truth_from(kb, zb, xb, nb),
-        ),
+        // `&` and `|` have no branch.
+        op::AND => ink_value::truth_from(ka, za, xa, na) & ink_value::truth_from(kb, zb, xb, nb),
+        op::OR => ink_value::truth_from(ka, za, xa, na) | ink_value::truth_from(kb, zb, xb, nb),
         _ => list_pairs::test_held(
             op,
             sa,
@@ -87,12 +81,12 @@ fn test2(
     ensures { result ≡ test op (parts_in items values ka za xa sa na ∷ parts_in items values kb zb xb sb nb ∷ []) }
 {
     match operator_kinds::common(ka, kb) {
-        kind_code::INT => number_operators::test_int(
+        kind_code::INT => number_operators::test(
             op,
             ink_value::int_from(ka, za, xa, sa, na, values),
             ink_value::int_from(kb, zb, xb, sb, nb, values),
         ),
-        kind_code::FLOAT => number_operators::test_float(
+        kind_code::FLOAT => number_operators::test(
             op,
             ink_value::float_from(ka, za, xa, sa, na, values),
             ink_value::float_from(kb, zb, xb, sb, nb, values),
@@ -160,16 +154,16 @@ pub fn whole(
     sb: usize,
     nb: usize,
     values: &[i32],
-) -> Divided
+) -> Result<i32, Question>
     requires le_count { (1 ≤ count) × (count ≤ 2) × (na ≤ item_numbers) }
     requires na_in_bounds { (sa + na ≤ length values.now) × (count ≡ 2 → sb + nb ≤ length values.now) }
     ensures { (is : List ℕ) → sa + na ≤ length is → (count ≡ 2 → sb + nb ≤ length is)
-        → of_int (divided result) ≡ whole op (take count (parts_with is values ka za xa sa na ∷ parts_with is values kb zb xb sb nb ∷ [])) }
+        → of_int (answer result) ≡ whole op (take count (parts_with is values ka za xa sa na ∷ parts_with is values kb zb xb sb nb ∷ [])) }
 {
     if count == 1 {
-        return Divided::Value(whole1(op, ka, za, xa, sa, na, values));
+        return Ok(whole1(op, ka, za, xa, sa, na, values));
     }
-    number_operators::arith_int(
+    number_operators::arith(
         op,
         ink_value::int_from(ka, za, xa, sa, na, values),
         ink_value::int_from(kb, zb, xb, sb, nb, values),
@@ -207,7 +201,7 @@ pub fn real(
     if count == 1 {
         return real1(op, ka, za, xa, sa, na, values);
     }
-    number_operators::arith_float(
+    number_operators::arith(
         op,
         ink_value::float_from(ka, za, xa, sa, na, values),
         ink_value::float_from(kb, zb, xb, sb, nb, values),

@@ -2,12 +2,12 @@
 use mathlib.Core.Path.{◌≡◌, refl, sym, ap, ◌∙◌}
 use mathlib.Core.Bool.{Bool, cond}
 use Prim.Native.Nat.{ℕ, zero, suc, ◌+◌, ◌-◌, ◌*◌, ◌/◌, ◌%◌, ◌^◌, ◌≤◌, ◌<◌, compare, Ordering}
-use native.Mathlib.Nat.{le_of_eq, le_of_lt, lt_of_lt_of_le, add-zero, one-mul, suc-mul, mul-le-mul_left, div-mul-le_self, div-add-mod', div-eq_of_lt-le, mod-lt, mod-eq_of_lt, pow-suc}
+use native.Mathlib.Nat.{le_of_eq, le_of_lt, lt_of_lt_of_le, add-zero, one-mul, suc-mul, div-add-mod', div-eq_of_lt-le, mod-lt, mod-eq_of_lt, pow-suc}
 use native.Mathlib.Numerals.{add-one}
 use native.Mathlib.Omega.{arith}
 use borrow.Author.Tests.{lt-ltb, le-ltb}
 use lib.Dec.{ltb}
-use lib.Pow.{pow-lt, pow_mono, pow_pos}
+use lib.Pow.{pow-lt, pow_pos}
 use lib.Bits.{bit_and, and_mask}
 use lib.Ieee.{nearest}
 use lib.Ieee.Nearest.{closest}
@@ -98,27 +98,11 @@ half_twice k p h =
     let s : suc (k - 1) ≡ k = omega arith in
     ap (λ (x : ℕ). x * 2) (half_power k h) ∙ sym (pow-suc 2 (k - 1)) ∙ ap (λ (x : ℕ). 2 ^ x) s
 
-pub half_some : (k : ℕ) → k < 32 → 0 < half k
+half_some : (k : ℕ) → k < 32 → 0 < half k
 half_some k h = lt_of_lt_of_le (pow_pos (k - 1)) (le_of_eq (sym (half_power k h)))
-
-pub half_small : (k : ℕ) → 0 < k → k < 32 → half k < 2 ^ 31
-half_small k p h =
-    let e = half_twice k p h in
-    let l : 2 ^ k < 2 ^ 32 = pow-lt h in
-    omega arith
 
 last_digit : (q : ℕ) → bit_and q 1 ≡ q % 2
 last_digit q = and_mask q 1
-
-pub digit_small : (q : ℕ) → bit_and q 1 < 2
-digit_small q = let e = last_digit q in omega arith
-
--- the sum is shifted by a digit at least, so that it is a u32 again
-pub shifted_small : (n k : ℕ) → 0 < k → n < 2 ^ 33 → n / 2 ^ k < 2 ^ 32
-shifted_small n k p h =
-    let a : n / 2 ^ k * 2 ≤ n / 2 ^ k * 2 ^ k = mul-le-mul_left (n / 2 ^ k) (pow_mono {i = 1} p) in
-    let b : n / 2 ^ k * 2 ^ k ≤ n = div-mul-le_self n (2 ^ k) in
-    omega arith
 
 pub rounded : (m k : ℕ) → 0 < k → k < 32 → (m + (half k - 1) + bit_and (m / 2 ^ k) 1) / 2 ^ k ≡ to_even m (2 ^ k)
 rounded m k p h =

@@ -19,11 +19,12 @@ fn shift_to_even(m: u32, k: u32) -> u32
 {
     let half = 1u64 << (k - 1);
     let odd = (m >> k) & 1;
-    (((m as u64) + (half - 1) + (odd as u64)) >> k) as u32
+    ((u64::from(m) + (half - 1) + u64::from(odd)) >> k) as u32
 }
 
 // The Float nearest to m, ties to the even significand: m is rounded to 24 digits, and scaled back by
 // a power of two, which is exact.
+#[tactic(auto, using(crate::proofs::Significand::small_in, crate::proofs::Significand::unit_le))]
 pub fn magnitude_to_float(m: u32) -> f32
     ensures value { result ≡ of_int binary32 (pos m) }
     ensures exactly { Exactly (OfInt (pos m)) result }
@@ -31,7 +32,7 @@ pub fn magnitude_to_float(m: u32) -> f32
     if m <= WHOLE_LIMIT {
         return m as f32;
     }
-    let k = 8 - u32::leading_zeros(m);
+    let k = 8 - m.leading_zeros();
     let digits = shift_to_even(m, k);
     let unit = 1u32 << k;
     (digits as f32) * (unit as f32)

@@ -1,2 +1,3 @@
 -- What the operators answer on numbers.
 pub mod Numbers
+pub mod Laws

@@ -4,8 +4,9 @@
 #![tactic(auto)]
 
 use ink_number::int;
-use ink_number::int::Divided;
-use test_output::{decimal, line, pattern, text};
+use ink_number::question::Question;
+use number_operators::number::Number;
+use test_output::{decimal, line, natural, pattern, text};
 
 // What a row shows: an Int, two Ints, a pattern, two Floats.
 #[derive(Clone, Copy)]
@@ -115,17 +116,16 @@ fn print_float(x: f32) {
 }
 
 fn print_bool(b: bool) {
-    if b {
-        text(b" 1");
-        return;
-    }
-    text(b" 0");
+    text(if b { b" 1" } else { b" 0" });
 }
 
-fn print_divided(d: Divided) {
+fn print_divided(d: Result<i32, Question>) {
     match d {
-        Divided::Value(z) => print_int(z),
-        Divided::Refused => text(b" R 15"),
+        Ok(z) => print_int(z),
+        Err(question) => {
+            text(b" R ");
+            natural(u64::from(question.number()));
+        }
     }
 }
 
@@ -140,24 +140,35 @@ fn int_value(a: i32) {
     print_float(float_conversions::int_to_float(a));
 }
 
-fn int_arithmetic(a: i32, b: i32) {
-    print_int(int::wrapping_add(a, b));
-    print_int(int::wrapping_sub(a, b));
-    print_int(int::wrapping_mul(a, b));
-    print_divided(int::divide(a, b));
-    print_divided(int::remainder_of(a, b));
-    print_int(int_comparisons::min(a, b));
-    print_int(int_comparisons::max(a, b));
+// The arithmetic of two numbers of one kind, each answer shown as that kind's are.
+fn arithmetic<N: Number, F: Fn(N::Outcome)>(x: N, y: N, show: F)
+    requires { F.IsAlwaysCallable show }
+{
+    for op in [
+        op::ADD,
+        op::SUBTRACT,
+        op::MULTIPLY,
+        op::DIVIDE,
+        op::MOD,
+        op::MIN,
+        op::MAX,
+    ] {
+        show(number_operators::arith(op, x, y));
+    }
 }
 
-fn int_tests(a: i32, b: i32) {
-    print_bool(int_comparisons::eq(a, b));
-    print_bool(int_comparisons::ne(a, b));
-    print_bool(int_comparisons::lt(a, b));
-    print_bool(int_comparisons::le(a, b));
-    print_bool(int_comparisons::gt(a, b));
-    print_bool(int_comparisons::ge(a, b));
-    print_bool(int::can_divide(a, b));
+// The tests on two numbers of one kind.
+fn tests<N: Number>(x: N, y: N) {
+    for op in [
+        op::EQUAL,
+        op::NOT_EQUALS,
+        op::LESS,
+        op::LESS_THAN_OR_EQUALS,
+        op::GREATER,
+        op::GREATER_THAN_OR_EQUALS,
+    ] {
+        print_bool(number_operators::test(op, x, y));
+    }
 }
 
 fn int_pair(a: i32, b: i32) {
@@ -165,8 +176,9 @@ fn int_pair(a: i32, b: i32) {
     print_int(a);
     print_int(b);
     text(b":");
-    int_arithmetic(a, b);
-    int_tests(a, b);
+    arithmetic(a, b, print_divided);
+    tests(a, b);
+    print_bool(int::can_divide(a, b));
 }
 
 // A Float and what is opposite, the integral values below and above, its truth and its Int.
@@ -187,32 +199,13 @@ fn pattern_value(b: u32) {
     float_forms(float_conversions::float_from_bits(b));
 }
 
-fn float_arithmetic(x: f32, y: f32) {
-    print_float(ink_float::add(x, y));
-    print_float(ink_float::sub(x, y));
-    print_float(ink_float::mul(x, y));
-    print_float(ink_float::div(x, y));
-    print_float(ink_float::rem(x, y));
-    print_float(ink_float::min(x, y));
-    print_float(ink_float::max(x, y));
-}
-
-fn float_tests(x: f32, y: f32) {
-    print_bool(ink_float::eq(x, y));
-    print_bool(ink_float::ne(x, y));
-    print_bool(ink_float::lt(x, y));
-    print_bool(ink_float::le(x, y));
-    print_bool(ink_float::gt(x, y));
-    print_bool(ink_float::ge(x, y));
-}
-
 fn float_pair(x: f32, y: f32) {
     text(b"float");
     print_float(x);
     print_float(y);
     text(b":");
-    float_arithmetic(x, y);
-    float_tests(x, y);
+    arithmetic(x, y, print_float);
+    tests(x, y);
 }
 
 fn print_row(what: Row, a: u32, b: u32) {
@@ -230,19 +223,19 @@ fn print_row(what: Row, a: u32, b: u32) {
 
 // A row of each pattern, beside a where the row is of two.
 fn rows(what: Row, a: u32, patterns: &[u32]) {
-    for i in 0..patterns.len() {
-        print_row(what, a, patterns[i]);
+    for &b in patterns {
+        print_row(what, a, b);
     }
 }
 
 // A row of each pair.
 fn pairs(what: Row, patterns: &[u32]) {
-    for i in 0..patterns.len() {
-        rows(what, patterns[i], patterns);
+    for &a in patterns {
+        rows(what, a, patterns);
     }
 }
 
-fn divided_point(name: &[u8], d: Divided) {
+fn divided_point(name: &[u8], d: Result<i32, Question>) {
     text(b"point ");
     text(name);
     print_divided(d);
@@ -259,7 +252,7 @@ fn float_point(name: &[u8], n: i32) {
 fn division_points() {
     divided_point(b"-7 / 2:", int::divide(-7, 2));
     divided_point(b"-7 % 2:", int::remainder_of(-7, 2));
-    divided_point(b"-2147483648 / -1:", int::divide(-2147483648, -1));
+    divided_point(b"-2147483648 / -1:", int::divide(i32::MIN, -1));
 }
 
 fn conversion_points() {
@@ -268,7 +261,7 @@ fn conversion_points() {
     float_point(b"16777219 to Float:", 16777219);
     divided_point(
         b"Int of 2147483648.0:",
-        Divided::Value(float_conversions::float_to_int(2147483648.0)),
+        Ok(float_conversions::float_to_int(2147483648.0)),
     );
 }
 

@@ -3,7 +3,7 @@
 #![tactic(auto)]
 
 ghost use Rattle.std.specs.Prelude.{◌≡◌, ◌<◌, ◌≤◌, ◌+◌, length};
-ghost use Rattle.ink_number.specs.Int.{divided};
+ghost use Rattle.ink_number.specs.Question.{answer};
 ghost use Rattle.ink_list.specs.Entries.{item_numbers};
 ghost use Rattle.ink_value.specs.Val.{kind_at};
 ghost use Rattle.ink_value.specs.Value.{len_of, first_of, Formed, FirstFormed};
@@ -17,7 +17,7 @@ ghost use Rattle.pack.specs.Read.{PackLists};
 ghost use Rattle.ink_value.specs.Slices.{first_in};
 ghost use Rattle.operating.specs.Slices.{StoredIn, PutIn, AnsweredIn};
 
-use ink_number::int::{DIVISOR_QUESTION, Divided};
+use ink_number::question::Question;
 use ink_value::{Value, kind_code};
 use native_function_call::{real, test, whole};
 use pack::format::Format;
@@ -63,16 +63,16 @@ pub fn store(
 }
 
 // A result that is an Int, at a place of the stack, or question 15.
-fn whole_result(d: Divided, place: usize) -> Step
+fn whole_result(d: Result<i32, Question>, place: usize) -> Step
     requires { place < stack_limit }
-    ensures { Bare (of_int (divided d)) place result }
+    ensures { Bare (of_int (answer d)) place result }
 {
     match d {
-        Divided::Value(z) => Step::Put {
+        Ok(z) => Step::Put {
             place,
             value: Value::Int(z),
         },
-        Divided::Refused => Step::No(DIVISOR_QUESTION),
+        Err(question) => Step::No(question.number()),
     }
 }
 

@@ -3,10 +3,6 @@
 
 const STDOUT: i32 = 1;
 
-fn wide(n: u16) -> u64 {
-    n as u64
-}
-
 pub fn text(s: &[u8]) {
     io::write_all(STDOUT, s);
 }
@@ -17,23 +13,20 @@ pub fn natural(n: u64) {
 
 // The eight hexadecimal digits of a pattern.
 pub fn pattern(n: u32) {
-    io::print_hex(STDOUT, n as u64, 8);
+    io::print_hex(STDOUT, u64::from(n), 8);
 }
 
 pub fn decimal(v: i32) {
-    let n = ink_number::int::pattern(v) as u64;
-    if n < 2147483648 {
-        natural(n);
-        return;
+    if v < 0 {
+        text(b"-");
     }
-    text(b"-");
-    natural(4294967296 - n);
+    natural(u64::from(v.unsigned_abs()));
 }
 
 // An entry after a space.
 pub fn entry(item: u16, value: i32) {
     text(b" ");
-    natural(wide(item));
+    natural(u64::from(item));
     text(b"=");
     decimal(value);
 }

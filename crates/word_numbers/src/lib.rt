@@ -2,19 +2,17 @@
 #![tactic(auto)]
 
 ghost use Rattle.std.specs.Prelude.{◌≡◌, ◌%◌, ◌^◌};
-ghost use Rattle.ink_number.specs.Int.{signed, divided};
+ghost use Rattle.ink_number.specs.Int.{signed};
+ghost use Rattle.ink_number.specs.Question.{answer as answer_of};
 ghost use Rattle.binary32.specs.Real.{of_bits32};
 ghost use Rattle.native_function_call.specs.Apply.{of_int};
 ghost use Rattle.value_words.specs.Slices.{SaysIn};
 ghost use Rattle.word_kinds.specs.Operands.{OfNumbers};
 ghost use Rattle.word_numbers.specs.Slices.{NumberSays};
 
-use ink_number::int::{DIVISOR_QUESTION, Divided};
+use ink_number::question::Question;
 use ink_value::{Value, kind_code};
 use word_kinds::code_in;
-
-// The number that a divisor without a result is refused with.
-const REFUSED_DIVISOR: u32 = DIVISOR_QUESTION as u32;
 
 // The Int, and the Float, in a value's second word.
 pub fn whole_in(w: u64) -> i32
@@ -30,17 +28,17 @@ pub fn real_in(w: u64) -> f32
 }
 
 // A result that is an Int.
-pub fn put_whole(d: Divided, answer: &mut [u64; 3]) -> u32
-    ensures { SaysIn (of_int (divided d)) result answer }
+pub fn put_whole(d: Result<i32, Question>, answer: &mut [u64; 3]) -> u32
+    ensures { SaysIn (of_int (answer_of d)) result answer }
 {
     match d {
-        Divided::Value(z) => {
+        Ok(z) => {
             words_out::put_value(answer, Value::Int(z));
             0
         }
-        Divided::Refused => {
+        Err(question) => {
             words_out::put_index(answer, 0);
-            REFUSED_DIVISOR
+            u32::from(question.number())
         }
     }
 }

@@ -43,9 +43,9 @@ pub returns-else-x-2 : goal.returns-else-x-2
 unfolding of_bits neg
 returns-else-x-2 c = let x = c.args.x in above x c.if-x.true c.if-x-2.false ∙ to_int_meets x
 
-pub returns-then-x-3 : goal.returns-then-x-3
-returns-then-x-3 c = let x = c.args.x in none x c.if-x-3.true ∙ to_int_meets x
+pub returns-then-is_nan : goal.returns-then-is_nan
+returns-then-is_nan c = let x = c.args.x in none x (sym c.is_nan.ensures.value ∙ c.if-is_nan.true) ∙ to_int_meets x
 
-pub returns-else-x-3 : goal.returns-else-x-3
+pub returns-else-is_nan : goal.returns-else-is_nan
 unfolding of_bits neg
-returns-else-x-3 c = let x = c.args.x in under x c.if-x.false c.if-x-3.false ∙ to_int_meets x
+returns-else-is_nan c = let x = c.args.x in under x c.if-x.false (sym c.is_nan.ensures.value ∙ c.if-is_nan.false) ∙ to_int_meets x

@@ -11,15 +11,11 @@ loop-left-preserved c =
     let n = c.args.n in
     let r = c.loop-left.rest in
     let d = c.loop-left.left in
-    let l = mod-lt (r * 2 ^ 40 % 2 ^ 64) c.requires.n_nonzero in (
+    let l = mod-lt (r * 2 ^ 40 % 2 ^ 64) c.requires.n_nonzero in
+    rw c.from-divisor.ensures (
       omega (arith, c.requires.n_short),
       refl,
       ap (λ (z : ℕ). z % n * 2 ^ (d - 40) % n) (room r 40 c.loop-left.invariant.0 (omega arith))
           ∙ step r n d (le_of_lt c.loop-left-test.true)
           ∙ c.loop-left.invariant.2,
     )
-
-pub returns : goal.returns
-returns c =
-    let l = c.loop-left in
-    ap (λ (z : ℕ). z % c.args.n) (room l.rest l.left l.invariant.0 c.loop-left-test.false) ∙ l.invariant.2

@@ -27,7 +27,9 @@ pub returns : goal.returns
 returns c =
     let vs = c.args.values.now in
     let two : c.args.count ≡ 2 = omega (arith, c.if-count-eq1.false, c.requires.le_count.0, c.requires.le_count.1) in
-    λ is h k. c.arith_float.ensures
+    let said = c.arith.ensures in
+    let value : c.arith.result ≡ arith_f c.args.op c.float_from.result c.float_from-2.result = cc in
+    λ is h k. value
     ∙ ap2 (arith_f c.args.op)
     (c.float_from.ensures is h ∙ read (λ (z : ℤ). as_float (of_parts is vs c.args.ka z c.args.xa c.args.sa c.args.na)) c.args.za c.ranges.za)
     (c.float_from-2.ensures is (k two) ∙ read (λ (z : ℤ). as_float (of_parts is vs c.args.kb z c.args.xb c.args.sb c.args.nb)) c.args.zb c.ranges.zb)

@@ -15,7 +15,7 @@ pub returns-in-1 : goal.returns-in-1
 returns-in-1 c =
     let is = c.args.items.now in
     let vs = c.args.values.now in
-    c.test_int.ensures ∙ ap2 (test_z c.args.op)
+    c.test.ensures ∙ ap2 (test_z c.args.op)
     (returned c.int_from.type_inv ∙ c.int_from.ensures is c.requires.0.items_in ∙ read (λ (z : ℤ). as_int (of_parts is vs c.args.ka z c.args.xa c.args.sa c.args.na)) c.args.za c.ranges.za)
     (returned c.int_from-in-1.type_inv ∙ c.int_from-in-1.ensures is c.requires.1.items_in ∙ read (λ (z : ℤ). as_int (of_parts is vs c.args.kb z c.args.xb c.args.sb c.args.nb)) c.args.zb c.ranges.zb)
     ∙ sym (ap (λ (k : Kind). test_as k c.args.op (of_parts is vs c.args.ka c.args.za c.args.xa c.args.sa c.args.na) (of_parts is vs c.args.kb c.args.zb c.args.xb c.args.sb c.args.nb)) (common_parts is vs c.args.ka c.args.za c.args.xa c.args.sa c.args.na c.args.kb c.args.zb c.args.xb c.args.sb c.args.nb c.common.result c.common.ensures ∙ ap kind_at c.in-1.is))
@@ -24,7 +24,7 @@ pub returns-in-2 : goal.returns-in-2
 returns-in-2 c =
     let is = c.args.items.now in
     let vs = c.args.values.now in
-    c.test_float.ensures ∙ ap2 (test_f c.args.op)
+    c.test-in-2.ensures ∙ ap2 (test_f c.args.op)
     (c.float_from.ensures is c.requires.0.items_in ∙ read (λ (z : ℤ). as_float (of_parts is vs c.args.ka z c.args.xa c.args.sa c.args.na)) c.args.za c.ranges.za)
     (c.float_from-in-2.ensures is c.requires.1.items_in ∙ read (λ (z : ℤ). as_float (of_parts is vs c.args.kb z c.args.xb c.args.sb c.args.nb)) c.args.zb c.ranges.zb)
     ∙ sym (ap (λ (k : Kind). test_as k c.args.op (of_parts is vs c.args.ka c.args.za c.args.xa c.args.sa c.args.na) (of_parts is vs c.args.kb c.args.zb c.args.xb c.args.sb c.args.nb)) (common_parts is vs c.args.ka c.args.za c.args.xa c.args.sa c.args.na c.args.kb c.args.zb c.args.xb c.args.sb c.args.nb c.common.result c.common.ensures ∙ ap kind_at c.in-2.is))

@@ -25,7 +25,7 @@ returns-in-13 c =
     let is = c.args.items.now in
     let vs = c.args.values.now in
     at (λ o. test_lists o (of_parts is vs c.args.ka c.args.za c.args.xa c.args.sa c.args.na) (of_parts is vs c.args.kb c.args.zb c.args.xb c.args.sb c.args.nb)) c.in-13.is
-    (c.both.ensures ∙ ap2 (λ (x y : Bool). x && y) (c.truth_from.ensures is vs c.args.sa (c.requires.0.items_in, c.requires.0.values_in) ∙ read (λ (z : ℤ). truthy (of_parts is vs c.args.ka z c.args.xa c.args.sa c.args.na)) c.args.za c.ranges.za) (c.truth_from-in-13.ensures is vs c.args.sb (c.requires.1.items_in, c.requires.1.values_in) ∙ read (λ (z : ℤ). truthy (of_parts is vs c.args.kb z c.args.xb c.args.sb c.args.nb)) c.args.zb c.ranges.zb))
+    (ap2 (λ (x y : Bool). x && y) (c.truth_from.ensures is vs c.args.sa (c.requires.0.items_in, c.requires.0.values_in) ∙ read (λ (z : ℤ). truthy (of_parts is vs c.args.ka z c.args.xa c.args.sa c.args.na)) c.args.za c.ranges.za) (c.truth_from-in-13.ensures is vs c.args.sb (c.requires.1.items_in, c.requires.1.values_in) ∙ read (λ (z : ℤ). truthy (of_parts is vs c.args.kb z c.args.xb c.args.sb c.args.nb)) c.args.zb c.ranges.zb))
 
 pub returns-in-14 : goal.returns-in-14
 unfolding test_lists
@@ -33,7 +33,7 @@ returns-in-14 c =
     let is = c.args.items.now in
     let vs = c.args.values.now in
     at (λ o. test_lists o (of_parts is vs c.args.ka c.args.za c.args.xa c.args.sa c.args.na) (of_parts is vs c.args.kb c.args.zb c.args.xb c.args.sb c.args.nb)) c.in-14.is
-    (c.either.ensures ∙ ap2 (λ (x y : Bool). x || y) (c.truth_from-in-14.ensures is vs c.args.sa (c.requires.0.items_in, c.requires.0.values_in) ∙ read (λ (z : ℤ). truthy (of_parts is vs c.args.ka z c.args.xa c.args.sa c.args.na)) c.args.za c.ranges.za) (c.truth_from-in-14-2.ensures is vs c.args.sb (c.requires.1.items_in, c.requires.1.values_in) ∙ read (λ (z : ℤ). truthy (of_parts is vs c.args.kb z c.args.xb c.args.sb c.args.nb)) c.args.zb c.ranges.zb))
+    (ap2 (λ (x y : Bool). x || y) (c.truth_from-in-14.ensures is vs c.args.sa (c.requires.0.items_in, c.requires.0.values_in) ∙ read (λ (z : ℤ). truthy (of_parts is vs c.args.ka z c.args.xa c.args.sa c.args.na)) c.args.za c.ranges.za) (c.truth_from-in-14-2.ensures is vs c.args.sb (c.requires.1.items_in, c.requires.1.values_in) ∙ read (λ (z : ℤ). truthy (of_parts is vs c.args.kb z c.args.xb c.args.sb c.args.nb)) c.args.zb c.ranges.zb))
 
 pub returns-in_default : goal.returns-in_default
 unfolding test_lists

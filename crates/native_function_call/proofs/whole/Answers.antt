@@ -29,7 +29,7 @@ pub returns : goal.returns
 returns c =
     let vs = c.args.values.now in
     let two : c.args.count ≡ 2 = omega (arith, c.if-count-eq1.false, c.requires.le_count.0, c.requires.le_count.1) in
-    λ is h k. ap of_int (c.arith_int.ensures
+    λ is h k. ap of_int (c.arith.ensures
     ∙ ap2 (arith_z c.args.op)
     (returned c.int_from.type_inv ∙ c.int_from.ensures is h ∙ read (λ (z : ℤ). as_int (of_parts is vs c.args.ka z c.args.xa c.args.sa c.args.na)) c.args.za c.ranges.za)
     (returned c.int_from-2.type_inv ∙ c.int_from-2.ensures is (k two) ∙ read (λ (z : ℤ). as_int (of_parts is vs c.args.kb z c.args.xb c.args.sb c.args.nb)) c.args.zb c.ranges.zb))

@@ -1,6 +1,0 @@
--- `ink_float::ge` meets its contract: numbers compare as the whole numbers do that they are over a shared denominator. Assumes nothing.
-use Rattle.binary32.proofs.Meets.{le_meets}
-use Rattle.ink_float.proofs.ge.Goals as goal
-
-pub returns : goal.returns
-returns c = le_meets c.args.b c.args.a

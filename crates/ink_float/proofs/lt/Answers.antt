@@ -1,6 +1,0 @@
--- `ink_float::lt` meets its contract: numbers compare as the whole numbers do that they are over a shared denominator. Assumes nothing.
-use Rattle.binary32.proofs.Meets.{lt_meets}
-use Rattle.ink_float.proofs.lt.Goals as goal
-
-pub returns : goal.returns
-returns c = lt_meets c.args.a c.args.b
