@@ -7,4 +7,4 @@ pub returns-in-Ok : goal.returns-in-Ok
 returns-in-Ok c = ap number_of c.in-Ok.ensures
 
 pub returns-in-Err : goal.returns-in-Err
-returns-in-Err c = c.number-2.ensures ∙ c.number.ensures ∙ ap number_of c.in-Err.ensures
+returns-in-Err c = c.number-in-Err.ensures ∙ c.number.ensures ∙ ap number_of c.in-Err.ensures
