@@ -7,6 +7,8 @@ use lib.IntN.{ℤ}
 use lib.ListN.{take}
 use Rattle.slices.specs.Every.{◌and◌}
 use Rattle.slices.proofs.Every.{and_both, and_no_left, and_no_right}
+use Rattle.std.specs.Prelude.{Result}
+use Rattle.ink_number.specs.declared.question.Question.{Question}
 use Rattle.ink_value.specs.Val.{Val}
 use Rattle.ink_value.specs.Value.{placed, val_of}
 use Rattle.ink_value.specs.declared.Value.{Value}
@@ -17,7 +19,6 @@ use Rattle.call_memory.specs.Lent.{operands_ok, results_ok}
 use Rattle.calls.specs.Call.{called, cast_to, coerced, on_pack, after_asked}
 use Rattle.value_conversions.specs.Convert.{cast}
 use Rattle.pack.specs.Bodies.{decoded}
-use Rattle.pack.specs.declared.Checked.{Checked}
 use Rattle.pack.specs.declared.format.Format.{Format}
 use Rattle.pack.specs.Judge.{judge}
 use Rattle.pack.specs.Read.{definitions_of}
@@ -72,5 +73,5 @@ module _ (F : Format) (p is : List ℕ) (vs : List ℤ) (f : Val → Answer Val)
   coerce_goes j e = pack_passed F p (coerced is vs f v) j ∙ rw e
 
 -- the outcome of a conversion after its questions, by what they said
-pub asked_outcome : {a : Answer Val} (b : Answer Val) (r q : Checked) → a ≡ after_asked r b → r ≡ q → placed (after_asked q b) ≡ placed a
-asked_outcome b r q e h = ap placed (sym (e ∙ ap (λ (x : Checked). after_asked x b) h))
+pub asked_outcome : {a : Answer Val} (b : Answer Val) (r q : Result (Unit {0}) Question) → a ≡ after_asked r b → r ≡ q → placed (after_asked q b) ≡ placed a
+asked_outcome b r q e h = ap placed (sym (e ∙ ap (λ (x : Result (Unit {0}) Question). after_asked x b) h))

@@ -1,6 +1,8 @@
 -- A direct call and the conversions on the bytes of a pack: questions 1 to 5 and 7 come before those of the operator. Assumes nothing.
-use Rattle.std.specs.Prelude.{◌≡◌, List, [], ◌∷◌, map, ℕ, ℤ, take}
+use Rattle.std.specs.Prelude.{◌≡◌, List, [], ◌∷◌, map, ℕ, ℤ, take, Result, Ok, Err}
 use Rattle.ink_number.specs.Answer.{Answer, refuses, ask, and_then}
+use Rattle.ink_number.specs.Question.{number}
+use Rattle.ink_number.specs.declared.question.Question.{Question}
 use Rattle.slices.specs.Every.{◌and◌}
 use Rattle.list_definitions.specs.Defs.{ListDefinitions}
 use Rattle.ink_value.specs.Val.{Val}
@@ -11,8 +13,6 @@ use Rattle.ink_value.specs.declared.Value.{Value}
 use Rattle.native_function_call.specs.Apply.{call}
 use Rattle.pack.specs.Judge.{judge}
 use Rattle.pack.specs.Read.{definitions_of}
-use Rattle.pack.specs.declared.Checked.{Checked}
-use Rattle.pack.specs.declared.Checked.TheVariants.{Passed, Refused}
 use Rattle.pack.specs.declared.format.Format.{Format}
 use Rattle.call_memory.specs.Lent.{operands_ok, results_ok}
 
@@ -33,10 +33,10 @@ module _ (is : List ℕ) (vs : List ℤ) where
 abbrev pub on_pack : Format → List ℕ → (ListDefinitions → Answer Val) → Answer Val
 on_pack F p f = and_then (judge F p) (λ d. f (definitions_of d F))
 
--- an answer after questions of which `Checked` has the first no
-abbrev pub after_asked : Checked → Answer Val → Answer Val
-after_asked Passed a = a
-after_asked (Refused n) a = refuses n
+-- an answer after questions of which the result has the first no
+abbrev pub after_asked : Result (Unit {0}) Question → Answer Val → Answer Val
+after_asked (Ok u) a = a
+after_asked (Err q) a = refuses (number q)
 
 -- ---- what is returned
 

@@ -1,6 +1,7 @@
 -- The words of the contracts for calls whose operands' and results' entries stand in lent slices, as they were lent. Assumes nothing.
-use Rattle.std.specs.Prelude.{◌≡◌, List, ℕ, ℤ}
+use Rattle.std.specs.Prelude.{◌≡◌, List, ℕ, ℤ, Result}
 use Rattle.ink_number.specs.Answer.{Answer}
+use Rattle.ink_number.specs.declared.question.Question.{Question}
 use Rattle.slices.specs.Slices.{Slice, MutSlice}
 use Rattle.list_definitions.specs.Defs.{ListDefinitions}
 use Rattle.ink_value.specs.Val.{Val}
@@ -8,7 +9,6 @@ use Rattle.ink_value.specs.Slices.{val_in}
 use Rattle.ink_value.specs.declared.Outcome.{Outcome}
 use Rattle.ink_value.specs.declared.Value.{Value}
 use Rattle.pack.specs.declared.format.Format.{Format}
-use Rattle.pack.specs.declared.Checked.{Checked}
 use Rattle.calls.specs.Call.{called, cast_to, coerced, on_pack, after_asked, Returned}
 
 -- an operator
@@ -28,7 +28,7 @@ abbrev pub on_pack_in : Format → Slice ℕ → (ListDefinitions → Answer Val
 on_pack_in F pack = on_pack F pack.entry.now
 
 -- r has the first no of questions 1 to 5 and 7, which every conversion without result slices asks
-abbrev pub Asked : Format → Slice ℕ → Slice ℕ → Slice ℤ → Value → Checked → Type 0
+abbrev pub Asked : Format → Slice ℕ → Slice ℕ → Slice ℤ → Value → Result (Unit {0}) Question → Type 0
 Asked F pack is vs v r = (f : Val → Answer Val) → on_pack_in F pack (coerced_in is vs f v) ≡ after_asked r (f (val_in is vs v))
 
 -- an answer is returned, and written to the two result slices

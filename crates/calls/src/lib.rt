@@ -13,8 +13,8 @@ ghost use Rattle.call_memory.specs.Lent.{operands_ok, pack_definitions};
 ghost use Rattle.calls.specs.Call.{ReturnedPlain};
 ghost use Rattle.calls.specs.Slices.{called_in, cast_in, coerced_in, on_pack_in, Asked, ReturnedIn};
 
+use ink_number::question::Question;
 use ink_value::{Outcome, Value};
-use pack::Checked;
 use pack::format::Format;
 use pack_check::format::{DEFINITION_LIMIT, FORMAT1};
 
@@ -137,8 +137,8 @@ pub fn call(
         result result_items result_values }
 {
     match pack_check::check(pack) {
-        Checked::Refused(number) => Outcome::Refused(number),
-        Checked::Passed => {
+        Err(question) => Outcome::Refused(question.number()),
+        Ok(()) => {
             let mut defined = [0i32; FORMAT1.limit];
             call_checked(
                 pack,
@@ -198,8 +198,8 @@ pub fn cast(
         result result_items result_values }
 {
     match pack_check::check(pack) {
-        Checked::Refused(number) => Outcome::Refused(number),
-        Checked::Passed => cast_checked(
+        Err(question) => Outcome::Refused(question.number()),
+        Ok(()) => cast_checked(
             pack,
             to,
             v,
@@ -213,17 +213,14 @@ pub fn cast(
 }
 
 // Questions 1 to 5, and 7 of the operand of a conversion that has no result slices.
-fn operand_asked(pack: &[u8], v: Value, items: &[u16], values: &[i32]) -> Checked
+fn operand_asked(pack: &[u8], v: Value, items: &[u16], values: &[i32]) -> Result<(), Question>
     ensures { Asked format1 pack items values v result }
 {
-    match pack_check::check(pack) {
-        Checked::Refused(number) => Checked::Refused(number),
-        Checked::Passed => {
-            if call_memory::operand_formed(pack, v, items, values, FORMAT1) {
-                return Checked::Passed;
-            }
-            Checked::Refused(7)
-        }
+    pack_check::check(pack)?;
+    if call_memory::operand_formed(pack, v, items, values, FORMAT1) {
+        Ok(())
+    } else {
+        Err(Question::Memory)
     }
 }
 
@@ -232,8 +229,8 @@ pub fn coerce_to_bool(pack: &[u8], v: Value, items: &[u16], values: &[i32]) -> O
     ensures { ReturnedPlain (on_pack_in format1 pack (coerced_in items values coerce_bool v)) result }
 {
     match operand_asked(pack, v, items, values) {
-        Checked::Refused(number) => Outcome::Refused(number),
-        Checked::Passed => value_conversions::coerce_to_bool(v),
+        Err(question) => Outcome::Refused(question.number()),
+        Ok(()) => value_conversions::coerce_to_bool(v),
     }
 }
 
@@ -242,8 +239,8 @@ pub fn coerce_to_int(pack: &[u8], v: Value, items: &[u16], values: &[i32]) -> Ou
     ensures { ReturnedPlain (on_pack_in format1 pack (coerced_in items values coerce_int v)) result }
 {
     match operand_asked(pack, v, items, values) {
-        Checked::Refused(number) => Outcome::Refused(number),
-        Checked::Passed => value_conversions::coerce_to_int(v),
+        Err(question) => Outcome::Refused(question.number()),
+        Ok(()) => value_conversions::coerce_to_int(v),
     }
 }
 
@@ -252,7 +249,7 @@ pub fn coerce_to_float(pack: &[u8], v: Value, items: &[u16], values: &[i32]) -> 
     ensures { ReturnedPlain (on_pack_in format1 pack (coerced_in items values coerce_float v)) result }
 {
     match operand_asked(pack, v, items, values) {
-        Checked::Refused(number) => Outcome::Refused(number),
-        Checked::Passed => value_conversions::coerce_to_float(v),
+        Err(question) => Outcome::Refused(question.number()),
+        Ok(()) => value_conversions::coerce_to_float(v),
     }
 }

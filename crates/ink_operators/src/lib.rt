@@ -17,7 +17,6 @@ ghost use Rattle.ink_operators.specs.Apply.{Applies};
 ghost use Rattle.ink_operators.specs.Slices.{RunSaysAny, VetSaysAny, CallSaysAny, CastSaysAny, CoerceSaysAny};
 
 use ink_value::kind_code;
-use pack::Checked;
 use pack_check::format::FORMAT1;
 
 // Questions 1 to 5 of a pack: 0, or the number of the first no.
@@ -26,8 +25,8 @@ pub extern "C" fn ink_check(pack: &[u8]) -> u32
     ensures { result ≡ number_of (judge format1 pack.now) }
 {
     match pack_check::check(pack) {
-        Checked::Passed => 0,
-        Checked::Refused(n) => value_words::number(n),
+        Ok(()) => 0,
+        Err(question) => value_words::number(question.number()),
     }
 }
 

@@ -1,8 +1,7 @@
 -- A stream of named packs: each pack comes after its name, the name after its length of one byte, the pack after its length of three,
 -- little-endian. A position past the end reads as 0. Assumes nothing.
-use Rattle.std.specs.Prelude.{◌≡◌, List, ℕ, ◌+◌, ◌*◌, ◌≤◌, ◌<◌, length, get_or}
-use Rattle.named_packs.specs.declared.Named.{Named}
-use Rattle.named_packs.specs.declared.Named.TheVariants as Is
+use Rattle.std.specs.Prelude.{◌≡◌, List, ℕ, ◌+◌, ◌*◌, ◌≤◌, ◌<◌, Option, Some, None, length, get_or, slice_range}
+use Rattle.named_packs.specs.declared.NamedPack.{NamedPack}
 
 -- the number of three bytes at a position
 abbrev pub size_at : List ℕ → ℕ → ℕ
@@ -16,7 +15,8 @@ abbrev pub pack_end : List ℕ → ℕ → ℕ
 pack_end s at = name_end s at + 3 + size_at s (name_end s at)
 
 -- what stands at a position
-abbrev pub Stands : List ℕ → ℕ → Named → Type 0
-Stands s at (Is.Pack name after start end) =
-    (name ≡ at + 1) × (after ≡ name_end s at) × (start ≡ name_end s at + 3) × (end ≡ pack_end s at) × (pack_end s at ≤ length s)
-Stands s at Is.Cut = length s < pack_end s at
+abbrev pub Stands : List ℕ → ℕ → Option NamedPack → Type 0
+Stands s at (Some named) =
+    (named.name.now ≡ slice_range s (at + 1) (name_end s at)) × (named.pack.now ≡ slice_range s (name_end s at + 3) (pack_end s at))
+    × (named.end ≡ pack_end s at) × (pack_end s at ≤ length s)
+Stands s at None = length s < pack_end s at

@@ -1,62 +1,44 @@
 // A stream of named packs: each pack comes after its name, the name after its length of one byte, the pack after its length of three.
 #![tactic(auto)]
 
-ghost use Rattle.std.specs.Prelude.{◌≡◌, ◌+◌, ◌<◌, length, get_or};
+ghost use Rattle.std.specs.Prelude.{◌≡◌, ◌+◌, ◌<◌, length};
 ghost use Rattle.named_packs.specs.Stream.{size_at, Stands};
 
-// A name's bytes from `name` to `after` and its pack's from `start` to `end`, or a stream that is cut short.
+// A pack and its name, and the position after both.
 #[derive(Clone, Copy)]
-pub enum Named {
-    Pack {
-        name: usize,
-        after: usize,
-        start: usize,
-        end: usize,
-    },
-    Cut,
-}
-
-fn widen(x: u8) -> usize
-    ensures { (result ≡ x) × (result < 256) }
-{
-    x as usize
-}
-
-fn byte_at(s: &[u8], at: usize) -> usize
-    requires { at < length s.now }
-    ensures { (result ≡ get_or s.now at 0) × (result < 256) }
-{
-    widen(s[at])
+pub struct NamedPack<'a> {
+    pub name: &'a [u8],
+    pub pack: &'a [u8],
+    pub end: usize,
 }
 
 fn size_at(s: &[u8], at: usize) -> usize
     requires { at + 2 < length s.now }
     ensures { (result ≡ size_at s.now at) × (result < 16777216) }
 {
-    byte_at(s, at) + 256 * byte_at(s, at + 1) + 65536 * byte_at(s, at + 2)
+    u32::from_le_bytes([s[at], s[at + 1], s[at + 2], 0]) as usize
 }
 
-// The pack whose name's length is at a position.
-pub fn read(s: &[u8], at: usize) -> Named
+// The pack whose name's length is at a position, or None where the stream is cut short.
+pub fn read(s: &[u8], at: usize) -> Option<NamedPack<'_>>
     requires { at < length s.now }
     ensures { Stands s.now at result }
 {
     let name = at + 1;
-    let n = byte_at(s, at);
+    let n = usize::from(s[at]);
     if s.len() - name < n + 3 {
-        return Named::Cut;
+        return None;
     }
     let after = name + n;
     let size = size_at(s, after);
     let start = after + 3;
     if s.len() - start < size {
-        return Named::Cut;
+        return None;
     }
     let end = start + size;
-    Named::Pack {
-        name,
-        after,
-        start,
+    Some(NamedPack {
+        name: &s[name..after],
+        pack: &s[start..end],
         end,
-    }
+    })
 }

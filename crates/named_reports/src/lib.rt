@@ -3,18 +3,13 @@
 
 ghost use Rattle.std.specs.Prelude.{◌<◌, ◌≤◌, length};
 
-use named_packs::Named;
 use output_buffer::Output;
 
 // Reports on a pack after its name.
-fn report_named(s: &[u8], name: usize, after: usize, start: usize, end: usize)
-    requires { (name ≤ after) × (after ≤ length s.now) × (start ≤ end) × (end ≤ length s.now) }
-{
+fn report_named(name: &[u8], pack: &[u8]) {
     let mut out = io::large_buffer();
-    let o = Output::new()
-        .text(&mut out, &s[name..after])
-        .text(&mut out, b":\n");
-    sheet_report::report(o, &mut out, &s[start..end]).flush(&out);
+    let o = Output::new().text(&mut out, name).text(&mut out, b":\n");
+    sheet_report::report(o, &mut out, pack).flush(&out);
 }
 
 // Reports on the pack whose name's length is at a position, and says where the next one is.
@@ -23,16 +18,11 @@ fn report_at(s: &[u8], at: usize) -> usize
     ensures { (at < result) × (result ≤ length s.now) }
 {
     match named_packs::read(s, at) {
-        Named::Pack {
-            name,
-            after,
-            start,
-            end,
-        } => {
-            report_named(s, name, after, start, end);
-            end
+        Some(named) => {
+            report_named(named.name, named.pack);
+            named.end
         }
-        Named::Cut => s.len(),
+        None => s.len(),
     }
 }
 

@@ -6,9 +6,7 @@ use mathlib.Core.Path.{◌≡◌, refl, sym}
 use native.Mathlib.Omega.{arith}
 use Rattle.ink_number.specs.Answer.{Answer, gives, refuses, ask}
 use Rattle.pack.specs.Bodies.{Pack, decoded}
-use Rattle.pack.specs.Judge.{judge, checked, question1, question2, question3, question4, question5, Sound}
-use Rattle.pack.specs.declared.Checked.{Checked}
-use Rattle.pack.specs.declared.Checked.TheVariants.{Passed, Refused}
+use Rattle.pack.specs.Judge.{judge, question1, question2, question3, question4, question5, Sound}
 use Rattle.pack.specs.declared.format.Format.{Format}
 use Rattle.pack.proofs.Laid.{framed}
 
@@ -31,12 +29,5 @@ module _ (F : Format) (p : List ℕ) where
       )
 
   -- `check` passed the pack
-  pub accepted : (r : Checked) → r ≡ Passed → checked r (decoded F p) ≡ judge F p → judge F p ≡ gives (decoded F p)
-  accepted r h e = rw h at (sym e)
-
-  pub passed : (r : Checked) → r ≡ Passed → checked r (decoded F p) ≡ judge F p → Sound F p
-  passed r h e = (judged (decoded F p) (accepted r h e)).0
-
-  -- `check` refused it
-  pub turned : (r : Checked) (n : ℕ) → r ≡ Refused n → checked r (decoded F p) ≡ judge F p → judge F p ≡ refuses n
-  turned r n h e = rw h at (sym e)
+  pub passed : gives (decoded F p) ≡ judge F p → Sound F p
+  passed e = (judged (decoded F p) (sym e)).0

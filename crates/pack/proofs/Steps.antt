@@ -7,12 +7,13 @@ use mathlib.Core.Path.{◌≡◌, refl, sym, ap, ◌∙◌, subst}
 use native.Mathlib.Omega.{arith}
 use lib.Dec.{leb, ltb, eqb}
 use borrow.Author.Tests.{lt-ltb, le-ltb, leb-true, eq-eqb, ne_eqb}
+use Rattle.std.specs.Prelude.{Some, None}
 use Rattle.pack.specs.Bytes.{byte, u32, i32}
 use Rattle.pack.specs.Format.{slot_limit}
 use Rattle.pack.specs.Instruction.{Push, push_bool, push_int, push_float, push_list, push_slot, push_void, Instr, op, push, width, given, taken, instruction, instructions, onward, before, is_some}
 
 -- an operand that is tested and an instruction of two bytes
-pub tested : (at end : ℕ) (t : Bool) (v : Push) → width (push v) ≡ 2 → cond t (cond (leb (at + 2) end) 2 0) 0 ≡ taken at end (given t v)
+pub tested : (at end : ℕ) (t : Bool) (v : Push) → width (push v) ≡ 2 → cond t (cond (leb (at + 2) end) (Some 2) None) None ≡ taken at end (given t v)
 tested at end true v e = rw e
 tested at end false v e = refl
 
@@ -69,29 +70,33 @@ wide_some (push push_void) = omega arith
 
 -- ---- the instructions from a position
 
+some_where : (t : Bool) → is_some {A = List Instr} (cond t (some []) none) ≡ t
+some_where true = refl
+some_where false = refl
+
 pub some_before : (o : Option (List Instr)) (i : Instr) → is_some (before o i) ≡ is_some o
 some_before none i = refl
 some_before (some l) i = refl
 
 module _ (at end : ℕ) (rest : ℕ → Option (List Instr)) where
-  stop : (i : Instr) (t : Bool) → cond t (width i) 0 ≡ 0 → cond t (before (rest (at + width i)) i) none ≡ none
-  stop i true e = absurd (omega (arith, wide_some i))
+  stop : (i : Instr) (t : Bool) → cond t (Some (width i)) None ≡ None → cond t (before (rest (at + width i)) i) none ≡ none
+  stop i true e = absurd (cc)
   stop i false e = refl
 
-  go : (i : Instr) (t : Bool) (n : ℕ) → cond t (width i) 0 ≡ n → 0 < n → (n ≡ width i) × (t ≡ true)
-  go i true n e h = (sym e, refl)
-  go i false n e h = absurd (omega arith)
+  go : (i : Instr) (t : Bool) (n : ℕ) → cond t (Some (width i)) None ≡ Some n → (n ≡ width i) × (t ≡ true)
+  go i true n e = ((cc), refl)
+  go i false n e = absurd (cc)
 
   -- no instruction that ends in time: no list
-  pub stops : (o : Option Instr) → taken at end o ≡ 0 → onward at end rest o ≡ none
+  pub stops : (o : Option Instr) → taken at end o ≡ None → onward at end rest o ≡ none
   stops none e = refl
   stops (some i) e = stop i (leb (at + width i) end) e
 
   -- an instruction of n bytes, which ends in time, and the rest after it
-  pub goes : (o : Option Instr) (n : ℕ) → taken at end o ≡ n → 0 < n → (i : Instr) × (o ≡ some i) × (n ≡ width i) × (at + n ≤ end) × (onward at end rest o ≡ before (rest (at + n)) i)
-  goes none n e h = absurd (omega arith)
-  goes (some i) n e h =
-      let w = go i (leb (at + width i) end) n e h in
+  pub goes : (o : Option Instr) (n : ℕ) → taken at end o ≡ Some n → (i : Instr) × (o ≡ some i) × (n ≡ width i) × (at + n ≤ end) × (onward at end rest o ≡ before (rest (at + n)) i)
+  goes none n e = absurd (cc)
+  goes (some i) n e =
+      let w = go i (leb (at + width i) end) n e in
       (i, refl, w.0, subst (λ (k : ℕ). at + k ≤ end) (sym w.0) (leb-true _ _ w.1), rw (w.1, w.0))
 
 module _ (L : ℕ) (p : List ℕ) where
@@ -111,16 +116,13 @@ module _ (L : ℕ) (p : List ℕ) where
 
 -- a loop's turn at a position before the end: the instruction there is not well formed, or takes k bytes
 module _ (L : ℕ) (p : List ℕ) (n at end : ℕ) (more : at < end) where
-  pub empty_handed : n ≡ 0 → is_some (instructions L p n at end) ≡ false
-  empty_handed e = rw e (ap is_some (none_left L p at end more))
+  pub ill : 0 < n → taken at end (instruction L p at) ≡ None → is_some (instructions L p n at end) ≡ false
+  ill h e =
+      ap is_some (one_more L p n at end more h ∙ stops at end (λ a. instructions L p (n - 1) a end) (instruction L p at) e)
 
-  pub ill : 0 < n → (k : ℕ) → k ≡ taken at end (instruction L p at) → k ≡ 0 → is_some (instructions L p n at end) ≡ false
-  ill h k e z =
-      ap is_some (one_more L p n at end more h ∙ stops at end (λ a. instructions L p (n - 1) a end) (instruction L p at) (sym e ∙ z))
-
-  pub well : 0 < n → (k : ℕ) → k ≡ taken at end (instruction L p at) → 0 < k → (at + k ≤ end) × (is_some (instructions L p (n - 1) (at + k) end) ≡ is_some (instructions L p n at end))
-  well h k e hk =
-      let g = goes at end (λ a. instructions L p (n - 1) a end) (instruction L p at) k (sym e) hk in (
+  pub well : 0 < n → (k : ℕ) → taken at end (instruction L p at) ≡ Some k → (at + k ≤ end) × (is_some (instructions L p (n - 1) (at + k) end) ≡ is_some (instructions L p n at end))
+  well h k e =
+      let g = goes at end (λ a. instructions L p (n - 1) a end) (instruction L p at) k e in (
         g.3,
         sym (some_before (instructions L p (n - 1) (at + k) end) g.0) ∙ sym (ap is_some (one_more L p n at end more h ∙ g.4)),
       )
@@ -129,6 +131,11 @@ pub ended : (L : ℕ) (p : List ℕ) (n at end : ℕ) → at ≤ end → end ≤
 ended L p n at end h k =
     let e : end ≡ at = omega arith in
     rw e (ap is_some (at_end L p n at))
+
+-- where no more may follow: whether this is the end
+pub spent : (L : ℕ) (p : List ℕ) (at end : ℕ) → is_some (instructions L p 0 at end) ≡ eqb at end
+unfolding instructions
+spent L p at end = some_where (eqb at end)
 
 -- what is known where the instruction i stands, and ends in time
 module _ (at end : ℕ) {o : Option Instr} {i : Instr} (stands : o ≡ some i) (whole : at + width i ≤ end) where

@@ -1,5 +1,6 @@
 -- Instructions: what each is, its bytes, and the instructions of a sheet.
-use Rattle.std.specs.Prelude.{ℕ, zero, suc, ◌+◌, ◌<◌, true, false, cond, [], ◌∷◌, leb, ltb, eqb, ℤ}
+use Rattle.std.specs.Prelude.{ℕ, zero, suc, ◌+◌, ◌<◌, true, false, cond, [], ◌∷◌, leb, ltb, eqb, ℤ, Some, None}
+use Rattle.std.specs.Prelude
 use mathlib.Core
 use Rattle.std.proofs.Math.Option.{Option, some, none}
 use Rattle.pack.specs.Bytes.{byte, u32, i32}
@@ -81,10 +82,10 @@ instructions L p zero at end = cond (eqb at end) (some []) none
 instructions L p (suc n) at end =
     cond (eqb at end) (some []) (onward at end (λ a. instructions L p n a end) (instruction L p at))
 
--- the bytes of the instruction at a position, 0 where there is none or it does not end in time
-abbrev pub taken : ℕ → ℕ → Option Instr → ℕ
-taken at end none = 0
-taken at end (some i) = cond (leb (at + width i) end) (width i) 0
+-- the bytes of the instruction at a position, None where there is none or it does not end in time
+abbrev pub taken : ℕ → ℕ → Option Instr → Prelude.Option ℕ
+taken at end none = None
+taken at end (some i) = cond (leb (at + width i) end) (Some (width i)) None
 
 -- what the operand of an instruction of a pack of L literals is limited to
 abbrev pub Allowed : ℕ → Instr → Type 0

@@ -1,49 +1,52 @@
 // Little-endian numbers at a position of a run of bytes.
+#![tactic(auto, unfolding(crate::specs::Bytes::number))]
+
 ghost use Rattle.std.specs.Prelude.{◌≡◌, ◌+◌, ◌<◌, ◌≤◌, length};
 ghost use Rattle.pack.specs.Bytes.{byte, u16, u32, u64, i32, number};
-
-// A byte as a count.
-fn widen(x: u8) -> usize
-    ensures { (result ≡ x) × (result < 256) }
-{
-    x as usize
-}
 
 pub fn byte_at(p: &[u8], at: usize) -> usize
     requires { at < length p.now }
     ensures { (result ≡ byte p.now at) × (result < 256) }
 {
-    widen(p[at])
+    usize::from(p[at])
 }
 
 pub fn u16_at(p: &[u8], at: usize) -> usize
     requires { at + 1 < length p.now }
     ensures { (result ≡ u16 p.now at) × (result < 65536) }
 {
-    byte_at(p, at) + 256 * byte_at(p, at + 1)
+    usize::from(u16::from_le_bytes([p[at], p[at + 1]]))
 }
 
 pub fn u32_at(p: &[u8], at: usize) -> u32
     requires { at + 3 < length p.now }
     ensures { result ≡ u32 p.now at }
 {
-    (u16_at(p, at) + 65536 * u16_at(p, at + 2)) as u32
+    u32::from_le_bytes([p[at], p[at + 1], p[at + 2], p[at + 3]])
 }
 
 pub fn u64_at(p: &[u8], at: usize) -> u64
     requires { at + 7 < length p.now }
     ensures { result ≡ u64 p.now at }
 {
-    let low = u32_at(p, at);
-    let high = u32_at(p, at + 4);
-    low as u64 + 4294967296 * (high as u64)
+    u64::from_le_bytes([
+        p[at],
+        p[at + 1],
+        p[at + 2],
+        p[at + 3],
+        p[at + 4],
+        p[at + 5],
+        p[at + 6],
+        p[at + 7],
+    ])
 }
 
+#[tactic(auto, unfolding(ink_number::specs::Int::signed))]
 pub fn i32_at(p: &[u8], at: usize) -> i32
     requires { at + 3 < length p.now }
     ensures { result ≡ i32 p.now at }
 {
-    ink_number::int::signed_of(u32_at(p, at))
+    u32_at(p, at).cast_signed()
 }
 
 // A number of one or two bytes: an item's, or how many items a definition has.

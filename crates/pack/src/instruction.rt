@@ -42,26 +42,15 @@ pub fn read_instruction(p: &[u8], at: usize) -> Instruction
     requires { Whole p.now at }
     ensures { Reads p.now at (instr_of result) }
 {
-    let code = p[at];
-    if code < BOOL {
-        return Instruction::Op(code);
+    match p[at] {
+        BOOL => Instruction::Bool(p[at + 1] == 1),
+        INT => Instruction::Int(i32_at(p, at + 1)),
+        FLOAT => Instruction::Float(u32_at(p, at + 1)),
+        LIST => Instruction::List(p[at + 1]),
+        SLOT => Instruction::Slot(p[at + 1]),
+        VOID => Instruction::Void,
+        code => Instruction::Op(code),
     }
-    if code == BOOL {
-        return Instruction::Bool(p[at + 1] == 1);
-    }
-    if code == INT {
-        return Instruction::Int(i32_at(p, at + 1));
-    }
-    if code == FLOAT {
-        return Instruction::Float(u32_at(p, at + 1));
-    }
-    if code == LIST {
-        return Instruction::List(p[at + 1]);
-    }
-    if code == SLOT {
-        return Instruction::Slot(p[at + 1]);
-    }
-    Instruction::Void
 }
 
 // The bytes that an instruction takes.
@@ -69,12 +58,8 @@ pub fn instruction_width(i: Instruction) -> usize
     ensures { result ≡ width (instr_of i) }
 {
     match i {
-        Instruction::Op(_) => ALONE,
-        Instruction::Bool(_) => WITH_BYTE,
-        Instruction::Int(_) => WITH_FOUR,
-        Instruction::Float(_) => WITH_FOUR,
-        Instruction::List(_) => WITH_BYTE,
-        Instruction::Slot(_) => WITH_BYTE,
-        Instruction::Void => ALONE,
+        Instruction::Op(_) | Instruction::Void => ALONE,
+        Instruction::Bool(_) | Instruction::List(_) | Instruction::Slot(_) => WITH_BYTE,
+        Instruction::Int(_) | Instruction::Float(_) => WITH_FOUR,
     }
 }

@@ -5,7 +5,7 @@ ghost use Rattle.pack.specs.Format.{Narrow};
 ghost use Rattle.pack.specs.Judge.{question1, question2, judge, checked, Framed};
 
 use super::format::{DEFINITION_LIMIT, PACK_LIMIT};
-use pack::Checked;
+use ink_number::question::Question;
 use pack::bytes::byte_at;
 use pack::contents::{body_count, offset, size};
 use pack::format::Format;
@@ -33,42 +33,42 @@ fn question1(p: &[u8], format: Format) -> bool
 }
 
 // Do bodies follow the contents and each other, the last ending the pack?
+#[tactic(auto, using(slices::proofs::Every::every_more), unfolding(slices::specs::Every::every, pack::specs::Contents::place))]
 fn question2(p: &[u8]) -> bool
     requires { Framed p.now }
     ensures { result ≡ question2 p.now }
 {
     let n = body_count(p);
     let mut at = 4 + 4 * n;
-    let mut b = 0;
-    while b < n {
+    for b in 0..n {
         if offset(p, b) != at {
             return false;
         }
         at += size(p, b);
-        b += 1;
     }
     at == p.len()
 }
 
 // Asks questions 1 to 5 of a pack of a format.
-pub fn check_as(p: &[u8], format: Format) -> Checked
+#[tactic(auto, using(pack::proofs::Laid::framed), unfolding(pack::specs::Judge::judge))]
+pub fn check_as(p: &[u8], format: Format) -> Result<(), Question>
     requires { Narrow format }
     ensures { checked result (decoded format p.now) ≡ judge format p.now }
 {
     if !question1(p, format) {
-        return Checked::Refused(1);
+        return Err(Question::Length);
     }
     if !question2(p) {
-        return Checked::Refused(2);
+        return Err(Question::Contents);
     }
     if !question3(p, format) {
-        return Checked::Refused(3);
+        return Err(Question::Definitions);
     }
     if !question4(p, format) {
-        return Checked::Refused(4);
+        return Err(Question::Literals);
     }
     if !question5(p) {
-        return Checked::Refused(5);
+        return Err(Question::Sheets);
     }
-    Checked::Passed
+    Ok(())
 }

@@ -10,6 +10,7 @@ use pack::contents::{offset, size};
 use pack::format::Format;
 
 // Is definition d well formed?
+#[tactic(auto, using(pack::proofs::Laid::body), unfolding(pack::specs::Bodies::definition_ok))]
 fn definition_ok(p: &[u8], d: usize, format: Format) -> bool
     requires narrow { Narrow format }
     requires placed { Placed p.now }
@@ -41,6 +42,7 @@ pub fn item_count(p: &[u8], d: usize, format: Format) -> usize
 }
 
 // Is each definition well formed, items in all at most the limit?
+#[tactic(auto, using(slices::proofs::Every::every_more, pack::proofs::Values::items_more), unfolding(pack::specs::Bodies::items_below, slices::specs::Every::every))]
 pub fn question3(p: &[u8], format: Format) -> bool
     requires narrow { Narrow format }
     requires placed { Placed p.now }
@@ -48,18 +50,17 @@ pub fn question3(p: &[u8], format: Format) -> bool
 {
     let n = byte_at(p, 1);
     let mut items = 0;
-    let mut d = 0;
-    while d < n {
+    for d in 0..n {
         if !definition_ok(p, d, format) {
             return false;
         }
         items += item_count(p, d, format);
-        d += 1;
     }
     items <= format.limit
 }
 
 // The items of all definitions.
+#[tactic(auto, using(pack::proofs::Values::items_more), unfolding(pack::specs::Bodies::items_below))]
 pub fn total_items(p: &[u8], format: Format) -> usize
     requires narrow { Narrow format }
     requires placed { Placed p.now }
@@ -68,10 +69,8 @@ pub fn total_items(p: &[u8], format: Format) -> usize
 {
     let n = byte_at(p, 1);
     let mut items = 0;
-    let mut d = 0;
-    while d < n {
+    for d in 0..n {
         items += item_count(p, d, format);
-        d += 1;
     }
     items
 }

@@ -13,6 +13,7 @@ use pack::contents::{offset, size};
 use pack::format::Format;
 
 // Do the items of the n entries of a literal rise, all below total?
+#[tactic(auto, using(pack::proofs::Laid::body, slices::proofs::Strides::stride_fits))]
 fn items_ok(p: &[u8], b: usize, n: usize, total: usize, format: Format) -> bool
     requires narrow { Narrow format }
     requires placed { Placed p.now }
@@ -20,25 +21,20 @@ fn items_ok(p: &[u8], b: usize, n: usize, total: usize, format: Format) -> bool
     requires b_value { size p.now b ≡ 8 + (format.wide + 4) * n }
     ensures { result ≡ ascends 0 total (table n (item format p.now b)) }
 {
-    let mut at = offset(p, b) + 8;
+    let first = offset(p, b) + 8;
     let mut least = 0;
-    let mut k = 0;
-    while k < n {
-        let item = number_at(p, at, format.wide);
-        if item < least {
-            return false;
-        }
-        if total <= item {
+    for k in 0..n {
+        let item = number_at(p, first + (format.wide + 4) * k, format.wide);
+        if item < least || total <= item {
             return false;
         }
         least = item + 1;
-        at += format.wide + 4;
-        k += 1;
     }
     true
 }
 
 // Is the literal that is body b well formed, its items below total?
+#[tactic(auto, using(pack::proofs::Laid::body), unfolding(pack::specs::Bodies::literal_ok, ink_list::specs::Entries::formed))]
 fn literal_ok(p: &[u8], b: usize, total: usize, format: Format) -> bool
     requires narrow { Narrow format }
     requires placed { Placed p.now }
@@ -62,6 +58,7 @@ fn literal_ok(p: &[u8], b: usize, total: usize, format: Format) -> bool
 }
 
 // Is each literal well formed, items in the pack, origin bits below D?
+#[tactic(auto, using(slices::proofs::Every::every_more, slices::proofs::Every::every_fails), unfolding(slices::specs::Every::every, pack::specs::Judge::question4))]
 pub fn question4(p: &[u8], format: Format) -> bool
     requires narrow { Narrow format }
     requires placed { Placed p.now }
@@ -71,12 +68,10 @@ pub fn question4(p: &[u8], format: Format) -> bool
     let total = total_items(p, format);
     let d = byte_at(p, 1);
     let n = byte_at(p, 2);
-    let mut l = 0;
-    while l < n {
+    for l in 0..n {
         if !literal_ok(p, d + l, total, format) {
             return false;
         }
-        l += 1;
     }
     true
 }

@@ -58,14 +58,10 @@ fn copy_each(
     requires n_in_bounds_3 { from + n ≤ length values.old }
     ensures { Copies wide n p at from items values }
 {
-    let mut k = 0;
-    while k < n {
+    for k in 0..n {
         let e = at + (wide + 4) * k;
-        let i = number_at(p, e, wide) as u16;
-        let v = i32_at(p, e + wide);
-        items[from + k] = i;
-        values[from + k] = v;
-        k += 1;
+        items[from + k] = number_at(p, e, wide) as u16;
+        values[from + k] = i32_at(p, e + wide);
     }
 }
 

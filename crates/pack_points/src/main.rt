@@ -9,8 +9,6 @@ ghost use Rattle.pack.specs.Contents.{literal_count, sheet_count};
 ghost use Rattle.pack.specs.Read.{program};
 ghost use Rattle.pack_points.specs.Passed.{Passed};
 
-use named_packs::Named;
-use pack::Checked;
 use pack::format::Format;
 use pack::instruction::{Instruction, instruction_width, read_instruction};
 use pack_check::format::{DEFINITION_LIMIT, FORMAT1};
@@ -25,14 +23,6 @@ const SHOWN_FORMAT: Format = FORMAT1;
 
 const SHOWN: usize = 8;
 
-fn widen(x: u8) -> usize {
-    x as usize
-}
-
-fn widen_item(x: u16) -> usize {
-    x as usize
-}
-
 // A number after a space.
 fn number(n: usize) {
     text(b" ");
@@ -46,10 +36,8 @@ fn bits(n: u32) {
 }
 
 fn numbers(ns: &[u16]) {
-    let mut i = 0;
-    while i < ns.len() {
-        number(widen_item(ns[i]));
-        i += 1;
+    for n in ns {
+        number(usize::from(*n));
     }
 }
 
@@ -59,30 +47,20 @@ fn show_definitions(p: &[u8])
     let mut ends = [0u16; DEFINITION_LIMIT];
     let mut defined = [0i32; SHOWN_FORMAT.limit];
     let d = read_definitions(p, &mut ends, &mut defined, SHOWN_FORMAT);
-    let n = d.definitions;
     text(b" ends");
-    numbers(&ends[..n]);
-    let m = d.items;
-    if 0 < m {
+    numbers(&ends[..d.definitions]);
+    if let Some(value) = defined[..d.items].last() {
         text(b" value");
-        bits(ink_number::int::pattern(defined[m - 1]));
+        bits(value.cast_unsigned());
     }
 }
 
-// The last of n entries.
-fn show_last(items: &[u16], values: &[i32], n: usize) {
-    if n == 0 {
-        return;
+// The last entry, if there is one.
+fn show_last(items: &[u16], values: &[i32]) {
+    if let (Some(item), Some(value)) = (items.last(), values.last()) {
+        number(usize::from(*item));
+        bits(value.cast_unsigned());
     }
-    let k = n - 1;
-    if items.len() <= k {
-        return;
-    }
-    if values.len() <= k {
-        return;
-    }
-    number(widen_item(items[k]));
-    bits(ink_number::int::pattern(values[k]));
 }
 
 fn show_literal(p: &[u8], l: usize)
@@ -95,24 +73,22 @@ fn show_literal(p: &[u8], l: usize)
     let mut items = [0u16; SHOWN_FORMAT.limit];
     let mut values = [0i32; SHOWN_FORMAT.limit];
     let n = read_literal(p, l, &mut items, &mut values, 0, SHOWN_FORMAT);
-    show_last(&items, &values, n);
+    show_last(&items[..n], &values[..n]);
 }
 
 fn show_literals(p: &[u8])
     requires { Passed p.now }
 {
     let n = literal_count(p);
-    let mut l = 0;
-    while l < n {
+    for l in 0..n {
         show_literal(p, l);
-        l += 1;
     }
 }
 
 // A word, and a number or the bits of a value after it.
 fn show_number(word: &[u8], n: u8) {
     text(word);
-    number(widen(n));
+    number(usize::from(n));
 }
 
 fn show_bits(word: &[u8], n: u32) {
@@ -123,8 +99,8 @@ fn show_bits(word: &[u8], n: u32) {
 fn show_instruction(i: Instruction) {
     match i {
         Instruction::Op(n) => show_number(b" op", n),
-        Instruction::Bool(b) => show_number(b" bool", if b { 1 } else { 0 }),
-        Instruction::Int(n) => show_bits(b" int", ink_number::int::pattern(n)),
+        Instruction::Bool(b) => show_number(b" bool", u8::from(b)),
+        Instruction::Int(n) => show_bits(b" int", n.cast_unsigned()),
         Instruction::Float(n) => show_bits(b" float", n),
         Instruction::List(n) => show_number(b" list", n),
         Instruction::Slot(n) => show_number(b" slot", n),
@@ -180,10 +156,8 @@ fn show_sheets(p: &[u8])
     requires { Passed p.now }
 {
     let n = sheet_count(p);
-    let mut s = 0;
-    while s < n {
+    for s in 0..n {
         show_sheet(p, s);
-        s += 1;
     }
 }
 
@@ -198,23 +172,17 @@ fn show(p: &[u8])
 
 fn report(p: &[u8]) {
     match pack_check::check(p) {
-        Checked::Refused(n) => {
-            number(widen(n));
-        }
-        Checked::Passed => {
-            show(p);
-        }
+        Ok(()) => show(p),
+        Err(question) => number(usize::from(question.number())),
     }
     text(b"\n");
 }
 
 // Reports on a pack after its name.
-fn report_named(s: &[u8], name: usize, after: usize, start: usize, end: usize)
-    requires { (name ≤ after) × (after ≤ length s.now) × (start ≤ end) × (end ≤ length s.now) }
-{
-    text(&s[name..after]);
+fn report_named(name: &[u8], pack: &[u8]) {
+    text(name);
     text(b":");
-    report(&s[start..end]);
+    report(pack);
 }
 
 // Reports on the pack whose name's length is at a position, and says where the next one is.
@@ -223,16 +191,11 @@ fn report_at(s: &[u8], at: usize) -> usize
     ensures { (at < result) × (result ≤ length s.now) }
 {
     match named_packs::read(s, at) {
-        Named::Pack {
-            name,
-            after,
-            start,
-            end,
-        } => {
-            report_named(s, name, after, start, end);
-            end
+        Some(named) => {
+            report_named(named.name, named.pack);
+            named.end
         }
-        Named::Cut => s.len(),
+        None => s.len(),
     }
 }
 

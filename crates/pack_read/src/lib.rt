@@ -23,11 +23,8 @@ fn copy_values(p: &[u8], at: usize, n: usize, out: &mut [i32], from: usize)
     requires n_in_bounds_2 { from + n ≤ length out.old }
     ensures { out.new ≡ fill from (table n (λ k. i32 p.now (at + 4 * k))) out.old }
 {
-    let mut k = 0;
-    while k < n {
-        let v = i32_at(p, at + 4 * k);
-        out[from + k] = v;
-        k += 1;
+    for k in 0..n {
+        out[from + k] = i32_at(p, at + 4 * k);
     }
 }
 
@@ -48,14 +45,12 @@ pub fn read_definitions(p: &[u8], ends: &mut [u16], defined: &mut [i32], format:
 {
     let n = byte_at(p, 1);
     let mut items = 0;
-    let mut d = 0;
-    while d < n {
+    for d in 0..n {
         let at = offset(p, d) + format.wide;
         let k = item_count(p, d, format);
         copy_values(p, at, k, defined, items);
         items += k;
         ends[d] = items as u16;
-        d += 1;
     }
     Defined {
         definitions: n,

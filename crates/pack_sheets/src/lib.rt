@@ -17,57 +17,44 @@ pub const INSTRUCTION_LIMIT: usize = 1024;
 
 pub const SLOT_LIMIT: usize = 16;
 
-// The bytes of an instruction with a byte below limit, 0 where it does not end in time or the byte is not.
-fn with_byte(p: &[u8], at: usize, end: usize, limit: usize) -> usize
+// The bytes of an instruction with a byte below limit, None where it does not end in time or the byte is not.
+fn with_byte(p: &[u8], at: usize, end: usize, limit: usize) -> Option<usize>
     requires { (at < end) × (end ≤ length p.now) }
-    ensures { result ≡ cond (ltb (byte p.now (at + 1)) limit) (cond (leb (at + 2) end) 2 0) 0 }
+    ensures { result ≡ cond (ltb (byte p.now (at + 1)) limit) (cond (leb (at + 2) end) (Some 2) None) None }
 {
-    if end - at < WITH_BYTE {
-        return 0;
+    if WITH_BYTE <= end - at && byte_at(p, at + 1) < limit {
+        Some(WITH_BYTE)
+    } else {
+        None
     }
-    if byte_at(p, at + 1) < limit {
-        return WITH_BYTE;
-    }
-    0
 }
 
-// The bytes of an instruction with four bytes, 0 where it does not end in time.
-fn with_four(at: usize, end: usize) -> usize
+// The bytes of an instruction with four bytes, None where it does not end in time.
+fn with_four(at: usize, end: usize) -> Option<usize>
     requires { at < end }
-    ensures { result ≡ cond (leb (at + 5) end) 5 0 }
+    ensures { result ≡ cond (leb (at + 5) end) (Some 5) None }
 {
-    if end - at < WITH_FOUR { 0 } else { WITH_FOUR }
+    if WITH_FOUR <= end - at {
+        Some(WITH_FOUR)
+    } else {
+        None
+    }
 }
 
-// The bytes of the instruction at a position, 0 where none is well formed and ends in time.
-#[tactic(auto, using(crate::proofs::Alone::void_alone))]
-fn checked_width(p: &[u8], at: usize, end: usize, literals: usize) -> usize
+// The bytes of the instruction at a position, None where none is well formed and ends in time.
+fn checked_width(p: &[u8], at: usize, end: usize, literals: usize) -> Option<usize>
     requires { (at < end) × (end ≤ length p.now) }
     ensures { result ≡ taken at end (instruction literals p.now at) }
 {
-    let code = p[at];
-    if code < BOOL {
-        return ALONE;
+    match p[at] {
+        0..BOOL => Some(ALONE),
+        BOOL => with_byte(p, at, end, 2),
+        INT | FLOAT => with_four(at, end),
+        LIST => with_byte(p, at, end, literals),
+        SLOT => with_byte(p, at, end, SLOT_LIMIT),
+        VOID => Some(ALONE),
+        _ => None,
     }
-    if code == BOOL {
-        return with_byte(p, at, end, 2);
-    }
-    if code == INT {
-        return with_four(at, end);
-    }
-    if code == FLOAT {
-        return with_four(at, end);
-    }
-    if code == LIST {
-        return with_byte(p, at, end, literals);
-    }
-    if code == SLOT {
-        return with_byte(p, at, end, SLOT_LIMIT);
-    }
-    if code == VOID {
-        return ALONE;
-    }
-    0
 }
 
 // Is the sheet that is body b well formed?
@@ -79,34 +66,30 @@ fn sheet_ok(p: &[u8], b: usize) -> bool
     let literals = byte_at(p, 2);
     let mut at = offset(p, b);
     let end = at + size(p, b);
-    let mut left = INSTRUCTION_LIMIT;
-    while at < end {
-        if left == 0 {
-            return false;
+    for _ in 0..INSTRUCTION_LIMIT {
+        if at == end {
+            return true;
         }
-        let n = checked_width(p, at, end, literals);
-        if n == 0 {
+        let Some(n) = checked_width(p, at, end, literals) else {
             return false;
-        }
+        };
         at += n;
-        left -= 1;
     }
-    true
+    at == end
 }
 
 // Is each sheet well formed, literal number below L?
+#[tactic(auto, using(slices::proofs::Every::every_more), unfolding(slices::specs::Every::every, pack::specs::Judge::question5))]
 pub fn question5(p: &[u8]) -> bool
     requires { Placed p.now }
     ensures { result ≡ question5 p.now }
 {
     let first = byte_at(p, 1) + byte_at(p, 2);
     let n = byte_at(p, 3);
-    let mut s = 0;
-    while s < n {
+    for s in 0..n {
         if !sheet_ok(p, first + s) {
             return false;
         }
-        s += 1;
     }
     true
 }

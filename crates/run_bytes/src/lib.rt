@@ -7,7 +7,6 @@ ghost use Rattle.pack.specs.Judge.{Sound};
 ghost use Rattle.running.specs.Slices.{RunsSix, RunsAny};
 
 use ink_value::Value;
-use pack::Checked;
 use pack::format::Format;
 use pack_check::format::{DEFINITION_LIMIT, FORMAT1};
 use run_sheet::run_sheet;
@@ -72,9 +71,8 @@ pub fn run(
     ensures { RunsAny format1 pack sheet slots slot_items slot_values result
         work_items work_values result_items result_values }
 {
-    let checked = pack_check::check(pack);
-    match checked {
-        Checked::Passed => {
+    match pack_check::check(pack) {
+        Ok(()) => {
             let mut defined = [0i32; FORMAT1.limit];
             run_passed(
                 pack,
@@ -90,6 +88,9 @@ pub fn run(
                 result_values,
             )
         }
-        Checked::Refused(number) => Ran::Stopped { number, index: 0 },
+        Err(question) => Ran::Stopped {
+            number: question.number(),
+            index: 0,
+        },
     }
 }

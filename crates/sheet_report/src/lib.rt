@@ -8,7 +8,6 @@ ghost use Rattle.pack.specs.Judge.{Framed};
 use ink_value::Value;
 use machine::STACK_LIMIT;
 use output_buffer::Output;
-use pack::Checked;
 use pack_check::format::FORMAT1;
 use printing::{natural, refused, value};
 use running::Ran;
@@ -99,7 +98,7 @@ fn turned_back(o: Output, out: &mut [u8], number: u8) -> Output {
 
 pub fn report(o: Output, out: &mut [u8], pack: &[u8]) -> Output {
     match pack_check::check(pack) {
-        Checked::Passed => sheet_lines(o, out, pack),
-        Checked::Refused(number) => turned_back(o, out, number),
+        Ok(()) => sheet_lines(o, out, pack),
+        Err(question) => turned_back(o, out, question.number()),
     }
 }

@@ -1,22 +1,19 @@
--- Questions 1 to 7 of vetting, in order, as the code asks them: the first no, or the answer of the sheet. For any format; c is what the check
--- of questions 1 to 5 answers. Assumes nothing.
-use mathlib.Core.Path.{◌≡◌}
+-- Questions 1 to 7 of vetting, in order, as the code asks them: the first no, or the answer of the sheet. For any format. Assumes nothing.
+use mathlib.Core.Path.{◌≡◌, sym}
 use mathlib.Core.Bool.{true, false}
 use mathlib.Core.List.{List}
 use Prim.Native.Nat.{ℕ, ◌≤◌, ◌<◌}
 use native.Mathlib.Omega.{arith}
 use borrow.Author.Tests.{le-leb, lt-leb}
 use lib.ListN.{length}
-use Rattle.ink_number.specs.Answer.{gives}
+use Rattle.ink_number.specs.Answer.{gives, refuses}
 use Rattle.slices.proofs.Every.{and_both, and_no_left, and_no_right}
 use Rattle.pack.specs.Bodies.{decoded}
 use Rattle.pack.specs.Contents.{sheet_count}
-use Rattle.pack.specs.Judge.{Sound, judge, checked}
+use Rattle.pack.specs.Judge.{Sound, judge}
 use Rattle.pack.specs.Read.{program}
-use Rattle.pack.specs.declared.Checked.{Checked}
-use Rattle.pack.specs.declared.Checked.TheVariants as Ck
 use Rattle.pack.specs.declared.format.Format.{Format}
-use Rattle.pack.proofs.Judged.{accepted, passed, turned}
+use Rattle.pack.proofs.Judged.{passed}
 use Rattle.pack.proofs.Programs.{sheets_long}
 use Rattle.machine.proofs.Whole.{opened_refused, opened_six, opened_seven, opened_all}
 use Rattle.vetting.specs.Vet.{vet_memory, all_codes, forecast_limit, VetsProgram, Vets}
@@ -24,18 +21,18 @@ use Rattle.vet_program.specs.declared.Vetted.{Vetted}
 use Rattle.vet_program.specs.declared.Vetted.TheVariants as Is
 use Rattle.vetting.proofs.Written.{stops, goes}
 
-module _ (F : Format) (p : List ℕ) (c : Checked) (e : checked c (decoded F p) ≡ judge F p) where
+module _ (F : Format) (p : List ℕ) where
   -- the pack passed
-  pub sound : c ≡ Ck.Passed → Sound F p
-  sound y = passed F p c y e
+  pub sound : gives (decoded F p) ≡ judge F p → Sound F p
+  sound y = passed F p y
 
   module _ (s : ℕ) (codes f : List ℕ) where
-    pub refused : (q : ℕ) → c ≡ Ck.Refused q → Vets F p s codes (Is.Refused q 0) f f
-    refused q y = stops F p s codes f q (opened_refused F p s (vet_memory codes f) q (turned F p c q y e))
+    pub refused : (q : ℕ) → refuses q ≡ judge F p → Vets F p s codes (Is.Refused q 0) f f
+    refused q y = stops F p s codes f q (opened_refused F p s (vet_memory codes f) q (sym y))
 
-    module _ (y : c ≡ Ck.Passed) where
+    module _ (y : gives (decoded F p) ≡ judge F p) where
       judged : judge F p ≡ gives (decoded F p)
-      judged = accepted F p c y e
+      judged = sym y
 
       pub no_sheet : sheet_count p ≤ s → Vets F p s codes (Is.Refused 6 0) f f
       no_sheet h = stops F p s codes f 6 (opened_six F p s (vet_memory codes f) (decoded F p) judged (omega (arith, sheets_long p F)))

@@ -11,7 +11,6 @@ ghost use Rattle.vet_steps.specs.Step.{Codes};
 ghost use Rattle.vetting.specs.Vet.{all_codes};
 ghost use Rattle.vetting.specs.Slices.{VetsProgramIn, VetsAny};
 
-use pack::Checked;
 use vet_program::Vetted;
 
 // The bytes that a forecast may take: two for each instruction.
@@ -66,8 +65,11 @@ pub fn vet(pack: &[u8], sheet: usize, kinds: [u8; 16], forecast: &mut [u8]) -> V
     ensures { VetsAny format1 pack sheet kinds result forecast }
 {
     match pack_check::check(pack) {
-        Checked::Refused(number) => Vetted::Refused { number, index: 0 },
-        Checked::Passed => {
+        Err(question) => Vetted::Refused {
+            number: question.number(),
+            index: 0,
+        },
+        Ok(()) => {
             if pack_read::sheet_count(pack) <= sheet {
                 return Vetted::Refused {
                     number: 6,

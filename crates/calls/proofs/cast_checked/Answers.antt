@@ -8,7 +8,6 @@ use borrow.Author.Tests.{le-leb, lt-leb}
 use Rattle.ink_number.specs.Answer.{refuses}
 use Rattle.ink_list.specs.Entries.{room}
 use Rattle.slices.proofs.Every.{and_both, and_no_left, and_no_right, and_left, and_right}
-use Rattle.value_conversions.specs.Convert.{cast}
 use Rattle.ink_value.proofs.Forming.{formed_yes}
 use Rattle.ink_value.proofs.Given.{gave_is, gave_plain}
 use Rattle.pack.specs.Bodies.{decoded}

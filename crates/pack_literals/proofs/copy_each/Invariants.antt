@@ -1,6 +1,4 @@
--- `pack_literals::copy_each` meets its contract. The loop's invariant: k entries are written. The measure is how many are left. Assumes
--- nothing.
-use Prim.Native.Nat.{◌-◌, ◌≤◌}
+-- `pack_literals::copy_each` meets its contract. The loop's invariant: k entries are written. Assumes nothing.
 use mathlib.Core.Path.{◌≡◌}
 use Rattle.slices.specs.Every.{table}
 use Rattle.slices.specs.Filled.{fill}
@@ -9,7 +7,5 @@ use Rattle.pack_literals.proofs.copy_each.Given as goal
 
 abbrev pub invariant-loop-k : goal.invariant-loop-k
 invariant-loop-k l =
-    (l.k ≤ l.n) × (l.items ≡ fill l.from (table l.k (item_from l.wide l.p l.at)) l.initial.items) × (l.values ≡ fill l.from (table l.k (value_from l.wide l.p l.at)) l.initial.values)
-
-abbrev pub decreases-loop-k : goal.decreases-loop-k
-decreases-loop-k l = l.n - l.k
+    (l.items ≡ fill l.from (table l.k (item_from l.wide l.p l.at)) l.initial.items)
+    × (l.values ≡ fill l.from (table l.k (value_from l.wide l.p l.at)) l.initial.values)

@@ -1,7 +1,7 @@
 -- `pack_points::instruction_count` meets its contract. The loop's invariant: instruction k stands at `at`, or the sheet ends there. The
 -- measure is how many bytes are left. Assumes nothing.
 use mathlib.Core.List.{[]}
-use Prim.Native.Nat.{ℕ, ◌+◌, ◌-◌}
+use Prim.Native.Nat.{ℕ, ◌+◌}
 use mathlib.Core.Path.{◌≡◌, sym, ap, subst}
 use native.Mathlib.Omega.{arith}
 use lib.ListN.{length, drop, length-drop}

@@ -4,4 +4,4 @@ use Rattle.pack_points.proofs.report.Goals as goal
 
 pub show-requires : goal.show-requires
 show-requires c =
-    passed _ c.args.p.now c.check.result c.in-Passed.is c.check.ensures
+    passed _ c.args.p.now c.in-Ok.ensures

@@ -25,11 +25,3 @@ slice_bounds-numbers-end c =
     let t = pack_tables _ c.args.p.now runnable1.narrow c.requires in
     let r = c.read_definitions-d in
     sym (length-take-le r.result.definitions r.new.ends (omega (arith, r.ensures, r.auto.ends)))
-
-pub offset_bounds-defined-m : goal.offset_bounds-defined-m
-offset_bounds-defined-m c =
-    omega (arith, pack_tables _ c.args.p.now runnable1.narrow c.requires, c.read_definitions-d.ensures)
-
-pub bounds-defined-m : goal.bounds-defined-m
-bounds-defined-m c =
-    omega (arith, pack_tables _ c.args.p.now runnable1.narrow c.requires, c.read_definitions-d.ensures)

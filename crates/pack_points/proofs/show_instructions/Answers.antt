@@ -1,6 +1,6 @@
 -- `pack_points::show_instructions` is safe and ends. The loop's invariant: an instruction of the sheet stands at `at`, or the sheet ends
 -- there. The measure is how many bytes are left. Assumes nothing.
-use Prim.Native.Nat.{ℕ, ◌+◌, ◌-◌}
+use Prim.Native.Nat.{ℕ, ◌+◌}
 use mathlib.Core.Path.{sym, subst}
 use native.Mathlib.Omega.{arith}
 use Rattle.pack.specs.Read.{Standing}

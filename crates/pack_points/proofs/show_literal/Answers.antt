@@ -1,5 +1,9 @@
 -- `pack_points::show_literal` is safe: a literal has at most as many entries as the pack's format has items. Assumes nothing.
+use Prim.Native.Nat.{◌≤◌}
+use mathlib.Core.Path.{sym}
 use native.Mathlib.Omega.{arith}
+use lib.ListN.{length}
+use lib.Seq.{length-take-le}
 use Rattle.pack.proofs.Formats.{runnable1}
 use Rattle.pack.proofs.Listed.{literal_formed}
 use Rattle.pack_points.proofs.show_literal.Goals as goal
@@ -14,3 +18,21 @@ read_literal-n-requires c =
       l_in_bounds = omega arith;
       l_in_bounds_2 = omega arith;
     }
+
+pub slice_bounds-items-end : goal.slice_bounds-items-end
+slice_bounds-items-end c = omega (arith, (literal_formed _ c.args.p.now c.requires.passed c.args.l c.requires.l_bound).few, c.read_literal-n.ensures.counted)
+
+pub slice_bounds-show_last-end : goal.slice_bounds-show_last-end
+slice_bounds-show_last-end c =
+    let fits : c.read_literal-n.result ≤ length c.read_literal-n.new.items =
+    omega (arith, (literal_formed _ c.args.p.now c.requires.passed c.args.l c.requires.l_bound).few, c.read_literal-n.ensures.counted) in
+    sym (length-take-le c.read_literal-n.result c.read_literal-n.new.items fits)
+
+pub slice_bounds-values-end : goal.slice_bounds-values-end
+slice_bounds-values-end c = omega (arith, (literal_formed _ c.args.p.now c.requires.passed c.args.l c.requires.l_bound).few, c.read_literal-n.ensures.counted)
+
+pub slice_bounds-show_last-end-2 : goal.slice_bounds-show_last-end-2
+slice_bounds-show_last-end-2 c =
+    let fits : c.read_literal-n.result ≤ length c.read_literal-n.new.values =
+    omega (arith, (literal_formed _ c.args.p.now c.requires.passed c.args.l c.requires.l_bound).few, c.read_literal-n.ensures.counted) in
+    sym (length-take-le c.read_literal-n.result c.read_literal-n.new.values fits)

@@ -1,16 +1,14 @@
--- `pack_read::read_definitions` meets its contract. The loop's invariant: the ends and the values of the definitions passed are written,
--- and `items` counts them. The measure is how many are left. Assumes nothing.
-use Prim.Native.Nat.{ℕ, suc, ◌+◌, ◌*◌, ◌-◌, ◌≤◌, ◌<◌}
+-- `pack_read::read_definitions` meets its contract. Assumes nothing.
+use Prim.Native.Nat.{ℕ, suc, ◌+◌, ◌*◌, ◌<◌}
 use mathlib.Core.List.{List}
 use mathlib.Core.Path.{◌≡◌, refl, sym, ap, ◌∙◌}
 use native.Mathlib.Numerals.{add-one}
 use native.Mathlib.Omega.{arith}
 use lib.IntN.{ℤ}
-use lib.ListN.{length}
 use Rattle.slices.specs.Every.{table}
 use Rattle.slices.specs.Filled.{fill}
 use Rattle.slices.proofs.Tables.{length_table}
-use Rattle.slices.proofs.Filled.{fill_none, front_long, front_more, fill_over}
+use Rattle.slices.proofs.Filled.{fill_none, front_more, fill_over}
 use Rattle.pack.specs.Bodies.{count, items_below}
 use Rattle.pack.specs.Bytes.{i32}
 use Rattle.pack.specs.Contents.{definition_count}
@@ -18,34 +16,12 @@ use Rattle.pack.proofs.Laid.{body}
 use Rattle.pack.proofs.Values.{counted, defined, items_up, items_more, values_below, length_values, values_none, values_long, values_more, ends_table}
 use Rattle.pack_read.proofs.read_definitions.Goals as goal
 
-pub byte_at-n-requires : goal.byte_at-n-requires
-byte_at-n-requires c = omega (arith, c.requires.sound.contents.frame)
-
 pub loop-d-init : goal.loop-d-init
 unfolding items_below
 loop-d-init c =
     let p = c.args.p.now in
     let F = c.args.format in
-    (omega arith, refl, fill_none 0 (λ e. items_below F p (suc e)) c.args.ends.now c.args.ends.now refl, values_none F p c.args.defined.now)
-
-pub offset-requires : goal.offset-requires
-offset-requires c = omega (arith, c.requires.sound.contents.frame)
-
-pub overflow_add-at : goal.overflow_add-at
-overflow_add-at c = omega (arith, c.requires.narrow)
-
-pub item_count-k-requires : goal.item_count-k-requires
-item_count-k-requires c =
-    let p = c.args.p.now in
-    let F = c.args.format in
-    let l = c.loop-d in
-    let below : l.d < definition_count p = omega arith in
-    record {
-      narrow = c.requires.narrow;
-      placed = c.requires.sound.contents;
-      d_bound = omega arith;
-      d_value = (defined F p c.requires.sound.three).each l.d below;
-    }
+    (refl, fill_none 0 (λ e. items_below F p (suc e)) c.args.ends.now c.args.ends.now refl, values_none F p c.args.defined.now)
 
 pub copy_values-requires : goal.copy_values-requires
 copy_values-requires c =
@@ -55,7 +31,7 @@ copy_values-requires c =
     let below : l.d < definition_count p = omega arith in
     let up = items_up F p (definition_count p) l.d below in
     let whole = counted F p l.d ((defined F p c.requires.sound.three).each l.d below) in
-    let long = values_long F p c.args.defined.now l.d (omega arith) l.defined l.invariant.3 in
+    let long = values_long F p c.args.defined.now l.d (omega arith) l.defined l.invariant.2 in
     record {
       n_in_bounds = omega (arith, body p c.requires.sound.contents l.d (omega arith), whole);
       n_in_bounds_2 = omega (arith, long);
@@ -77,13 +53,6 @@ overflow_cast-ends c =
     let below : l.d < definition_count p = omega arith in
     omega (arith, items_up F p (definition_count p) l.d below, (defined F p c.requires.sound.three).within, c.requires.narrow)
 
-pub bounds-ends-d : goal.bounds-ends-d
-bounds-ends-d c =
-    let p = c.args.p.now in
-    let F = c.args.format in
-    let l = c.loop-d in
-    omega (arith, front_long (λ e. items_below F p (suc e)) c.args.ends.now l.d l.ends l.invariant.2 (omega arith))
-
 pub loop-d-preserved : goal.loop-d-preserved
 loop-d-preserved c =
     let p = c.args.p.now in
@@ -94,31 +63,14 @@ loop-d-preserved c =
     let total : l.items + c.item_count-k.result ≡ items_below F p (l.d + 1) = omega (arith, items_more F p l.d) in
     let one : l.items + c.item_count-k.result ≡ items_below F p (suc l.d) = rw (← add-one l.d) total in
     let wrote : ℕ → ℕ → ℕ → List ℤ = λ m n o. fill m (table n (λ k. i32 p (o + F.wide + 4 * k))) l.defined in (
-      omega arith,
       total,
-      front_more (λ e. items_below F p (suc e)) c.args.ends.now l.d l.ends l.invariant.2 _ (omega arith) one,
+      front_more (λ e. items_below F p (suc e)) c.args.ends.now l.d l.ends l.invariant.1 _ (omega arith) one,
       c.copy_values.ensures
-          ∙ ap (λ (m : ℕ). wrote m c.item_count-k.result c.offset.result) l.invariant.1
+          ∙ ap (λ (m : ℕ). wrote m c.item_count-k.result c.offset.result) l.invariant.0
           ∙ ap (λ (n : ℕ). wrote (items_below F p l.d) n c.offset.result) c.item_count-k.ensures.0
           ∙ ap (λ (o : ℕ). wrote (items_below F p l.d) (count F p l.d) o) c.offset.ensures.0
-          ∙ values_more F p c.args.defined.now l.d (omega (arith, up)) l.defined l.invariant.3,
+          ∙ values_more F p c.args.defined.now l.d (omega (arith, up)) l.defined l.invariant.2,
     )
-
-pub shape_of-ends : goal.shape_of-ends
-shape_of-ends c =
-    let p = c.args.p.now in
-    let F = c.args.format in
-    let l = c.loop-d in
-    front_long (λ e. items_below F p (suc e)) c.args.ends.now l.d l.ends l.invariant.2 (omega arith)
-
-pub shape_of-defined : goal.shape_of-defined
-shape_of-defined c =
-    let p = c.args.p.now in
-    let F = c.args.format in
-    let l = c.loop-d in
-    let e : l.d ≡ definition_count p = omega arith in
-    let fits : items_below F p l.d ≤ length c.args.defined.now = rw e c.requires.p_in_bounds_2 in
-    values_long F p c.args.defined.now l.d fits l.defined l.invariant.3
 
 pub returns : goal.returns
 returns c =
@@ -127,15 +79,19 @@ returns c =
     let l = c.loop-d in
     let D = definition_count p in
     let e : l.d ≡ D = omega arith in
-    let total : l.items ≡ items_below F p D = l.invariant.1 ∙ ap (items_below F p) e in
+    let total : l.items ≡ items_below F p D = l.invariant.0 ∙ ap (items_below F p) e in
     let ends₀ = c.args.ends.now in
     let defined₀ = c.args.defined.now in
     record {
       ends_long = c.byte_at-n.ensures.0 ∙ sym (rw (ends_table F p D) (length_table D (λ k. items_below F p (suc k))));
       defined_long = total ∙ sym (length_values F p D);
-      ends_in = l.invariant.2
+      ends_in = l.invariant.1
           ∙ ap (λ (d : ℕ). fill 0 (table d (λ k. items_below F p (suc k))) ends₀) e
           ∙ ap (λ (xs : List ℕ). fill 0 xs ends₀) (sym (ends_table F p D))
           ∙ fill_over _ ends₀;
-      defined_in = l.invariant.3 ∙ ap (λ (d : ℕ). fill 0 (values_below F p d) defined₀) e ∙ fill_over (values_below F p D) defined₀;
+      defined_in = l.invariant.2 ∙ ap (λ (d : ℕ). fill 0 (values_below F p d) defined₀) e ∙ fill_over (values_below F p D) defined₀;
     }
+
+pub item_count-k-requires-clause-d_value : goal.item_count-k-requires-clause-d_value
+item_count-k-requires-clause-d_value c =
+    (defined c.args.format c.args.p.now c.requires.sound.three).each c.loop-d.d (omega arith)

@@ -1,81 +1,41 @@
--- `pack_sheets::sheet_ok` meets its contract. The loop's invariant: whether the instructions from `at` on, at most `left`, are well formed
--- is whether all are. The measure is how many bytes are left. Assumes nothing.
+-- `pack_sheets::sheet_ok` meets its contract, a turn at a time. Assumes nothing.
 use Prim.Native.Nat.{◌+◌, ◌-◌}
-use mathlib.Core.Path.{◌≡◌, refl, sym, ◌∙◌}
+use mathlib.Core.Path.{◌≡◌, sym, ◌∙◌}
 use native.Mathlib.Omega.{arith}
-use Rattle.pack.specs.Bodies.{sheet}
 use Rattle.pack.specs.Format.{instruction_limit}
-use Rattle.pack.specs.Instruction.{is_some, instructions}
 use Rattle.pack.proofs.Laid.{body}
-use Rattle.pack.proofs.Steps.{empty_handed, ill, well, ended}
+use Rattle.pack.proofs.Steps.{ill, well, ended, spent}
 use Rattle.pack_sheets.proofs.sheet_ok.Goals as goal
 
-pub byte_at-literals-requires : goal.byte_at-literals-requires
-byte_at-literals-requires c = omega (arith, c.requires.placed.frame)
+pub returns-then-at-end : goal.returns-then-at-end
+returns-then-at-end c =
+    let l = c.loop in
+    sym (ended c.byte_at-literals.result c.args.p.now (instruction_limit - l.counter) l.at (c.offset-at.result + c.size.result) l.invariant.0 (omega arith))
+    ∙ l.invariant.1
 
-pub offset-at-requires : goal.offset-at-requires
-offset-at-requires c = omega (arith, c.requires.placed.frame)
+pub checked_width-requires : goal.checked_width-requires
+checked_width-requires c =
+    let b = body c.args.p.now c.requires.placed c.args.b c.requires.b_bound in
+    (omega arith, omega arith)
 
-pub size-requires : goal.size-requires
-size-requires c = omega (arith, c.requires.placed.frame)
-
-pub loop-at-init : goal.loop-at-init
-loop-at-init c = (omega arith, refl)
-
-pub returns-then-left-eq0 : goal.returns-then-left-eq0
-returns-then-left-eq0 c =
-    let p = c.args.p.now in
-    let b = c.args.b in
-    let l = c.loop-at in
-    let L = c.byte_at-literals.result in
+pub returns-in_default : goal.returns-in_default
+returns-in_default c =
+    let l = c.loop in
     let end = c.offset-at.result + c.size.result in
-    let same : is_some (instructions L p instruction_limit c.offset-at.result end) ≡ is_some (sheet p b) =
-    rw (c.byte_at-literals.ensures.0, c.offset-at.ensures.0, c.size.ensures.0) in
-    sym (empty_handed L p l.left l.at end c.loop-at-test.true c.if-left-eq0.true) ∙ l.invariant.1 ∙ same
+    sym (ill c.byte_at-literals.result c.args.p.now (instruction_limit - l.counter) l.at end (omega arith) (omega arith) (sym c.in_default.ensures))
+    ∙ l.invariant.1
 
-pub checked_width-n-requires : goal.checked_width-n-requires
-checked_width-n-requires c =
-    omega (arith, body c.args.p.now c.requires.placed c.args.b c.requires.b_bound)
-
-pub returns-then-n-eq0 : goal.returns-then-n-eq0
-returns-then-n-eq0 c =
-    let p = c.args.p.now in
-    let b = c.args.b in
-    let l = c.loop-at in
-    let L = c.byte_at-literals.result in
+pub loop-preserved : goal.loop-preserved
+loop-preserved c =
+    let l = c.loop in
+    let n = instruction_limit - l.counter in
     let end = c.offset-at.result + c.size.result in
-    let same : is_some (instructions L p instruction_limit c.offset-at.result end) ≡ is_some (sheet p b) =
-    rw (c.byte_at-literals.ensures.0, c.offset-at.ensures.0, c.size.ensures.0) in
-    let no = ill L p l.left l.at end c.loop-at-test.true (omega arith) c.checked_width-n.result c.checked_width-n.ensures c.if-n-eq0.true in
-    sym no ∙ l.invariant.1 ∙ same
-
-pub overflow_add-at : goal.overflow_add-at
-overflow_add-at c =
-    let p = c.args.p.now in
-    let b = c.args.b in
-    let l = c.loop-at in
-    let L = c.byte_at-literals.result in
-    let end = c.offset-at.result + c.size.result in
-    let g = well L p l.left l.at end c.loop-at-test.true (omega arith) c.checked_width-n.result c.checked_width-n.ensures (omega arith) in
-    omega (arith, g.0, body p c.requires.placed b c.requires.b_bound)
-
-pub loop-at-preserved : goal.loop-at-preserved
-loop-at-preserved c =
-    let p = c.args.p.now in
-    let b = c.args.b in
-    let l = c.loop-at in
-    let L = c.byte_at-literals.result in
-    let end = c.offset-at.result + c.size.result in
-    let g = well L p l.left l.at end c.loop-at-test.true (omega arith) c.checked_width-n.result c.checked_width-n.ensures (omega arith) in
-    (g.0, g.1 ∙ l.invariant.1)
+    let less : instruction_limit - (l.counter + 1) ≡ n - 1 = omega arith in
+    let g = well c.byte_at-literals.result c.args.p.now n l.at end (omega arith) (omega arith) c.in-Some.n (sym c.in-Some.ensures) in
+    (g.0, rw less (g.1 ∙ l.invariant.1))
 
 pub returns : goal.returns
 returns c =
-    let p = c.args.p.now in
-    let b = c.args.b in
-    let l = c.loop-at in
-    let L = c.byte_at-literals.result in
-    let end = c.offset-at.result + c.size.result in
-    let same : is_some (instructions L p instruction_limit c.offset-at.result end) ≡ is_some (sheet p b) =
-    rw (c.byte_at-literals.ensures.0, c.offset-at.ensures.0, c.size.ensures.0) in
-    sym (ended L p l.left l.at end l.invariant.0 c.loop-at-test.false) ∙ l.invariant.1 ∙ same
+    let l = c.loop in
+    let none : instruction_limit - l.counter ≡ 0 = omega arith in
+    sym (spent c.byte_at-literals.result c.args.p.now l.at (c.offset-at.result + c.size.result)) ∙ rw none at l.invariant.1

@@ -4,4 +4,4 @@ use Rattle.sheet_report.proofs.report.Goals as goal
 
 pub sheet_lines-requires : goal.sheet_lines-requires
 sheet_lines-requires c =
-    (passed _ c.args.pack.now c.check.result c.in-Passed.is c.check.ensures).contents.frame
+    (passed _ c.args.pack.now c.in-Ok.ensures).contents.frame

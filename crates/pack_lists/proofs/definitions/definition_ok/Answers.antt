@@ -7,7 +7,6 @@ use Rattle.slices.proofs.Every.{and_no_left, and_no_right}
 use Rattle.pack.specs.Bodies.{count, definition_ok}
 use Rattle.pack.specs.Bytes.{number}
 use Rattle.pack.specs.Contents.{size}
-use Rattle.pack.proofs.Laid.{body}
 use Rattle.pack_lists.proofs.definitions.definition_ok.Goals as goal
 
 pub returns-then-n-format : goal.returns-then-n-format
@@ -15,13 +14,6 @@ unfolding definition_ok
 returns-then-n-format c =
     let a = c.args in
     sym (and_no_right _ _ (ne_eqb (size a.p.now a.d) _ (λ e. omega arith)))
-
-pub number_at-k-requires : goal.number_at-k-requires
-number_at-k-requires c =
-    record {
-      wide_nonzero = (c.requires.narrow.some, c.requires.narrow.most);
-      wide_in_bounds = omega (arith, body c.args.p.now c.requires.placed c.args.d c.requires.d_bound);
-    }
 
 pub returns-then-k-eq0 : goal.returns-then-k-eq0
 unfolding definition_ok

@@ -2,7 +2,6 @@
 use Prim.Native.Nat.{ℕ, ◌+◌, ◌*◌, ◌-◌, ◌/◌}
 use mathlib.Core.Bool.{true, false}
 use mathlib.Core.Path.{◌≡◌, sym, ap, ◌∙◌}
-use native.Mathlib.Nat.{mul-div-le}
 use native.Mathlib.Omega.{arith}
 use borrow.Author.Tests.{eq-eqb, ne_eqb}
 use Rattle.ink_list.specs.Entries.{ascends, bits_below, formed}
@@ -11,7 +10,6 @@ use Rattle.slices.proofs.Every.{and_no_left, and_no_right}
 use Rattle.pack.specs.Bodies.{origins, entry_count, item, literal_ok}
 use Rattle.pack.specs.Bytes.{u64}
 use Rattle.pack.specs.Contents.{definition_count, size}
-use Rattle.pack.proofs.Laid.{body}
 use Rattle.pack_lists.proofs.literals.literal_ok.Goals as goal
 
 pub returns-then-n-lt8 : goal.returns-then-n-lt8
@@ -21,13 +19,6 @@ returns-then-n-lt8 c =
     let p = c.args.p.now in
     let b = c.args.b in
     sym (and_no_left _ _ (ne_eqb (size p b) (8 + (F.wide + 4) * entry_count F p b) (λ e. omega arith)))
-
-pub overflow_mul-format : goal.overflow_mul-format
-overflow_mul-format c = omega (arith, mul-div-le (c.size-n.result - 8) (c.args.format.wide + 4))
-
-pub overflow_add-format-2 : goal.overflow_add-format-2
-overflow_add-format-2 c =
-    omega (arith, mul-div-le (c.size-n.result - 8) (c.args.format.wide + 4))
 
 pub returns-then-n-format : goal.returns-then-n-format
 unfolding literal_ok
@@ -40,10 +31,6 @@ returns-then-n-format c =
     λ e. c.if-n-format.true (c.size-n.ensures.0 ∙ e ∙ ap (λ (k : ℕ). 8 + (F.wide + 4) * k) (sym same)) in
     sym (and_no_left _ _ (ne_eqb _ _ no))
 
-pub u64_at-requires : goal.u64_at-requires
-u64_at-requires c =
-    omega (arith, body c.args.p.now c.requires.placed c.args.b c.requires.b_bound)
-
 pub returns-then-not-bits_below : goal.returns-then-not-bits_below
 unfolding literal_ok formed
 returns-then-not-bits_below c =
@@ -54,15 +41,6 @@ returns-then-not-bits_below c =
     let no : bits_below (definition_count p) (origins F p b) ≡ false =
     rw (← set, ← c.byte_at.ensures.0) (sym c.bits_below.ensures ∙ c.if-not-bits_below.true) in
     sym (and_no_right _ _ (and_no_left _ _ no))
-
-pub items_ok-requires : goal.items_ok-requires
-items_ok-requires c =
-    record {
-      narrow = c.requires.narrow;
-      placed = c.requires.placed;
-      b_bound = c.requires.b_bound;
-      b_value = sym c.size-n.ensures.0 ∙ c.if-n-format.false;
-    }
 
 pub returns : goal.returns
 unfolding literal_ok formed ◌and◌

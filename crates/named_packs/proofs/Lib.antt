@@ -1,2 +1,0 @@
--- What a reader of a stream goes by.
-pub mod Inside

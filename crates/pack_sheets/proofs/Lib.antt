@@ -1,2 +1,0 @@
--- The law that `checked_width`'s check cites.
-mod Alone
