@@ -1,5 +1,5 @@
 -- `list_pairs::merge` meets its contract: each arm is its operator's case of the definition. Assumes nothing.
-use Rattle.std.proofs.Common.{refl, ap, ◌∙◌, List, [], ℕ}
+use Rattle.std.proofs.Common.{refl, ap, ◌∙◌, List, [], ℕ, rules}
 use borrow.Author.Tests.{ne_eqb}
 use Rattle.ink_list.specs.Lists.{list_of}
 use Rattle.ink_list.specs.Ops.{without, intersect}
@@ -25,8 +25,8 @@ returns-in-1 c =
       wrote_is
           (ap (λ o. merge_l limit o (list_of a.a) (list_of a.b)) c.in-1.is
           ∙ ap (λ (l : List ℕ). without limit (list_of a.a) l) (items_entries a.b.items.now a.b.values.now a.b.parallel))
-          (c.without.ensures limit p).0,
-      (c.without.ensures limit p).1,
+          (search rules),
+      search rules,
     )
 
 pub returns-in-24 : goal.returns-in-24
@@ -37,8 +37,8 @@ returns-in-24 c =
       wrote_is
           (ap (λ o. merge_l limit o (list_of a.a) (list_of a.b)) c.in-24.is
           ∙ ap (λ (l : List ℕ). intersect limit (list_of a.a) l) (items_entries a.b.items.now a.b.values.now a.b.parallel))
-          (c.intersect.ensures limit p).0,
-      (c.intersect.ensures limit p).1,
+          (search rules),
+      search rules,
     )
 
 pub returns-in_default : goal.returns-in_default
