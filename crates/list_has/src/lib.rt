@@ -8,7 +8,6 @@ ghost use Rattle.ink_list.specs.Ops.{has, hasnt};
 use ink_list::cursor::{skip_below, stands};
 
 // Has: both are non-empty, and b's items all lie in a.
-#[tactic(auto, using(ink_list::proofs::TestLaws::has_left_empty, ink_list::proofs::TestLaws::has_right_empty, ink_list::proofs::TestLaws::has_some))]
 pub fn has(a: &[u16], b: &[u16]) -> bool
     requires rising_a { Ascends 0 item_numbers a.now }
     requires rising_b { Ascends 0 item_numbers b.now }
