@@ -12,6 +12,7 @@ use ink_list::entries::Entries;
 use ink_list::entries_mut::EntriesMut;
 
 // A test of two lists.
+#[tactic(auto, using(ink_list::proofs::Rests::items_entries, ink_list::proofs::Rests::values_entries), unfolding(crate::specs::Pairs::test_l))]
 pub fn test_entries(op: u8, a: Entries<'_>, b: Entries<'_>) -> bool
     requires rising_a { Ascends 0 item_numbers a.items.now }
     requires rising_b { Ascends 0 item_numbers b.items.now }
@@ -31,6 +32,7 @@ pub fn test_entries(op: u8, a: Entries<'_>, b: Entries<'_>) -> bool
 }
 
 // A result that is a List.
+#[tactic(auto, using(ink_list::proofs::Rests::items_entries), unfolding(crate::specs::Pairs::merge_l))]
 pub fn merge(op: u8, a: Entries<'_>, b: Entries<'_>, out: &mut EntriesMut<'_>) -> usize
     requires rising_a { Ascends 0 (places out.old) a.items.now }
     requires rising_b { Ascends 0 (places out.old) b.items.now }
