@@ -6,7 +6,6 @@ pub mod read;
 
 ghost use Rattle.std.specs.Prelude.{◌≡◌, ◌<◌, length};
 
-use ink_number::int::wrapping_add;
 use test_output::{decimal, entry, natural, text};
 
 pub const ITEM_LIMIT: usize = 256;
@@ -18,30 +17,16 @@ pub const UNWRITTEN_ITEM: u16 = 9999;
 
 pub const UNWRITTEN_VALUE: i32 = 9999;
 
-fn wide(n: u16) -> u64 {
-    n as u64
-}
-
-// The sum of some item numbers; each is below 65,536.
+// The sum of some item numbers, wrapping; each is below 65,536.
 fn item_sum(items: &[u16]) -> u64 {
-    let mut sum: u64 = 0;
-    let mut i = 0;
-    while i < items.len() {
-        sum = std::num::wrapping_add_u64(sum, wide(items[i]));
-        i += 1;
-    }
-    sum
+    items
+        .iter()
+        .fold(0u64, |sum, item| sum.wrapping_add(u64::from(*item)))
 }
 
 // The sum of some values, wrapping.
 fn value_sum(values: &[i32]) -> i32 {
-    let mut sum = 0;
-    let mut i = 0;
-    while i < values.len() {
-        sum = wrapping_add(sum, values[i]);
-        i += 1;
-    }
-    sum
+    values.iter().fold(0i32, |sum, v| sum.wrapping_add(*v))
 }
 
 // The first and the last entry.
@@ -75,13 +60,9 @@ fn summary(items: &[u16], values: &[i32])
 }
 
 // The entries of a short list.
-fn entries(items: &[u16], values: &[i32])
-    requires { length items.now ≡ length values.now }
-{
-    let mut i = 0;
-    while i < items.len() {
-        entry(items[i], values[i]);
-        i += 1;
+fn entries(items: &[u16], values: &[i32]) {
+    for (item, value) in items.iter().zip(values) {
+        entry(*item, *value);
     }
 }
 
@@ -91,7 +72,7 @@ fn list(items: &[u16], values: &[i32]) {
         text(b" not parallel");
         return;
     }
-    if items.len() == 0 {
+    if items.is_empty() {
         text(b" none");
         return;
     }

@@ -24,23 +24,14 @@ pub const OTHER_NUMBER: usize = 18;
 // A case that is a line of text, from byte 2 on after its length.
 pub const TITLE: u8 = 255;
 
-fn widen(x: u8) -> usize
-    ensures { result < 256 }
-{
-    x as usize
-}
-
 pub fn byte(s: &[u8], at: usize) -> u8 {
-    if at < s.len() {
-        return s[at];
-    }
-    0
+    s.get(at).copied().unwrap_or(0)
 }
 
 fn number(s: &[u8], at: usize) -> usize
     ensures { result < 256 }
 {
-    widen(byte(s, at))
+    usize::from(byte(s, at))
 }
 
 // A number of two bytes.
@@ -55,46 +46,40 @@ pub fn place(s: &[u8], at: usize) -> usize
 pub fn value(s: &[u8], at: usize) -> i32
     requires { at ≤ 65530 }
 {
-    ink_number::int::signed_of((place(s, at) + 65536 * place(s, at + 2)) as u32)
+    ((place(s, at) + 65536 * place(s, at + 2)) as u32).cast_signed()
 }
 
 // The pool, as far as the slices go.
 pub fn pool(s: &[u8], items: &mut [u16], values: &mut [i32]) {
-    let mut i = 0;
-    while i < POOL {
-        if items.len() <= i {
-            return;
-        }
-        if values.len() <= i {
-            return;
-        }
+    for i in 0..POOL.min(items.len()).min(values.len()) {
         items[i] = place(s, 6 * i) as u16;
         values[i] = value(s, 6 * i + 2);
-        i += 1;
     }
 }
 
-// A list of a case, which part `at` has: its items and its values in the pool, none where the pool does not go so far.
+// A part of the pool, none where the pool does not go so far: where it starts and how many it has are numbers of a case.
+fn part_of<'a, T>(s: &[u8], start: usize, count: usize, all: &'a [T]) -> &'a [T]
+    requires { (start ≤ 65536) × (count ≤ 65536) }
+{
+    let from = place(s, start);
+    let to = from + place(s, count);
+    if all.len() < to {
+        return &all[..0];
+    }
+    &all[from..to]
+}
+
+// A list of a case, which part `at` has: its items and its values in the pool.
 pub fn items_of<'a>(s: &[u8], at: usize, items: &'a [u16]) -> &'a [u16]
     requires { at ≤ 65530 }
 {
-    let from = place(s, at);
-    let to = from + place(s, at + 2);
-    if items.len() < to {
-        return &items[..0];
-    }
-    &items[from..to]
+    part_of(s, at, at + 2, items)
 }
 
 pub fn values_of<'a>(s: &[u8], at: usize, values: &'a [i32]) -> &'a [i32]
     requires { at ≤ 65530 }
 {
-    let from = place(s, at);
-    let to = from + place(s, at + 4);
-    if values.len() < to {
-        return &values[..0];
-    }
-    &values[from..to]
+    part_of(s, at, at + 4, values)
 }
 
 pub fn title(s: &[u8]) {

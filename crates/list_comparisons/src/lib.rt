@@ -7,50 +7,42 @@ ghost use Rattle.ink_list.specs.Ops.{greater, greater_or_equals, less, less_or_e
 use extreme_values::extreme_value;
 
 // Greater: a's least above b's greatest.
-pub fn greater(av: &[i32], bv: &[i32]) -> bool
-    ensures { result ≡ greater av.now bv.now }
+pub fn greater(a: &[i32], b: &[i32]) -> bool
+    ensures { result ≡ greater a.now b.now }
 {
-    if av.len() == 0 {
+    if a.is_empty() {
         return false;
     }
-    if bv.len() == 0 {
+    if b.is_empty() {
         return true;
     }
-    let high = extreme_value(false, bv);
-    let low = extreme_value(true, av);
-    high < low
+    extreme_value(false, b) < extreme_value(true, a)
 }
 
 // GreaterThanOrEquals: least against least and greatest against greatest.
-pub fn greater_or_equals(av: &[i32], bv: &[i32]) -> bool
-    ensures { result ≡ greater_or_equals av.now bv.now }
+pub fn greater_or_equals(a: &[i32], b: &[i32]) -> bool
+    ensures { result ≡ greater_or_equals a.now b.now }
 {
-    if av.len() == 0 {
+    if a.is_empty() {
         return false;
     }
-    if bv.len() == 0 {
+    if b.is_empty() {
         return true;
     }
-    let bl = extreme_value(true, bv);
-    let al = extreme_value(true, av);
-    if bl <= al {
-        let bh = extreme_value(false, bv);
-        let ah = extreme_value(false, av);
-        return bh <= ah;
-    }
-    false
+    let least = extreme_value(true, b) <= extreme_value(true, a);
+    least && extreme_value(false, b) <= extreme_value(false, a)
 }
 
 // Less: a's greatest below b's least.
-pub fn less(av: &[i32], bv: &[i32]) -> bool
-    ensures { result ≡ less av.now bv.now }
+pub fn less(a: &[i32], b: &[i32]) -> bool
+    ensures { result ≡ less a.now b.now }
 {
-    greater(bv, av)
+    greater(b, a)
 }
 
 // LessThanOrEquals: the mirror of GreaterThanOrEquals.
-pub fn less_or_equals(av: &[i32], bv: &[i32]) -> bool
-    ensures { result ≡ less_or_equals av.now bv.now }
+pub fn less_or_equals(a: &[i32], b: &[i32]) -> bool
+    ensures { result ≡ less_or_equals a.now b.now }
 {
-    greater_or_equals(bv, av)
+    greater_or_equals(b, a)
 }

@@ -2,44 +2,38 @@
 #![tactic(auto)]
 
 ghost use Rattle.std.specs.Prelude.{ℕ};
-ghost use Rattle.ink_list.specs.Entries.{Rising, Lent, room};
+ghost use Rattle.ink_list.specs.Entries.{Ascends, Rising};
+ghost use Rattle.ink_list.specs.Lists.{list_of, places, Fills};
 ghost use Rattle.ink_list.specs.Ops.{union};
-ghost use Rattle.ink_list.specs.Slices.{list, Answers};
 
-use ink_list::entries::{copy_rest, push};
+use ink_list::entries::Entries;
+use ink_list::entries_mut::EntriesMut;
 
-// Add: b's value on b's items, else a's.
-pub fn union(
-    ai: &[u16],
-    av: &[i32],
-    bi: &[u16],
-    bv: &[i32],
-    oi: &mut [u16],
-    ov: &mut [i32],
-) -> usize
-    requires lent { Lent (room oi.old ov.old) ai.now av.now }
-    requires lent_2 { Lent (room oi.old ov.old) bi.now bv.now }
-    ensures { (limit : ℕ) → Rising limit (list ai av) → Rising limit (list bi bv)
-        → Answers (union limit (list ai av) (list bi bv)) result oi ov }
+// Add: b's value on b's items, else a's. The places are counted by hand, since what is left of the two lists as slices is slower.
+pub fn union(a: Entries<'_>, b: Entries<'_>, out: &mut EntriesMut<'_>) -> usize
+    requires rising_a { Ascends 0 (places out.old) a.items.now }
+    requires rising_b { Ascends 0 (places out.old) b.items.now }
+    ensures { (limit : ℕ) → Rising limit (list_of a.entry) → Rising limit (list_of b.entry)
+        → Fills (union limit (list_of a.entry) (list_of b.entry)) result out.old out.new }
 {
     let mut i = 0;
     let mut j = 0;
     let mut n = 0;
-    while i < ai.len() && j < bi.len() {
-        let x = ai[i];
-        let y = bi[j];
+    while i < a.items.len() && j < b.items.len() {
+        let x = a.items[i];
+        let y = b.items[j];
         if x < y {
-            n = push(oi, ov, n, x, av[i]);
+            n = out.push(n, x, a.values[i]);
             i += 1;
         } else if x == y {
-            n = push(oi, ov, n, x, bv[j]);
+            n = out.push(n, x, b.values[j]);
             i += 1;
             j += 1;
         } else {
-            n = push(oi, ov, n, y, bv[j]);
+            n = out.push(n, y, b.values[j]);
             j += 1;
         }
     }
-    n = copy_rest(ai, av, i, oi, ov, n);
-    copy_rest(bi, bv, j, oi, ov, n)
+    n = out.append(n, a.from(i));
+    out.append(n, b.from(j))
 }

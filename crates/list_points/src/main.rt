@@ -2,10 +2,14 @@
 // each case the operands, then each operator with its answer.
 #![tactic(auto)]
 
-ghost use Rattle.ink_list.specs.Entries.{Ascends, Lent, item_numbers};
+ghost use Rattle.std.specs.Prelude.{◌≡◌, ◌≤◌, ℕ, length, IfSome};
+ghost use Rattle.ink_list.specs.Entries.{Ascends, item_numbers};
+ghost use Rattle.ink_list.specs.Lists.{places};
 
 use extreme_values::{lower_bound, upper_bound, value_of_list};
-use ink_list::entries::{copy, is_formed};
+use ink_list::entries::Entries;
+use ink_list::entries_mut::EntriesMut;
+use ink_list::well_formed::is_formed;
 use list_cases::read::{
     CASE, CASES, FIRST, NUMBER, OTHER_NUMBER, POOL, SECOND, TITLE, WHAT, byte, items_of, pool,
     title, value, values_of,
@@ -20,129 +24,90 @@ use list_range::range;
 use list_sift::{intersect, without};
 use test_output::line;
 
-fn show_union(ai: &[u16], av: &[i32], bi: &[u16], bv: &[i32])
-    requires lent { Lent 256 ai.now av.now }
-    requires lent_2 { Lent 256 bi.now bv.now }
+// A list, if it is well formed.
+fn formed<'a>(items: &'a [u16], values: &'a [i32]) -> Option<Entries<'a>>
+    ensures rising { IfSome result (λ a. (limit : ℕ) → 256 ≤ limit → Ascends 0 limit a.items.now) }
+    ensures few { IfSome result (λ a. length a.items.now ≤ 256) }
 {
-    let mut oi = [UNWRITTEN_ITEM; 257];
-    let mut ov = [UNWRITTEN_VALUE; 257];
-    let n = union(ai, av, bi, bv, &mut oi, &mut ov);
-    result(b"union", n, &oi, &ov);
+    if is_formed(items, values, 0, ITEM_LIMIT, 0) {
+        Some(Entries { items, values })
+    } else {
+        None
+    }
 }
 
-fn show_without(ai: &[u16], av: &[i32], bi: &[u16], bv: &[i32])
-    requires lent { Lent 256 ai.now av.now }
-    requires lent_2 { Lent 256 bi.now bv.now }
+// An operator's answer, which it writes into 257 places.
+fn show<F: FnOnce(&mut EntriesMut<'_>) -> usize>(name: &[u8], operator: F)
+    requires { (out : _) → places out.now ≡ 257 → F.pre operator out }
 {
-    let mut oi = [UNWRITTEN_ITEM; 257];
-    let mut ov = [UNWRITTEN_VALUE; 257];
-    let n = without(ai, av, bi, &mut oi, &mut ov);
-    result(b"without", n, &oi, &ov);
-}
-
-fn show_intersect(ai: &[u16], av: &[i32], bi: &[u16], bv: &[i32])
-    requires lent { Lent 256 ai.now av.now }
-    requires lent_2 { Lent 256 bi.now bv.now }
-{
-    let mut oi = [UNWRITTEN_ITEM; 257];
-    let mut ov = [UNWRITTEN_VALUE; 257];
-    let n = intersect(ai, av, bi, &mut oi, &mut ov);
-    result(b"intersect", n, &oi, &ov);
+    let mut items = [UNWRITTEN_ITEM; 257];
+    let mut values = [UNWRITTEN_VALUE; 257];
+    let mut out = EntriesMut {
+        items: &mut items,
+        values: &mut values,
+    };
+    let n = operator(&mut out);
+    result(name, n, &items, &values);
 }
 
 // The tests that go by items alone.
-fn item_tests(ai: &[u16], bi: &[u16])
-    requires { Ascends 0 item_numbers ai.now × Ascends 0 item_numbers bi.now }
+fn item_tests(a: &[u16], b: &[u16])
+    requires rising_a { Ascends 0 item_numbers a.now }
+    requires rising_b { Ascends 0 item_numbers b.now }
 {
-    test(b"has", has(ai, bi));
-    test(b"hasnt", hasnt(ai, bi));
-    test(b"equal", equal(ai, bi));
-    test(b"not equals", not_equals(ai, bi));
+    test(b"has", has(a, b));
+    test(b"hasnt", hasnt(a, b));
+    test(b"equal", equal(a, b));
+    test(b"not equals", not_equals(a, b));
 }
 
 // The operators of two lists.
 fn pair(ai: &[u16], av: &[i32], bi: &[u16], bv: &[i32]) {
     operand(b"a", ai, av);
     operand(b"b", bi, bv);
-    if !is_formed(ai, av, 0, ITEM_LIMIT, 0) {
+    let Some(a) = formed(ai, av) else {
         line(b"  a is not well formed");
         return;
-    }
-    if !is_formed(bi, bv, 0, ITEM_LIMIT, 0) {
+    };
+    let Some(b) = formed(bi, bv) else {
         line(b"  b is not well formed");
         return;
-    }
-    show_union(ai, av, bi, bv);
-    show_without(ai, av, bi, bv);
-    show_intersect(ai, av, bi, bv);
-    item_tests(ai, bi);
+    };
+    show(b"union", |out| union(a, b, out));
+    show(b"without", |out| without(a, b.items, out));
+    show(b"intersect", |out| intersect(a, b.items, out));
+    item_tests(a.items, b.items);
     test(b"greater", greater(av, bv));
     test(b"greater or equals", greater_or_equals(av, bv));
     test(b"less", less(av, bv));
     test(b"less or equals", less_or_equals(av, bv));
 }
 
-fn show_list_min(ai: &[u16], av: &[i32])
-    requires { Lent 256 ai.now av.now }
-{
-    let mut oi = [UNWRITTEN_ITEM; 257];
-    let mut ov = [UNWRITTEN_VALUE; 257];
-    let n = list_min(ai, av, &mut oi, &mut ov);
-    result(b"list min", n, &oi, &ov);
-}
-
-fn show_list_max(ai: &[u16], av: &[i32])
-    requires { Lent 256 ai.now av.now }
-{
-    let mut oi = [UNWRITTEN_ITEM; 257];
-    let mut ov = [UNWRITTEN_VALUE; 257];
-    let n = list_max(ai, av, &mut oi, &mut ov);
-    result(b"list max", n, &oi, &ov);
-}
-
-fn show_copy(ai: &[u16], av: &[i32])
-    requires { Lent 256 ai.now av.now }
-{
-    let mut oi = [UNWRITTEN_ITEM; 257];
-    let mut ov = [UNWRITTEN_VALUE; 257];
-    let n = copy(ai, av, &mut oi, &mut ov);
-    result(b"copy", n, &oi, &ov);
-}
-
 // The operators of one list.
 fn single(ai: &[u16], av: &[i32]) {
     operand(b"a", ai, av);
-    if !is_formed(ai, av, 0, ITEM_LIMIT, 0) {
+    let Some(a) = formed(ai, av) else {
         line(b"  a is not well formed");
         return;
-    }
-    show_list_min(ai, av);
-    show_list_max(ai, av);
-    show_copy(ai, av);
+    };
+    show(b"list min", |out| list_min(a, out));
+    show(b"list max", |out| list_max(a, out));
+    show(b"copy", |out| out.copy(a));
     number(b"value of list", value_of_list(av));
     number(b"as lower bound", lower_bound(av));
     number(b"as upper bound", upper_bound(av));
 }
 
-fn show_range(ai: &[u16], av: &[i32], lower: i32, upper: i32)
-    requires { Lent 256 ai.now av.now }
-{
-    let mut oi = [UNWRITTEN_ITEM; 257];
-    let mut ov = [UNWRITTEN_VALUE; 257];
-    let n = range(ai, av, lower, upper, &mut oi, &mut ov);
-    result(b"range", n, &oi, &ov);
-}
-
 // Range within two bounds.
 fn ranged(ai: &[u16], av: &[i32], lower: i32, upper: i32) {
     operand(b"a", ai, av);
-    if !is_formed(ai, av, 0, ITEM_LIMIT, 0) {
+    let Some(a) = formed(ai, av) else {
         line(b"  a is not well formed");
         return;
-    }
+    };
     number(b"lower", lower);
     number(b"upper", upper);
-    show_range(ai, av, lower, upper);
+    show(b"range", |out| range(a, lower, upper, out));
 }
 
 // What a case is: two lists, one, or else a list with a range's bounds.
@@ -167,11 +132,8 @@ fn work(s: &[u8], items: &[u16], values: &[i32]) {
 }
 
 fn work_all(s: &[u8], items: &[u16], values: &[i32]) {
-    let mut at = 0;
-    while CASE <= s.len() - at {
-        let end = at + CASE;
-        work(&s[at..end], items, values);
-        at = end;
+    for case in s.chunks_exact(CASE) {
+        work(case, items, values);
     }
 }
 
