@@ -53,6 +53,10 @@ ints_more vs k h b e =
     (raised_append (pos 0) (take k vs) (get_or vs k (pos 0) ∷ [])
     ∙ rw (e, unraised (get_or vs k (pos 0)) b))
 
+-- one Int before
+pub ints_from : (v : ℤ) (vs : List ℤ) → mag v < 2 ^ 31 → raised (pos 0) vs ≡ vs → raised (pos 0) (v ∷ vs) ≡ v ∷ vs
+ints_from v vs b e = rw (unraised v b, e)
+
 -- v + -n is v - n, modulo 2^32
 taken : (v n : ℤ) → wrap (v -ℤ n) ≡ wrap (v +ℤ wrap (neg_ℤ n))
 unfolding wrap

@@ -53,8 +53,9 @@ pub fn invert(a: &[u16], set: u64, definitions: Definitions<'_>, out: &mut Entri
     let mut n = 0;
     for end in definitions.ends {
         let first = low;
+        let chosen = s % 2 == 1;
         low = usize::from(*end);
-        if s % 2 == 1 {
+        if chosen {
             (n, left) = push_missing(left, first, low, definitions.defined, out, n);
         }
         s /= 2;

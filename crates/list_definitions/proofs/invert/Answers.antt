@@ -5,7 +5,7 @@ use Rattle.ink_list.specs.Entries.{Entry}
 use Rattle.ink_list.proofs.Output.{begin, fits, turn, appended, done}
 use Rattle.list_definitions.proofs.DefLaws.{onward_end, ends_done, ends_turn, def_in, def_out, invert_length, invert_start}
 use Rattle.list_definitions.proofs.invert.Goals as goal
-use Rattle.list_definitions.proofs.invert.Goals.{then-s-eq1, else-s-eq1}
+use Rattle.list_definitions.proofs.invert.Goals.{then-chosen, else-chosen}
 
 pub loop-end-init : goal.loop-end-init
 loop-end-init c =
@@ -34,7 +34,7 @@ push_missing-requires-clause-room c =
     let d = a.definitions in
     let l = c.loop-end in
     let i = l.invariant in
-    let h = def_in d.defined.now d.ends.now l.end-index c.loop-end-test.true l.s a.a.now l.low _ i.numbered _ c.from-low.ensures l.left.now c.if-s-eq1.true i.agrees in
+    let h = def_in d.defined.now d.ends.now l.end-index c.loop-end-test.true l.s a.a.now l.low _ i.numbered _ c.from-low.ensures l.left.now c.if-chosen.true i.agrees in
     omega (arith, fits (turn i.writing h), length-append {A = Entry})
 
 pub loop-end-preserved : goal.loop-end-preserved
@@ -44,23 +44,23 @@ loop-end-preserved c =
     let l = c.loop-end in
     let i = l.invariant in
     let t = ends_turn d.ends.now l.end-index c.loop-end-test.true l.low _ i.numbered _ c.from-low.ensures in
-    elim c.if-s-eq1.branch [
-      | then-s-eq1 w ↦ record {
+    elim c.if-chosen.branch [
+      | then-chosen w ↦ record {
         ascends = rw w.left-is w.push_missing.ensures.left.0;
         agrees = λ j h. rw w.left-is (w.push_missing.ensures.left.1 j h ∙ i.agrees j (omega arith));
         numbered = t.2;
         same = rw w.out-is (w.push_missing.ensures.entries.1.0 ∙ i.same.0, w.push_missing.ensures.entries.1.1 ∙ i.same.1);
         writing =
-            let h = def_in d.defined.now d.ends.now l.end-index c.loop-end-test.true l.s a.a.now l.low _ i.numbered _ c.from-low.ensures l.left.now w.if-s-eq1.true i.agrees in
+            let h = def_in d.defined.now d.ends.now l.end-index c.loop-end-test.true l.s a.a.now l.low _ i.numbered _ c.from-low.ensures l.left.now w.if-chosen.true i.agrees in
             rw (w.out-is, w.n-is) (appended i.writing h w.push_missing.ensures.entries.0);
       }
-      | else-s-eq1 w ↦ record {
+      | else-chosen w ↦ record {
         ascends = rw w.left-is i.ascends;
         agrees = λ j h. rw w.left-is (i.agrees j (omega arith));
         numbered = t.2;
         same = rw w.out-is i.same;
         writing =
-            let h = def_out d.defined.now d.ends.now l.end-index c.loop-end-test.true l.s a.a.now l.low _ i.numbered _ c.from-low.ensures w.if-s-eq1.false in
+            let h = def_out d.defined.now d.ends.now l.end-index c.loop-end-test.true l.s a.a.now l.low _ i.numbered _ c.from-low.ensures w.if-chosen.false in
             rw (w.out-is, w.n-is) (turn i.writing h);
       }
     ]
