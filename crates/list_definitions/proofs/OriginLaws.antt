@@ -66,7 +66,7 @@ origins_step e low limit es is r =
     (set_of_ext (length es) (λ d. reached (e ∷ es) is (suc d)) (reached es (drop_below e is)) (λ d. later_def e low limit es is d r))
 
 -- a cursor that moved passed an item
-shorter : (e : ℕ) (is : List ℕ) → length (drop_below e is) ≤ length is
+pub shorter : (e : ℕ) (is : List ℕ) → length (drop_below e is) ≤ length is
 shorter e [] = zero-le
 shorter e (k ∷ ks) =
     ⊎_elim

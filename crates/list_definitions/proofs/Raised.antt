@@ -37,6 +37,11 @@ raised_part by (suc n) zero (v ∷ vs) = ap {B = List ℤ} (λ l. wrap (v +ℤ b
 raised_part by (suc n) (suc i) [] = refl
 raised_part by n (suc i) (v ∷ vs) = raised_part by n i vs
 
+pub raised_drop : (by : ℤ) (m : ℕ) (vs : List ℤ) → raised by (drop m vs) ≡ drop m (raised by vs)
+raised_drop by zero vs = refl
+raised_drop by (suc m) [] = refl
+raised_drop by (suc m) (v ∷ vs) = raised_drop by m vs
+
 -- what `wrapping_add` gives of a value that was read
 pub sum_of : (v by : ℤ) {r : ℤ} → mag v < 2 ^ 31 → r ≡ wrap (back w32 v +ℤ by) → wrap (v +ℤ by) ≡ r
 sum_of v by h e = sym (e ∙ ap (λ (z : ℤ). wrap (z +ℤ by)) (returned {z = v} h))
