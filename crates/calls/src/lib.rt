@@ -181,7 +181,11 @@ fn cast_checked(
     if ov.len() < format.limit {
         return Outcome::Refused(7);
     }
-    value_conversions::cast(to, v, items, values, oi, ov)
+    let mut out = EntriesMut {
+        items: oi,
+        values: ov,
+    };
+    value_conversions::cast(to, v, items, values, &mut out)
 }
 
 // `Value::cast` to the kind code `to`: codes 0 to 3.
