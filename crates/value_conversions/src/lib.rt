@@ -9,12 +9,9 @@ ghost use Rattle.ink_value.specs.Value.{val_of, code_of_value, Formed, placed};
 ghost use Rattle.ink_value.specs.Slices.{val_in, GivesTo};
 ghost use Rattle.value_conversions.specs.Convert.{castable, converted, cast, coerce_bool, coerce_int, coerce_float};
 
-use ink_list::entries::Entries;
 use ink_list::entries_mut::EntriesMut;
 use ink_value::kind_code::{BOOL, FLOAT, INT, LIST, VOID};
-use ink_value::{
-    Outcome, Value, bit, is_truthy, kind, len_of, origins_in, start_of, to_float, to_int,
-};
+use ink_value::{Outcome, Value, bit, entries_of, is_truthy, kind, origins_in, to_float, to_int};
 
 // Question 18 of `cast`.
 #[tactic(auto, unfolding(crate::specs::Convert::castable))]
@@ -35,17 +32,9 @@ fn copied(v: Value, items: &[u16], values: &[i32], out: &mut EntriesMut<'_>) -> 
     requires { Formed (places out.old) items.now values.now v × (code_of_value v ≡ code_of listK) }
     ensures { GivesTo (gives (val_in items values v)) result out.old out.new }
 {
-    let i = start_of(v);
-    let m = len_of(v);
-    let origins = origins_in(v);
-    let e = i + m;
-    let list = Entries {
-        items: &items[i..e],
-        values: &values[i..e],
-    };
-    let len = out.copy(list);
+    let len = out.copy(entries_of(v, items, values));
     Outcome::Value(Value::List {
-        origins,
+        origins: origins_in(v),
         start: 0,
         len,
     })
