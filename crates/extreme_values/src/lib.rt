@@ -17,19 +17,9 @@ pub fn beats(least: bool, x: i32, y: i32) -> bool
 pub fn extreme_value(least: bool, vs: &[i32]) -> i32
     ensures { result ≡ extreme_value least vs.now }
 {
-    if vs.len() == 0 {
-        return 0;
-    }
-    let mut best = vs[0];
-    let mut i = 1;
-    while i < vs.len() {
-        let v = vs[i];
-        i += 1;
-        if beats(least, v, best) {
-            best = v;
-        }
-    }
-    best
+    let values = vs.iter().copied();
+    let extreme = if least { values.min() } else { values.max() };
+    extreme.unwrap_or(0)
 }
 
 // ValueOfList: the greatest value, or 0.
@@ -50,8 +40,5 @@ pub fn lower_bound(vs: &[i32]) -> i32
 pub fn upper_bound(vs: &[i32]) -> i32
     ensures { result ≡ upper_bound vs.now }
 {
-    if vs.len() == 0 {
-        return GREATEST_INT;
-    }
-    value_of_list(vs)
+    vs.iter().copied().max().unwrap_or(GREATEST_INT)
 }

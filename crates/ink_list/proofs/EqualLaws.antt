@@ -138,6 +138,11 @@ module _ (limit : ℕ) (a b : List ℕ) (ra : Ascends 0 limit a) (rb : Ascends 0
       go true h = absurd (ne (equal_is h))
       go false h = refl
 
+  -- what tells whether they are equal, item by item, answers
+  pub equal_decided : (t : Bool) → (t ≡ true → a ≡ b) × (a ≡ b → t ≡ true) → t ≡ equal a b
+  equal_decided true d = sym (equal_yes (d.0 refl))
+  equal_decided false d = sym (equal_no (λ e. absurd (not_both (d.1 e))))
+
   -- "as the equality in ink_list.rs answers": as many items, and each of the left among the right's
   pub equal_as_file : equal a b ≡ eq_in_file a b
   unfolding eq_in_file ◌and◌

@@ -1,14 +1,14 @@
 // ListMin and ListMax: the first entry with the least or the greatest value.
 #![tactic(auto)]
 
-ghost use Rattle.std.specs.Prelude.{◌≡◌, ◌<◌, ◌≤◌, length};
-ghost use Rattle.ink_list.specs.Entries.{room};
+ghost use Rattle.std.specs.Prelude.{◌<◌, ◌≤◌, length};
+ghost use Rattle.ink_list.specs.Lists.{list_of, places, Fills};
 ghost use Rattle.ink_list.specs.Ops.{list_extreme, list_min, list_max};
 ghost use Rattle.ink_list.specs.Steps.{ExtremeAt};
-ghost use Rattle.ink_list.specs.Slices.{list, Answers};
 
 use extreme_values::beats;
-use ink_list::entries::push;
+use ink_list::entries::Entries;
+use ink_list::entries_mut::EntriesMut;
 
 // The place of the first of the least (or else the greatest) values.
 fn extreme_at(least: bool, vs: &[i32]) -> usize
@@ -16,44 +16,38 @@ fn extreme_at(least: bool, vs: &[i32]) -> usize
     ensures { ExtremeAt least vs.now result }
 {
     let mut best = 0;
-    let mut i = 1;
-    while i < vs.len() {
-        let k = i;
-        i += 1;
-        if beats(least, vs[k], vs[best]) {
-            best = k;
+    for (i, v) in vs.iter().enumerate() {
+        if beats(least, *v, vs[best]) {
+            best = i;
         }
     }
     best
 }
 
 // The first entry with the least (or else the greatest) value, as a list of one; of an empty list, none.
-fn list_extreme(least: bool, ai: &[u16], av: &[i32], oi: &mut [u16], ov: &mut [i32]) -> usize
-    requires ai_len { length ai.now ≡ length av.now }
-    requires bound { 1 ≤ room oi.old ov.old }
-    ensures { Answers (list_extreme least (list ai av)) result oi ov }
+fn list_extreme(least: bool, a: Entries<'_>, out: &mut EntriesMut<'_>) -> usize
+    requires { 1 ≤ places out.old }
+    ensures { Fills (list_extreme least (list_of a.entry)) result out.old out.new }
 {
-    if ai.len() == 0 {
+    if a.items.is_empty() {
         return 0;
     }
-    let best = extreme_at(least, av);
-    push(oi, ov, 0, ai[best], av[best])
+    let best = extreme_at(least, a.values);
+    out.push(0, a.items[best], a.values[best])
 }
 
 // ListMin: a list of one, or empty.
-pub fn list_min(ai: &[u16], av: &[i32], oi: &mut [u16], ov: &mut [i32]) -> usize
-    requires ai_len { length ai.now ≡ length av.now }
-    requires bound { 1 ≤ room oi.old ov.old }
-    ensures { Answers (list_min (list ai av)) result oi ov }
+pub fn list_min(a: Entries<'_>, out: &mut EntriesMut<'_>) -> usize
+    requires { 1 ≤ places out.old }
+    ensures { Fills (list_min (list_of a.entry)) result out.old out.new }
 {
-    list_extreme(true, ai, av, oi, ov)
+    list_extreme(true, a, out)
 }
 
 // ListMax: a list of one, or empty.
-pub fn list_max(ai: &[u16], av: &[i32], oi: &mut [u16], ov: &mut [i32]) -> usize
-    requires ai_len { length ai.now ≡ length av.now }
-    requires bound { 1 ≤ room oi.old ov.old }
-    ensures { Answers (list_max (list ai av)) result oi ov }
+pub fn list_max(a: Entries<'_>, out: &mut EntriesMut<'_>) -> usize
+    requires { 1 ≤ places out.old }
+    ensures { Fills (list_max (list_of a.entry)) result out.old out.new }
 {
-    list_extreme(false, ai, av, oi, ov)
+    list_extreme(false, a, out)
 }

@@ -9,33 +9,29 @@ use ink_list::cursor::{skip_below, stands};
 
 // Has: both are non-empty, and b's items all lie in a.
 #[tactic(auto, using(ink_list::proofs::TestLaws::has_left_empty, ink_list::proofs::TestLaws::has_right_empty, ink_list::proofs::TestLaws::has_some))]
-pub fn has(ai: &[u16], bi: &[u16]) -> bool
-    requires { Ascends 0 item_numbers ai.now × Ascends 0 item_numbers bi.now }
-    ensures { result ≡ has ai.now bi.now }
+pub fn has(a: &[u16], b: &[u16]) -> bool
+    requires rising_a { Ascends 0 item_numbers a.now }
+    requires rising_b { Ascends 0 item_numbers b.now }
+    ensures { result ≡ has a.now b.now }
 {
-    if ai.len() == 0 {
+    if a.is_empty() || b.is_empty() {
         return false;
     }
-    if bi.len() == 0 {
-        return false;
-    }
-    let mut i = 0;
-    let mut j = 0;
-    while j < bi.len() {
-        let x = bi[j];
-        i = skip_below(ai, i, x);
-        if !stands(ai, i, x) {
+    let mut left = a;
+    for x in b {
+        left = skip_below(left, *x);
+        if !stands(left, *x) {
             return false;
         }
-        j += 1;
     }
     true
 }
 
 // Hasnt: the opposite.
-pub fn hasnt(ai: &[u16], bi: &[u16]) -> bool
-    requires { Ascends 0 item_numbers ai.now × Ascends 0 item_numbers bi.now }
-    ensures { result ≡ hasnt ai.now bi.now }
+pub fn hasnt(a: &[u16], b: &[u16]) -> bool
+    requires rising_a { Ascends 0 item_numbers a.now }
+    requires rising_b { Ascends 0 item_numbers b.now }
+    ensures { result ≡ hasnt a.now b.now }
 {
-    !has(ai, bi)
+    !has(a, b)
 }

@@ -2,49 +2,45 @@
 #![tactic(auto)]
 
 ghost use Rattle.std.specs.Prelude.{◌≡◌, ℕ};
-ghost use Rattle.ink_list.specs.Entries.{item_numbers, room, Rising, Lent};
-ghost use Rattle.ink_list.specs.Slices.{list, Answers};
+ghost use Rattle.ink_list.specs.Entries.{item_numbers, Ascends, Rising};
+ghost use Rattle.ink_list.specs.Lists.{list_of, places, Fills};
 ghost use Rattle.ink_value.specs.Value.{Spans};
 ghost use Rattle.ink_value.specs.Slices.{entries_in};
 ghost use Rattle.list_pairs.specs.Pairs.{test_l, merge_l};
 
+use ink_list::entries::Entries;
+use ink_list::entries_mut::EntriesMut;
+
 // A test of two lists.
-pub fn test_entries(op: u8, ai: &[u16], av: &[i32], bi: &[u16], bv: &[i32]) -> bool
-    requires { Lent item_numbers ai.now av.now × Lent item_numbers bi.now bv.now }
-    ensures { result ≡ test_l op (list ai av) (list bi bv) }
+pub fn test_entries(op: u8, a: Entries<'_>, b: Entries<'_>) -> bool
+    requires rising_a { Ascends 0 item_numbers a.items.now }
+    requires rising_b { Ascends 0 item_numbers b.items.now }
+    ensures { result ≡ test_l op (list_of a.entry) (list_of b.entry) }
 {
     match op {
-        op::EQUAL => list_equality::equal(ai, bi),
-        op::GREATER => list_comparisons::greater(av, bv),
-        op::LESS => list_comparisons::less(av, bv),
-        op::GREATER_THAN_OR_EQUALS => list_comparisons::greater_or_equals(av, bv),
-        op::LESS_THAN_OR_EQUALS => list_comparisons::less_or_equals(av, bv),
-        op::NOT_EQUALS => list_equality::not_equals(ai, bi),
-        op::HAS => list_has::has(ai, bi),
-        op::HASNT => list_has::hasnt(ai, bi),
+        op::EQUAL => list_equality::equal(a.items, b.items),
+        op::GREATER => list_comparisons::greater(a.values, b.values),
+        op::LESS => list_comparisons::less(a.values, b.values),
+        op::GREATER_THAN_OR_EQUALS => list_comparisons::greater_or_equals(a.values, b.values),
+        op::LESS_THAN_OR_EQUALS => list_comparisons::less_or_equals(a.values, b.values),
+        op::NOT_EQUALS => list_equality::not_equals(a.items, b.items),
+        op::HAS => list_has::has(a.items, b.items),
+        op::HASNT => list_has::hasnt(a.items, b.items),
         _ => false,
     }
 }
 
 // A result that is a List.
-pub fn merge(
-    op: u8,
-    ai: &[u16],
-    av: &[i32],
-    bi: &[u16],
-    bv: &[i32],
-    oi: &mut [u16],
-    ov: &mut [i32],
-) -> usize
-    requires lent { Lent (room oi.old ov.old) ai.now av.now }
-    requires lent_2 { Lent (room oi.old ov.old) bi.now bv.now }
-    ensures { (limit : ℕ) → Rising limit (list ai av) → Rising limit (list bi bv)
-        → Answers (merge_l limit op (list ai av) (list bi bv)) result oi ov }
+pub fn merge(op: u8, a: Entries<'_>, b: Entries<'_>, out: &mut EntriesMut<'_>) -> usize
+    requires rising_a { Ascends 0 (places out.old) a.items.now }
+    requires rising_b { Ascends 0 (places out.old) b.items.now }
+    ensures { (limit : ℕ) → Rising limit (list_of a.entry) → Rising limit (list_of b.entry)
+        → Fills (merge_l limit op (list_of a.entry) (list_of b.entry)) result out.old out.new }
 {
     match op {
-        op::ADD => list_merge::union(ai, av, bi, bv, oi, ov),
-        op::SUBTRACT => list_sift::without(ai, av, bi, oi, ov),
-        op::INTERSECT => list_sift::intersect(ai, av, bi, oi, ov),
+        op::ADD => list_merge::union(a, b, out),
+        op::SUBTRACT => list_sift::without(a, b.items, out),
+        op::INTERSECT => list_sift::intersect(a, b.items, out),
         _ => 0,
     }
 }
@@ -60,12 +56,21 @@ pub fn test_held(
     items: &[u16],
     values: &[i32],
 ) -> bool
-    requires { Spans item_numbers items.now values.now i m × Spans item_numbers items.now values.now j n }
+    requires spans_a { Spans item_numbers items.now values.now i m }
+    requires spans_b { Spans item_numbers items.now values.now j n }
     ensures { result ≡ test_l op (entries_in items values i m) (entries_in items values j n) }
 {
     let e = i + m;
     let f = j + n;
-    test_entries(op, &items[i..e], &values[i..e], &items[j..f], &values[j..f])
+    let a = Entries {
+        items: &items[i..e],
+        values: &values[i..e],
+    };
+    let b = Entries {
+        items: &items[j..f],
+        values: &values[j..f],
+    };
+    test_entries(op, a, b)
 }
 
 pub fn merge_held(
@@ -76,24 +81,23 @@ pub fn merge_held(
     n: usize,
     items: &[u16],
     values: &[i32],
-    oi: &mut [u16],
-    ov: &mut [i32],
+    out: &mut EntriesMut<'_>,
 ) -> usize
-    requires spans { Spans (room oi.old ov.old) items.now values.now i m }
-    requires spans_2 { Spans (room oi.old ov.old) items.now values.now j n }
+    requires spans_a { Spans (places out.old) items.now values.now i m }
+    requires spans_b { Spans (places out.old) items.now values.now j n }
     ensures { (limit : ℕ) → Spans limit items.now values.now i m
         → Spans limit items.now values.now j n
-        → Answers (merge_l limit op (entries_in items values i m) (entries_in items values j n)) result oi ov }
+        → Fills (merge_l limit op (entries_in items values i m) (entries_in items values j n)) result out.old out.new }
 {
     let e = i + m;
     let f = j + n;
-    merge(
-        op,
-        &items[i..e],
-        &values[i..e],
-        &items[j..f],
-        &values[j..f],
-        oi,
-        ov,
-    )
+    let a = Entries {
+        items: &items[i..e],
+        values: &values[i..e],
+    };
+    let b = Entries {
+        items: &items[j..f],
+        values: &values[j..f],
+    };
+    merge(op, a, b, out)
 }

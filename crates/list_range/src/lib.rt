@@ -2,43 +2,31 @@
 #![tactic(auto)]
 
 ghost use Rattle.std.specs.Prelude.{◌≡◌, ℕ};
-ghost use Rattle.ink_list.specs.Entries.{Rising, Lent, room};
+ghost use Rattle.ink_list.specs.Entries.{Ascends, Rising};
+ghost use Rattle.ink_list.specs.Lists.{list_of, places, Fills};
 ghost use Rattle.ink_list.specs.Ops.{within, range};
-ghost use Rattle.ink_list.specs.Slices.{list, Answers};
 
-use ink_list::entries::push;
+use ink_list::entries::Entries;
+use ink_list::entries_mut::EntriesMut;
 
 // Does v lie within the bounds.
 fn within(lower: i32, upper: i32, v: i32) -> bool
     ensures { result ≡ within lower upper v }
 {
-    if lower <= v {
-        return v <= upper;
-    }
-    false
+    lower <= v && v <= upper
 }
 
 // Range: a's entries whose values lie within the bounds.
-pub fn range(
-    ai: &[u16],
-    av: &[i32],
-    lower: i32,
-    upper: i32,
-    oi: &mut [u16],
-    ov: &mut [i32],
-) -> usize
-    requires { Lent (room oi.old ov.old) ai.now av.now }
-    ensures { (limit : ℕ) → Rising limit (list ai av)
-        → Answers (range limit lower upper (list ai av)) result oi ov }
+pub fn range(a: Entries<'_>, lower: i32, upper: i32, out: &mut EntriesMut<'_>) -> usize
+    requires { Ascends 0 (places out.old) a.items.now }
+    ensures { (limit : ℕ) → Rising limit (list_of a.entry)
+        → Fills (range limit lower upper (list_of a.entry)) result out.old out.new }
 {
-    let mut i = 0;
     let mut n = 0;
-    while i < ai.len() {
-        let x = ai[i];
-        let v = av[i];
-        i += 1;
+    for (i, x) in a.items.iter().enumerate() {
+        let v = a.values[i];
         if within(lower, upper, v) {
-            n = push(oi, ov, n, x, v);
+            n = out.push(n, *x, v);
         }
     }
     n

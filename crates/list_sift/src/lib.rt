@@ -3,51 +3,48 @@
 
 ghost use Rattle.std.specs.Prelude.{ℕ};
 ghost use Rattle.std.specs.Bool.{beq};
-ghost use Rattle.ink_list.specs.Entries.{member, Ascends, Rising, Lent, room};
+ghost use Rattle.ink_list.specs.Entries.{member, Ascends, Rising};
+ghost use Rattle.ink_list.specs.Lists.{list_of, places, Fills};
 ghost use Rattle.ink_list.specs.Ops.{sift, without, intersect};
-ghost use Rattle.ink_list.specs.Slices.{list, Answers};
 
 use ink_list::cursor::{skip_below, stands};
-use ink_list::entries::push;
+use ink_list::entries::Entries;
+use ink_list::entries_mut::EntriesMut;
 
 // a's entries whose items are b's (want), or are not.
-fn matching(want: bool, ai: &[u16], av: &[i32], bi: &[u16], oi: &mut [u16], ov: &mut [i32]) -> usize
-    requires lent { Lent (room oi.old ov.old) ai.now av.now }
-    requires ascends { Ascends 0 (room oi.old ov.old) bi.now }
-    ensures { (limit : ℕ) → Rising limit (list ai av)
-        → Answers (sift limit (λ e. beq (member bi.now e.0) want) (list ai av)) result oi ov }
+fn matching(want: bool, a: Entries<'_>, b: &[u16], out: &mut EntriesMut<'_>) -> usize
+    requires rising_a { Ascends 0 (places out.old) a.items.now }
+    requires rising_b { Ascends 0 (places out.old) b.now }
+    ensures { (limit : ℕ) → Rising limit (list_of a.entry)
+        → Fills (sift limit (λ e. beq (member b.now e.0) want) (list_of a.entry)) result out.old out.new }
 {
-    let mut i = 0;
-    let mut j = 0;
+    let mut left = b;
     let mut n = 0;
-    while i < ai.len() {
-        let x = ai[i];
-        let v = av[i];
-        i += 1;
-        j = skip_below(bi, j, x);
-        if stands(bi, j, x) == want {
-            n = push(oi, ov, n, x, v);
+    for (i, x) in a.items.iter().enumerate() {
+        left = skip_below(left, *x);
+        if stands(left, *x) == want {
+            n = out.push(n, *x, a.values[i]);
         }
     }
     n
 }
 
 // Subtract: a's entries whose items are not b's.
-pub fn without(ai: &[u16], av: &[i32], bi: &[u16], oi: &mut [u16], ov: &mut [i32]) -> usize
-    requires lent { Lent (room oi.old ov.old) ai.now av.now }
-    requires ascends { Ascends 0 (room oi.old ov.old) bi.now }
-    ensures { (limit : ℕ) → Rising limit (list ai av)
-        → Answers (without limit (list ai av) bi.now) result oi ov }
+pub fn without(a: Entries<'_>, b: &[u16], out: &mut EntriesMut<'_>) -> usize
+    requires rising_a { Ascends 0 (places out.old) a.items.now }
+    requires rising_b { Ascends 0 (places out.old) b.now }
+    ensures { (limit : ℕ) → Rising limit (list_of a.entry)
+        → Fills (without limit (list_of a.entry) b.now) result out.old out.new }
 {
-    matching(false, ai, av, bi, oi, ov)
+    matching(false, a, b, out)
 }
 
 // Intersect: a's entries whose items are b's.
-pub fn intersect(ai: &[u16], av: &[i32], bi: &[u16], oi: &mut [u16], ov: &mut [i32]) -> usize
-    requires lent { Lent (room oi.old ov.old) ai.now av.now }
-    requires ascends { Ascends 0 (room oi.old ov.old) bi.now }
-    ensures { (limit : ℕ) → Rising limit (list ai av)
-        → Answers (intersect limit (list ai av) bi.now) result oi ov }
+pub fn intersect(a: Entries<'_>, b: &[u16], out: &mut EntriesMut<'_>) -> usize
+    requires rising_a { Ascends 0 (places out.old) a.items.now }
+    requires rising_b { Ascends 0 (places out.old) b.now }
+    ensures { (limit : ℕ) → Rising limit (list_of a.entry)
+        → Fills (intersect limit (list_of a.entry) b.now) result out.old out.new }
 {
-    matching(true, ai, av, bi, oi, ov)
+    matching(true, a, b, out)
 }

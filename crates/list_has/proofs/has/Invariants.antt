@@ -1,13 +1,8 @@
--- `list_has::has` meets its contract: b's items from cursor j on are to lie among a's from cursor i on. Assumes nothing.
-use mathlib.Core.Path.{◌≡◌}
-use Prim.Native.Nat.{◌-◌, ◌≤◌}
-use lib.ListN.{length, drop}
+-- `list_has::has` meets its contract: b's items that are left are to lie among those that are left of a. Assumes nothing.
+use Rattle.std.proofs.Common.{◌≡◌, drop}
+use Rattle.ink_list.specs.Entries.{Ascends, item_numbers}
 use Rattle.ink_list.specs.Ops.{has, subset}
 use Rattle.list_has.proofs.has.Given as goal
 
-abbrev pub invariant-loop-j : goal.invariant-loop-j
-invariant-loop-j l =
-    (l.i ≤ length l.ai) × (l.j ≤ length l.bi) × (has l.ai l.bi ≡ subset (drop l.i l.ai) (drop l.j l.bi))
-
-abbrev pub decreases-loop-j : goal.decreases-loop-j
-decreases-loop-j l = length l.bi - l.j
+abbrev pub invariant-loop-x : goal.invariant-loop-x
+invariant-loop-x l = record { rising : Ascends 0 item_numbers l.left; rest : has l.a l.b ≡ subset l.left (drop l.x-index l.b) }

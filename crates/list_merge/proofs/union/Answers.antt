@@ -1,154 +1,99 @@
 -- `list_merge::union` meets its contract: what is left of the answer is the union of what is left of the two. Assumes nothing.
-use mathlib.Core.Path.{refl, sym}
-use Prim.Native.Nat.{◌+◌, ◌-◌}
-use native.Mathlib.Omega.{arith}
-use borrow.Author.Rules.{rules}
-use lib.ListN.{length-append}
-use Rattle.ink_list.specs.Entries.{entries, room}
-use Rattle.ink_list.proofs.Rests.{rest, rest_length, of_lent}
-use Rattle.ink_list.proofs.Output.{begin, has_room, pushed, appended, fits, turn, kept, done}
-use Rattle.ink_list.proofs.UnionLaws.{union_length, union_limit, union_rest, turn_less, turn_same, turn_more}
-use mathlib.Core.Logic.{inl, inr}
-use mathlib.Core.List.{append-nil, []}
-use Rattle.list_merge.proofs.union.Goals.{then-loop-i-test+else-j-bi, else-loop-i-test}
+use Rattle.std.proofs.Common.{◌≡◌, ◌⊎◌, ◌+◌, ◌≤◌, length, [], refl, arith, rules, inl, inr}
+use Rattle.ink_list.specs.Entries.{Rising}
+use Rattle.ink_list.specs.Lists.{list_of, places}
+use Rattle.ink_list.proofs.Rests.{first_entry, no_entry, items_entries, length_entries}
+use Rattle.ink_list.proofs.UnionLaws.{union_limit}
+use Rattle.list_merge.proofs.Merging.{start, less_room, same_room, more_room, less_pushed, same_pushed, more_pushed, left_room, right_room, merged}
+use Rattle.list_merge.proofs.union.Goals.{Joined-first, in_default, in_default-2}
 use Rattle.list_merge.proofs.union.Goals as goal
 
-pub loop-i-init : goal.loop-i-init
-loop-i-init c =
-    let a = c.args in
-    let p = c.requires in (
-      search rules,
-      search rules,
-      refl,
-      refl,
-      let h = union_length (room a.oi.now a.ov.now) (entries a.ai.now a.av.now) (entries a.bi.now a.bv.now) in
-          begin (omega arith),
-    )
+pub loop-x-init : goal.loop-x-init
+loop-x-init c =
+    let a = c.args.a in
+    let b = c.args.b in
+    ((refl, refl), start (rw (items_entries _ _ a.parallel) c.requires.rising_a) (rw (items_entries _ _ b.parallel) c.requires.rising_b))
 
 pub push-n-requires : goal.push-n-requires
 push-n-requires c =
-    let a = c.args in
-    let p = c.requires in
-    let l = c.loop-i in
-    has_room l.invariant.4
-    (turn_less p.lent p.lent_2 l.i l.j
-    c.loop-i-test.true c.if-j-bi.true c.if-x-y.true)
-
-pub loop-i-preserved-then-x-y : goal.loop-i-preserved-then-x-y
-loop-i-preserved-then-x-y c =
-    let a = c.args in
-    let p = c.requires in
-    let l = c.loop-i in
-    let w = pushed l.invariant.4
-    (turn_less p.lent p.lent_2 l.i l.j
-    c.loop-i-test.true c.if-j-bi.true c.if-x-y.true)
-    c.push-arg-then-x-y-2-1.given c.push-n.ensures in
-    let k = kept w in
-    (search rules, search rules, k.0, k.1, w)
-
-pub bounds-bv-j : goal.bounds-bv-j
-bounds-bv-j c = omega arith
+    less_room c.loop-x.invariant.1
+    (first_entry _ _ c.loop-x.a.parallel c.in-Some-Some.ensures.value refl refl)
+    (first_entry _ _ c.loop-x.b.parallel c.in-Some-Some.ensures'.value refl refl)
+    c.if-x-y.true
 
 pub push-n-requires-then-x-y-2 : goal.push-n-requires-then-x-y-2
 push-n-requires-then-x-y-2 c =
-    let a = c.args in
-    let p = c.requires in
-    let l = c.loop-i in
-    has_room l.invariant.4
-    (turn_same p.lent p.lent_2 l.i l.j
-    c.loop-i-test.true c.if-j-bi.true c.if-x-y-2.true)
-
-pub loop-i-preserved-then-x-y-2 : goal.loop-i-preserved-then-x-y-2
-loop-i-preserved-then-x-y-2 c =
-    let a = c.args in
-    let p = c.requires in
-    let l = c.loop-i in
-    let w = pushed l.invariant.4
-    (turn_same p.lent p.lent_2 l.i l.j
-    c.loop-i-test.true c.if-j-bi.true c.if-x-y-2.true)
-    c.push-arg-then-x-y-2-4-1.given c.push-n-then-x-y-2.ensures in
-    let k = kept w in
-    (search rules, omega arith, k.0, k.1, w)
-
-pub bounds-bv-j-else-x-y-2 : goal.bounds-bv-j-else-x-y-2
-bounds-bv-j-else-x-y-2 c = omega arith
+    same_room c.loop-x.invariant.1
+    (first_entry _ _ c.loop-x.a.parallel c.in-Some-Some.ensures.value refl refl)
+    (first_entry _ _ c.loop-x.b.parallel c.in-Some-Some.ensures'.value refl refl)
+    c.if-x-y-2.true
 
 pub push-n-requires-else-x-y-2 : goal.push-n-requires-else-x-y-2
 push-n-requires-else-x-y-2 c =
-    let a = c.args in
-    let p = c.requires in
-    let l = c.loop-i in
-    has_room l.invariant.4
-    (turn_more p.lent p.lent_2 l.i l.j
-    c.loop-i-test.true c.if-j-bi.true (omega (arith, c.if-x-y.false, c.if-x-y-2.false)))
+    more_room c.loop-x.invariant.1
+    (first_entry _ _ c.loop-x.a.parallel c.in-Some-Some.ensures.value refl refl)
+    (first_entry _ _ c.loop-x.b.parallel c.in-Some-Some.ensures'.value refl refl)
+    (omega (arith, c.if-x-y.false, c.if-x-y-2.false))
 
-pub loop-i-smaller : goal.loop-i-smaller
-loop-i-smaller c = omega arith
+pub loop-x-preserved-then-x-y : goal.loop-x-preserved-then-x-y
+loop-x-preserved-then-x-y c =
+    let l = c.loop-x in
+    let t = c.from-a.ensures in (
+      search rules,
+      less_pushed l.invariant.1
+          (first_entry _ _ l.a.parallel c.in-Some-Some.ensures.value t.items t.values)
+          (first_entry _ _ l.b.parallel c.in-Some-Some.ensures'.value refl refl)
+          c.if-x-y.true (search rules) c.push-n.ensures.0,
+    )
 
-pub loop-i-preserved : goal.loop-i-preserved
-loop-i-preserved c =
-    let a = c.args in
-    let p = c.requires in
-    let l = c.loop-i in
-    let w = pushed l.invariant.4
-    (turn_more p.lent p.lent_2 l.i l.j
-    c.loop-i-test.true c.if-j-bi.true (omega (arith, c.if-x-y.false, c.if-x-y-2.false)))
-    c.push-arg-else-x-y-2-3-1.given c.push-n-else-x-y-2.ensures in
-    let k = kept w in
-    (search rules, omega arith, k.0, k.1, w)
+pub loop-x-preserved-then-x-y-2 : goal.loop-x-preserved-then-x-y-2
+loop-x-preserved-then-x-y-2 c =
+    let l = c.loop-x in
+    let t = c.from.ensures in
+    let u = c.from-then-x-y-2.ensures in (
+      search rules,
+      same_pushed l.invariant.1
+          (first_entry _ _ l.a.parallel c.in-Some-Some.ensures.value t.items t.values)
+          (first_entry _ _ l.b.parallel c.in-Some-Some.ensures'.value u.items u.values)
+          c.if-x-y-2.true (search rules) c.push-n-then-x-y-2.ensures.0,
+    )
 
-pub copy_rest-n-requires : goal.copy_rest-n-requires
-copy_rest-n-requires c =
-    let a = c.args in
-    let p = c.requires in
-    let l = c.loop-i in
-    let u = union_rest p.lent p.lent_2 l.i l.j (elim c.loop-i-test.branch [ then-loop-i-test+else-j-bi w ↦ inr w.if-j-bi.false | else-loop-i-test w ↦ inl w.loop-i-test.false ]) in
-    let f = fits (turn l.invariant.4 u) in
-    let e = length-append (rest l.i a.ai.now a.av.now) (rest l.j a.bi.now a.bv.now) in
-    let r = rest_length l.i a.ai.now a.av.now p.lent.long in
-    record {
-      ai_len = p.lent.long;
-      i_in_bounds = (search rules, omega arith);
-    }
+pub loop-x-preserved : goal.loop-x-preserved
+loop-x-preserved c =
+    let l = c.loop-x in
+    let u = c.from-b.ensures in (
+      search rules,
+      more_pushed l.invariant.1
+          (first_entry _ _ l.a.parallel c.in-Some-Some.ensures.value refl refl)
+          (first_entry _ _ l.b.parallel c.in-Some-Some.ensures'.value u.items u.values)
+          (omega (arith, c.if-x-y.false, c.if-x-y-2.false)) (search rules) c.push-n-else-x-y-2.ensures.0,
+    )
 
-pub copy_rest-requires : goal.copy_rest-requires
-copy_rest-requires c =
-    let a = c.args in
-    let p = c.requires in
-    let l = c.loop-i in
-    let u = union_rest p.lent p.lent_2 l.i l.j (elim c.loop-i-test.branch [ then-loop-i-test+else-j-bi w ↦ inr w.if-j-bi.false | else-loop-i-test w ↦ inl w.loop-i-test.false ]) in
-    let f = fits (appended l.invariant.4 {more' = rest l.j a.bi.now a.bv.now} u c.copy_rest-n.ensures) in
-    let r = rest_length l.j a.bi.now a.bv.now p.lent_2.long in
-    record {
-      ai_len = p.lent_2.long;
-      i_in_bounds = (search rules, omega arith);
-    }
+-- after the loop one of the two is used up
+used : (c : Joined-first) → (list_of c.loop-x.a ≡ []) ⊎ (list_of c.loop-x.b ≡ [])
+used c =
+    elim c.match-first.branch [
+      | in_default w ↦ inr (no_entry _ _ w.in_default.ensures'.value)
+      | in_default-2 w ↦ inl (no_entry _ _ w.in_default.ensures.value)
+    ]
 
-pub shape_of-oi : goal.shape_of-oi
-shape_of-oi c =
-    let a = c.args in
-    let p = c.requires in
-    let l = c.loop-i in
-    let u = union_rest p.lent p.lent_2 l.i l.j (elim c.loop-i-test.branch [ then-loop-i-test+else-j-bi w ↦ inr w.if-j-bi.false | else-loop-i-test w ↦ inl w.loop-i-test.false ]) in
-    let last = appended (appended l.invariant.4 {more' = rest l.j a.bi.now a.bv.now} u c.copy_rest-n.ensures) {more' = []} (sym (append-nil _)) c.copy_rest.ensures in
-    (kept last).0
+pub append-n-requires : goal.append-n-requires
+append-n-requires c =
+    let a = c.loop-x.a in
+    let r : c.loop-x.n + length (list_of a) ≤ places c.loop-x.out = left_room c.loop-x.invariant.1 (used (goal.at.append-n-requires c).Joined-first) in
+    rw (length_entries a.items.now a.values.now a.parallel) at r
 
-pub shape_of-ov : goal.shape_of-ov
-shape_of-ov c =
-    let a = c.args in
-    let p = c.requires in
-    let l = c.loop-i in
-    let u = union_rest p.lent p.lent_2 l.i l.j (elim c.loop-i-test.branch [ then-loop-i-test+else-j-bi w ↦ inr w.if-j-bi.false | else-loop-i-test w ↦ inl w.loop-i-test.false ]) in
-    let last = appended (appended l.invariant.4 {more' = rest l.j a.bi.now a.bv.now} u c.copy_rest-n.ensures) {more' = []} (sym (append-nil _)) c.copy_rest.ensures in
-    (kept last).1
+pub append-requires : goal.append-requires
+append-requires c =
+    let b = c.loop-x.b in
+    let r = right_room c.loop-x.invariant.1 (used (goal.at.append-requires c).Joined-first) c.append-n.ensures.0 in
+    rw (length_entries b.items.now b.values.now b.parallel) at r
 
 pub returns : goal.returns
 returns c =
-    let a = c.args in
-    let p = c.requires in
-    let l = c.loop-i in
-    let u = union_rest p.lent p.lent_2 l.i l.j (elim c.loop-i-test.branch [ then-loop-i-test+else-j-bi w ↦ inr w.if-j-bi.false | else-loop-i-test w ↦ inl w.loop-i-test.false ]) in
-    let last = appended (appended l.invariant.4 {more' = rest l.j a.bi.now a.bv.now} u c.copy_rest-n.ensures) {more' = []} (sym (append-nil _)) c.copy_rest.ensures in
-    λ limit ra rb.
-    rw (← union_limit (room a.oi.now a.ov.now) limit (entries a.ai.now a.av.now) (entries a.bi.now a.bv.now) (of_lent _ a.ai.now a.av.now p.lent) (of_lent _ a.bi.now a.bv.now p.lent_2) ra rb)
-    (done last refl)
+    let w = merged c.loop-x.invariant.1 (used (goal.at.returns c).Joined-first) c.append-n.ensures.0 c.append.ensures.0 in
+    let a = c.args.a in
+    let b = c.args.b in
+    let ra : Rising (places c.args.out.now) (list_of a) = rw (items_entries _ _ a.parallel) c.requires.rising_a in
+    let rb : Rising (places c.args.out.now) (list_of b) = rw (items_entries _ _ b.parallel) c.requires.rising_b in
+    λ limit al bl. (rw (← union_limit (places c.args.out.now) limit (list_of a) (list_of b) ra rb al bl) w, search rules)

@@ -1,6 +1,6 @@
 -- `list_pairs::merge_held` meets its contract. Assumes nothing.
-use mathlib.Core.Path.{sym}
-use Rattle.ink_list.specs.Entries.{room}
+use Rattle.std.proofs.Common.{sym}
+use Rattle.ink_list.specs.Lists.{places}
 use Rattle.ink_list.proofs.Rests.{of_lent}
 use Rattle.slices.proofs.Lists.{ap2}
 use Rattle.ink_value.proofs.Parts.{cut_lent, cut_entries}
@@ -10,17 +10,16 @@ use Rattle.list_pairs.proofs.merge_held.Goals as goal
 
 pub merge-requires : goal.merge-requires
 merge-requires c =
-    let l = room c.args.oi.now c.args.ov.now in
+    let a = c.args in
     record {
-      lent = cut_lent c.args.items.now c.args.values.now c.args.i c.args.m l c.requires.spans;
-      lent_2 = cut_lent c.args.items.now c.args.values.now c.args.j c.args.n l c.requires.spans_2;
+      rising_a = (cut_lent a.items.now a.values.now a.i a.m (places a.out.now) c.requires.spans_a).rising;
+      rising_b = (cut_lent a.items.now a.values.now a.j a.n (places a.out.now) c.requires.spans_b).rising;
     }
 
 pub returns : goal.returns
 returns c =
     let is = c.args.items.now in
     let vs = c.args.values.now in
-    λ limit a b.
-    wrote_is
-    (ap2 (merge_l limit c.args.op) (sym (cut_entries is vs c.args.i c.args.m)) (sym (cut_entries is vs c.args.j c.args.n)))
-    (c.merge.ensures limit (of_lent limit _ _ (cut_lent is vs c.args.i c.args.m limit a)) (of_lent limit _ _ (cut_lent is vs c.args.j c.args.n limit b)))
+    λ limit p q.
+    let m = c.merge.ensures limit (of_lent limit _ _ (cut_lent is vs c.args.i c.args.m limit p)) (of_lent limit _ _ (cut_lent is vs c.args.j c.args.n limit q)) in
+    (wrote_is (ap2 (merge_l limit c.args.op) (sym (cut_entries is vs c.args.i c.args.m)) (sym (cut_entries is vs c.args.j c.args.n))) m.0, m.1)

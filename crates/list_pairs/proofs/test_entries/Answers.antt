@@ -9,42 +9,42 @@ use Rattle.list_pairs.proofs.test_entries.Goals as goal
 pub returns-in-6 : goal.returns-in-6
 unfolding test_l
 returns-in-6 c =
-    by_items c.requires.0 c.requires.1 c.in-6.is equal refl c.equal.ensures
+    by_items c.args.a c.args.b c.in-6.is equal refl c.equal.ensures
 
 pub returns-in-7 : goal.returns-in-7
 unfolding test_l
 returns-in-7 c =
-    by_values c.requires.0 c.requires.1 c.in-7.is greater refl c.greater.ensures
+    by_values c.args.a c.args.b c.in-7.is greater refl c.greater.ensures
 
 pub returns-in-8 : goal.returns-in-8
 unfolding test_l
 returns-in-8 c =
-    by_values c.requires.0 c.requires.1 c.in-8.is less refl c.less.ensures
+    by_values c.args.a c.args.b c.in-8.is less refl c.less.ensures
 
 pub returns-in-9 : goal.returns-in-9
 unfolding test_l
 returns-in-9 c =
-    by_values c.requires.0 c.requires.1 c.in-9.is greater_or_equals refl c.greater_or_equals.ensures
+    by_values c.args.a c.args.b c.in-9.is greater_or_equals refl c.greater_or_equals.ensures
 
 pub returns-in-10 : goal.returns-in-10
 unfolding test_l
 returns-in-10 c =
-    by_values c.requires.0 c.requires.1 c.in-10.is less_or_equals refl c.less_or_equals.ensures
+    by_values c.args.a c.args.b c.in-10.is less_or_equals refl c.less_or_equals.ensures
 
 pub returns-in-11 : goal.returns-in-11
 unfolding test_l
 returns-in-11 c =
-    by_items c.requires.0 c.requires.1 c.in-11.is not_equals refl c.not_equals.ensures
+    by_items c.args.a c.args.b c.in-11.is not_equals refl c.not_equals.ensures
 
 pub returns-in-22 : goal.returns-in-22
 unfolding test_l
 returns-in-22 c =
-    by_items c.requires.0 c.requires.1 c.in-22.is has refl c.has.ensures
+    by_items c.args.a c.args.b c.in-22.is has refl c.has.ensures
 
 pub returns-in-23 : goal.returns-in-23
 unfolding test_l
 returns-in-23 c =
-    by_items c.requires.0 c.requires.1 c.in-23.is hasnt refl c.hasnt.ensures
+    by_items c.args.a c.args.b c.in-23.is hasnt refl c.hasnt.ensures
 
 pub returns-in_default : goal.returns-in_default
 unfolding test_l

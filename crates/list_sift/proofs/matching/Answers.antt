@@ -1,66 +1,67 @@
--- `list_sift::matching` meets its contract: what is left of the answer are the entries from cursor i on whose items are among b's from cursor j on, or are not.
--- Assumes nothing.
-use mathlib.Core.Path.{refl, sym, ap, ◌∙◌}
-use mathlib.Core.Bool.{Bool, beq}
-use Prim.Native.Nat.{◌-◌}
-use native.Mathlib.Omega.{arith}
-use borrow.Author.Rules.{rules}
-use Rattle.ink_list.specs.Entries.{entries, member, room}
+-- `list_sift::matching` meets its contract: what is left of the answer are the entries that are left whose items are among those that
+-- are left of b, or are not. Assumes nothing.
+use Rattle.std.proofs.Common.{Bool, refl, sym, ap, ◌∙◌, arith, rules}
+use Rattle.std.specs.Bool.{beq}
+use Rattle.ink_list.specs.Entries.{member, Ascends, Lent}
+use Rattle.ink_list.specs.Lists.{list_of, places}
 use Rattle.ink_list.specs.Ops.{sift}
 use Rattle.ink_list.proofs.Rests.{rest_done, of_lent}
-use Rattle.ink_list.proofs.Output.{begin, has_room, pushed, kept, turn, done}
-use Rattle.ink_list.proofs.SiftLaws.{sift_length, sift_limit, sift_nil, match_yes, match_no}
+use Rattle.ink_list.proofs.Output.{begin, has_room, pushed, turn, done}
+use Rattle.ink_list.proofs.SiftLaws.{sift_length, sift_limit, sift_nil, skip_rises, match_yes, match_no}
+use Rattle.list_sift.proofs.matching.Goals.{then-stands-want, else-stands-want}
 use Rattle.list_sift.proofs.matching.Goals as goal
 
 pub loop-i-init : goal.loop-i-init
 loop-i-init c =
     let a = c.args in
-    let p = c.requires in (
-      search rules,
-      search rules,
-      refl,
-      refl,
-      let h = sift_length (room a.oi.now a.ov.now) (λ e. beq (member a.bi.now e.0) a.want) (entries a.ai.now a.av.now) in
-          begin (omega arith),
-    )
+    let h = sift_length (places a.out.now) (λ e. beq (member a.b.now e.0) a.want) (list_of a.a) in
+    record { same = (refl, refl); rising = c.requires.rising_b; writing = begin (omega arith) }
 
 pub push-n-requires : goal.push-n-requires
 push-n-requires c =
     let a = c.args in
-    let p = c.requires in
     let l = c.loop-i in
-    has_room l.invariant.4
-    (match_yes (room a.oi.now a.ov.now) a.want a.ai.now a.av.now a.bi.now p.lent p.ascends l.i l.j c.skip_below-j.result
-    c.loop-i-test.true c.skip_below-j.ensures.1 (ap (λ (b : Bool). beq b a.want) (sym c.stands.ensures) ∙ c.if-stands-want.true))
-
-pub loop-i-preserved-then-stands-want : goal.loop-i-preserved-then-stands-want
-loop-i-preserved-then-stands-want c =
-    let a = c.args in
-    let p = c.requires in
-    let l = c.loop-i in
-    let w = pushed l.invariant.4
-    (match_yes (room a.oi.now a.ov.now) a.want a.ai.now a.av.now a.bi.now p.lent p.ascends l.i l.j c.skip_below-j.result
-    c.loop-i-test.true c.skip_below-j.ensures.1 (ap (λ (b : Bool). beq b a.want) (sym c.stands.ensures) ∙ c.if-stands-want.true))
-    c.v-1.given c.push-n.ensures in
-    let k = kept w in
-    (search rules, search rules, k.0, k.1, w)
+    let la : Lent (places a.out.now) a.a.items.now a.a.values.now = record { long = a.a.parallel; rising = c.requires.rising_a } in
+    has_room l.invariant.writing
+    (match_yes _ a.want _ _ la l.i c.loop-i-test.true _ _ l.invariant.rising c.skip_below-left.ensures
+    (ap (λ (b : Bool). beq b a.want) (sym c.stands.ensures) ∙ c.if-stands-want.true))
 
 pub loop-i-preserved : goal.loop-i-preserved
 loop-i-preserved c =
     let a = c.args in
-    let p = c.requires in
     let l = c.loop-i in
-    let w = turn l.invariant.4
-    (match_no (room a.oi.now a.ov.now) a.want a.ai.now a.av.now a.bi.now p.lent p.ascends l.i l.j c.skip_below-j.result
-    c.loop-i-test.true c.skip_below-j.ensures.1 (ap (λ (b : Bool). beq b a.want) (sym c.stands.ensures) ∙ c.if-stands-want.false)) in
-    let k = kept w in
-    (search rules, search rules, k.0, k.1, w)
+    let la : Lent (places a.out.now) a.a.items.now a.a.values.now = record { long = a.a.parallel; rising = c.requires.rising_a } in
+    let r : Ascends 0 (places a.out.now) c.skip_below-left.result.now = rw c.skip_below-left.ensures (skip_rises _ 0 _ l.left.now l.invariant.rising) in
+    let s = ap (λ (b : Bool). beq b a.want) (sym c.stands.ensures) in
+    elim c.if-stands-want.branch [
+      | then-stands-want w ↦
+          rw (w.out-is, w.n-is)
+          (record {
+            same = search rules;
+            rising = r;
+            writing =
+                pushed l.invariant.writing
+                (match_yes _ a.want _ _ la l.i c.loop-i-test.true _ _ l.invariant.rising c.skip_below-left.ensures (s ∙ w.if-stands-want.true))
+                (search rules) w.push-n.ensures.0;
+          })
+      | else-stands-want w ↦
+          rw (w.out-is, w.n-is)
+          (record {
+            same = l.invariant.same;
+            rising = r;
+            writing =
+                turn l.invariant.writing
+                (match_no _ a.want _ _ la l.i c.loop-i-test.true _ _ l.invariant.rising c.skip_below-left.ensures (s ∙ w.if-stands-want.false));
+          })
+    ]
 
 pub returns : goal.returns
 returns c =
     let a = c.args in
-    let p = c.requires in
     let l = c.loop-i in
-    λ limit ra.
-    rw (← sift_limit (room a.oi.now a.ov.now) limit (λ e. beq (member a.bi.now e.0) a.want) (entries a.ai.now a.av.now) (of_lent _ a.ai.now a.av.now p.lent) ra)
-    (done l.invariant.4 (ap (sift _ _) (rest_done l.i a.ai.now a.av.now c.loop-i-test.false) ∙ sift_nil _ _))
+    let la : Lent (places a.out.now) a.a.items.now a.a.values.now = record { long = a.a.parallel; rising = c.requires.rising_a } in
+    λ limit ra. (
+      rw (← sift_limit (places a.out.now) limit (λ e. beq (member a.b.now e.0) a.want) (list_of a.a) (of_lent _ _ _ la) ra)
+          (done l.invariant.writing (ap (sift _ _) (rest_done l.i a.a.items.now a.a.values.now c.loop-i-test.false) ∙ sift_nil _ _)),
+      l.invariant.same,
+    )

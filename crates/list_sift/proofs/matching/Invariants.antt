@@ -1,10 +1,8 @@
--- `list_sift::matching` meets its contract: what is left of the answer are the entries from cursor i on whose items are among b's from cursor j on, or are not.
--- Assumes nothing.
-use mathlib.Core.Path.{◌≡◌}
-use mathlib.Core.Bool.{beq}
-use Prim.Native.Nat.{◌-◌, ◌≤◌}
-use lib.ListN.{length, drop}
-use Rattle.ink_list.specs.Entries.{entries, member, room}
+-- `list_sift::matching` meets its contract: what is left of the answer are the entries that are left whose items are among those that
+-- are left of b, or are not. Assumes nothing.
+use Rattle.std.specs.Bool.{beq}
+use Rattle.ink_list.specs.Entries.{Ascends, member}
+use Rattle.ink_list.specs.Lists.{list_of, places, Same}
 use Rattle.ink_list.specs.Ops.{sift}
 use Rattle.ink_list.proofs.Rests.{rest}
 use Rattle.ink_list.proofs.Output.{Writing}
@@ -12,9 +10,11 @@ use Rattle.list_sift.proofs.matching.Given as goal
 
 abbrev pub invariant-loop-i : goal.invariant-loop-i
 invariant-loop-i l =
-    (l.i ≤ length l.ai) × (l.j ≤ length l.bi) × (length l.oi ≡ length l.initial.oi) × (length l.ov ≡ length l.initial.ov)
-    × Writing 0 (sift (room l.initial.oi l.initial.ov) (λ e. beq (member l.bi e.0) l.want) (entries l.ai l.av)) l.n
-    (sift (room l.initial.oi l.initial.ov) (λ e. beq (member (drop l.j l.bi) e.0) l.want) (rest l.i l.ai l.av)) l.initial.oi l.oi l.initial.ov l.ov
-
-abbrev pub decreases-loop-i : goal.decreases-loop-i
-decreases-loop-i l = length l.ai - l.i
+    record {
+      same : Same l.initial.out l.out;
+      rising : Ascends 0 (places l.initial.out) l.left;
+      writing :
+          Writing 0 (sift (places l.initial.out) (λ e. beq (member l.b e.0) l.want) (list_of l.a)) l.n
+          (sift (places l.initial.out) (λ e. beq (member l.left e.0) l.want) (rest l.i l.a.items.now l.a.values.now))
+          l.initial.out.items.now l.out.items.now l.initial.out.values.now l.out.values.now;
+    }

@@ -1,0 +1,2 @@
+-- The library's minimum and maximum.
+mod Reduced

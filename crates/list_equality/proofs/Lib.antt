@@ -1,2 +1,0 @@
--- The laws of a comparison place by place.
-pub mod Places

@@ -1,2 +1,0 @@
--- What the comparison of items, some at a time, answers.
-pub mod Alike

@@ -1,0 +1,2 @@
+-- The union of two lists, written entry by entry.
+mod Merging
