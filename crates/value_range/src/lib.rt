@@ -3,14 +3,15 @@
 
 ghost use Rattle.std.specs.Prelude.{◌≡◌, List, ℕ, ◌≤◌, ◌+◌, length};
 ghost use Rattle.slices.specs.Filled.{part};
-ghost use Rattle.ink_list.specs.Entries.{room};
+ghost use Rattle.ink_list.specs.Lists.{places, Fills};
 ghost use Rattle.ink_list.specs.Ops.{lower_bound, upper_bound, range};
-ghost use Rattle.ink_list.specs.Slices.{Answers};
 ghost use Rattle.ink_value.specs.Convert.{entries_of};
 ghost use Rattle.ink_value.specs.Slices.{val_in};
 ghost use Rattle.ink_value.specs.Value.{val_of, start_of, len_of, Formed};
 ghost use Rattle.value_range.specs.Bounds.{lower_of, upper_of};
 
+use ink_list::entries::Entries;
+use ink_list::entries_mut::EntriesMut;
 use ink_value::Value;
 
 // The least of the values that stand from `start` on, or 0.
@@ -77,20 +78,23 @@ pub fn range(
     c: Value,
     items: &[u16],
     values: &[i32],
-    oi: &mut [u16],
-    ov: &mut [i32],
+    out: &mut EntriesMut<'_>,
 ) -> usize
-    requires formed { Formed (room oi.old ov.old) items.now values.now a }
-    requires formed_2 { Formed (room oi.old ov.old) items.now values.now b }
-    requires formed_3 { Formed (room oi.old ov.old) items.now values.now c }
+    requires formed_a { Formed (places out.old) items.now values.now a }
+    requires formed_b { Formed (places out.old) items.now values.now b }
+    requires formed_c { Formed (places out.old) items.now values.now c }
     ensures { (limit : ℕ) → Formed limit items.now values.now a
-        → Answers (range limit (lower_of (val_in items values b)) (upper_of (val_in items values c)) (entries_of (val_in items values a)))
-        result oi ov }
+        → Fills (range limit (lower_of (val_in items values b)) (upper_of (val_in items values c)) (entries_of (val_in items values a)))
+        result out.old out.new }
 {
     let i = ink_value::start_of(a);
     let m = ink_value::len_of(a);
     let lower = lower_bound(b, values);
     let upper = upper_bound(c, values);
     let e = i + m;
-    list_range::range(&items[i..e], &values[i..e], lower, upper, oi, ov)
+    let list = Entries {
+        items: &items[i..e],
+        values: &values[i..e],
+    };
+    list_range::range(list, lower, upper, out)
 }
