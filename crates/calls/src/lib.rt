@@ -13,6 +13,7 @@ ghost use Rattle.call_memory.specs.Lent.{operands_ok, pack_definitions};
 ghost use Rattle.calls.specs.Call.{ReturnedPlain};
 ghost use Rattle.calls.specs.Slices.{called_in, cast_in, coerced_in, on_pack_in, Asked, ReturnedIn};
 
+use ink_list::entries_mut::EntriesMut;
 use ink_value::{Outcome, Value};
 use pack::Checked;
 use pack::format::Format;
