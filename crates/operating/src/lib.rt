@@ -61,7 +61,7 @@ pub fn store(
     Value::List {
         origins: ink_value::origins_in(v),
         start: to,
-        len: list.len(),
+        len: ink_value::len_of(v),
     }
 }
 
@@ -153,7 +153,11 @@ fn list_through(
     ensures { PutIn format (list_result (definitions_in ends defined format.limit) op
         (first_of work_items.old work_values.old count a b c)) place result work_items work_values }
 {
-    let mut out = EntriesMut { items, values };
+    let definitions = Definitions { ends, defined };
+    let mut out = EntriesMut {
+        items: &mut items[..],
+        values: &mut values[..],
+    };
     let v = list_operators::list(
         op,
         count,
@@ -162,12 +166,12 @@ fn list_through(
         c,
         &work_items[..],
         &work_values[..],
-        Definitions { ends, defined },
+        definitions,
         format.limit,
         &mut out,
     );
     let to = place * format.limit;
-    store(v, out.items, out.values, work_items, work_values, to)
+    store(v, &items[..], &values[..], work_items, work_values, to)
 }
 
 // The same, made in slices of its own: small ones where the format's lists are short.
