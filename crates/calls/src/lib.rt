@@ -13,6 +13,7 @@ ghost use Rattle.call_memory.specs.Lent.{operands_ok, pack_definitions};
 ghost use Rattle.calls.specs.Call.{ReturnedPlain};
 ghost use Rattle.calls.specs.Slices.{called_in, cast_in, coerced_in, on_pack_in, Asked, ReturnedIn};
 
+use ink_list::entries_mut::EntriesMut;
 use ink_number::question::Question;
 use ink_value::{Outcome, Value};
 use pack::format::Format;
@@ -181,7 +182,11 @@ fn cast_checked(
     if ov.len() < format.limit {
         return Outcome::Refused(7);
     }
-    value_conversions::cast(to, v, items, values, oi, ov)
+    let mut out = EntriesMut {
+        items: oi,
+        values: ov,
+    };
+    value_conversions::cast(to, v, items, values, &mut out)
 }
 
 // `Value::cast` to the kind code `to`: codes 0 to 3.

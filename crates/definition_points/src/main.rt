@@ -3,15 +3,19 @@
 #![tactic(auto)]
 
 ghost use Rattle.std.specs.Prelude.{◌≡◌, true, ◌≤◌, length};
-ghost use Rattle.ink_list.specs.Entries.{Lent};
+ghost use Rattle.ink_list.specs.Entries.{Ascends, item_numbers};
+ghost use Rattle.ink_list.specs.Lists.{places};
 ghost use Rattle.list_definitions.specs.Defs.{Tables};
 
+use ink_list::entries::Entries;
+use ink_list::entries_mut::EntriesMut;
 use ink_list::well_formed::is_formed;
 use list_cases::read::{
     CASE, CASES, FIRST, NUMBER, OTHER_NUMBER, POOL, SECOND, TITLE, WHAT, byte, items_of, place,
     pool, title, value, values_of,
 };
 use list_cases::{ITEM_LIMIT, UNWRITTEN_ITEM, UNWRITTEN_VALUE, number, operand, result};
+use list_definitions::definitions::Definitions;
 use list_definitions::{all, invert, origins_of};
 use list_increment::{decrement, increment};
 use test_output::line;
@@ -21,62 +25,42 @@ fn numbered(ends: &[u16], defined: &[i32]) -> bool
     ensures { result ≡ true → Tables ends.now defined.now }
 {
     let mut low = 0;
-    let mut d = 0;
-    while d < ends.len() {
-        let end = ends[d] as usize;
+    for end in ends {
+        let end = usize::from(*end);
         if end <= low {
             return false;
         }
         low = end;
-        d += 1;
     }
     low == defined.len()
 }
 
-fn show_all(set: u64, ends: &[u16], defined: &[i32])
-    requires tables { Tables ends.now defined.now }
-    requires defined_len_bound { length defined.now ≤ 256 }
+// An operator's answer, written over places that hold no entry.
+fn show<F: FnOnce(&mut EntriesMut<'_>) -> usize>(name: &[u8], fill: F)
+    requires { (out : _) → 256 ≤ places out.now → F.pre fill out }
 {
-    let mut oi = [UNWRITTEN_ITEM; 257];
-    let mut ov = [UNWRITTEN_VALUE; 257];
-    let n = all(set, ends, defined, &mut oi, &mut ov);
-    result(b"all", n, &oi, &ov);
-}
-
-fn show_invert(ai: &[u16], av: &[i32], set: u64, ends: &[u16], defined: &[i32])
-    requires lent { Lent 256 ai.now av.now }
-    requires tables { Tables ends.now defined.now }
-    requires defined_len_bound { length defined.now ≤ 256 }
-{
-    let mut oi = [UNWRITTEN_ITEM; 257];
-    let mut ov = [UNWRITTEN_VALUE; 257];
-    let n = invert(ai, set, ends, defined, &mut oi, &mut ov);
-    result(b"invert", n, &oi, &ov);
-}
-
-fn show_increment(ai: &[u16], av: &[i32], by: i32, set: u64, ends: &[u16], defined: &[i32])
-    requires lent { Lent 256 ai.now av.now }
-    requires tables { Tables ends.now defined.now }
-    requires defined_len_bound { length defined.now ≤ 256 }
-{
-    let mut oi = [UNWRITTEN_ITEM; 257];
-    let mut ov = [UNWRITTEN_VALUE; 257];
-    let n = increment(ai, av, by, set, ends, defined, &mut oi, &mut ov);
-    result(b"increment", n, &oi, &ov);
-}
-
-fn show_decrement(ai: &[u16], av: &[i32], by: i32, set: u64, ends: &[u16], defined: &[i32])
-    requires lent { Lent 256 ai.now av.now }
-    requires tables { Tables ends.now defined.now }
-    requires defined_len_bound { length defined.now ≤ 256 }
-{
-    let mut oi = [UNWRITTEN_ITEM; 257];
-    let mut ov = [UNWRITTEN_VALUE; 257];
-    let n = decrement(ai, av, by, set, ends, defined, &mut oi, &mut ov);
-    result(b"decrement", n, &oi, &ov);
+    let mut items = [UNWRITTEN_ITEM; 257];
+    let mut values = [UNWRITTEN_VALUE; 257];
+    let n = fill(&mut EntriesMut {
+        items: &mut items,
+        values: &mut values,
+    });
+    result(name, n, &items, &values);
 }
 
 // The operators that go by definitions.
+fn answers(a: Entries<'_>, set: u64, by: i32, definitions: Definitions<'_>)
+    requires ascends { Ascends 0 item_numbers a.items.now }
+    requires few { (length definitions.defined.now ≤ 256) × (length definitions.ends.now ≤ 64) }
+{
+    show(b"all", |out| all(set, definitions, out));
+    show(b"invert", |out| invert(a.items, set, definitions, out));
+    list_cases::set(b"origins", origins_of(a.items, definitions.ends));
+    show(b"increment", |out| increment(a, by, set, definitions, out));
+    show(b"decrement", |out| decrement(a, by, set, definitions, out));
+}
+
+// The same of a case, if it is well formed.
 fn by_definitions(ai: &[u16], av: &[i32], set: u64, by: i32, ends: &[u16], defined: &[i32]) {
     operand(b"a", ai, av);
     list_cases::set(b"set", set);
@@ -97,11 +81,11 @@ fn by_definitions(ai: &[u16], av: &[i32], set: u64, by: i32, ends: &[u16], defin
         line(b"  a is not well formed");
         return;
     }
-    show_all(set, ends, defined);
-    show_invert(ai, av, set, ends, defined);
-    list_cases::set(b"origins", origins_of(ai, ends));
-    show_increment(ai, av, by, set, ends, defined);
-    show_decrement(ai, av, by, set, ends, defined);
+    let a = Entries {
+        items: ai,
+        values: av,
+    };
+    answers(a, set, by, Definitions { ends, defined });
 }
 
 fn work(s: &[u8], items: &[u16], values: &[i32]) {
@@ -120,11 +104,8 @@ fn work(s: &[u8], items: &[u16], values: &[i32]) {
 }
 
 fn work_all(s: &[u8], items: &[u16], values: &[i32]) {
-    let mut at = 0;
-    while CASE <= s.len() - at {
-        let end = at + CASE;
-        work(&s[at..end], items, values);
-        at = end;
+    for case in s.chunks_exact(CASE) {
+        work(case, items, values);
     }
 }
 

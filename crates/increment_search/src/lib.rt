@@ -3,23 +3,21 @@
 #![tactic(auto)]
 
 ghost use Rattle.std.specs.Prelude.{◌≡◌, true, [], ◌+◌, ◌≤◌, length};
-ghost use Rattle.ink_list.specs.Entries.{item_numbers, room};
+ghost use Rattle.ink_list.specs.Entries.{item_numbers};
+ghost use Rattle.ink_list.specs.Lists.{places, AppendsTo};
 ghost use Rattle.list_definitions.specs.Search.{among, raised, rises, Rose, chosen};
-ghost use Rattle.ink_list.specs.Slices.{Appends};
 
-use ink_list::entries::push;
+use ink_list::entries_mut::EntriesMut;
 use ink_number::int::wrapping_add;
 
 // Is v among the values, once `by` is added.
 fn hits(vs: &[i32], by: i32, v: i32) -> bool
     ensures { result ≡ among (raised by vs.now) v }
 {
-    let mut i = 0;
-    while i < vs.len() {
-        if wrapping_add(vs[i], by) == v {
+    for value in vs {
+        if wrapping_add(*value, by) == v {
             return true;
         }
-        i += 1;
     }
     false
 }
@@ -28,35 +26,32 @@ fn hits(vs: &[i32], by: i32, v: i32) -> bool
 fn rises(vs: &[i32], by: i32) -> bool
     ensures { Rose by vs.now result }
 {
-    if vs.len() == 0 {
+    let Some((first, rest)) = vs.split_first() else {
         return true;
-    }
-    let mut last = wrapping_add(vs[0], by);
-    let mut i = 1;
-    while i < vs.len() {
-        let v = wrapping_add(vs[i], by);
+    };
+    let mut last = wrapping_add(*first, by);
+    for value in rest {
+        let v = wrapping_add(*value, by);
         if v <= last {
             return false;
         }
         last = v;
-        i += 1;
     }
     true
 }
 
-// Where both rise, one pass over the two, side by side.
+// Where both rise, one pass over the two, side by side. Two cursors go on by what they compare, so no `for` counts them.
 fn search_rising(
     vs: &[i32],
     by: i32,
     ds: &[i32],
     first: usize,
-    oi: &mut [u16],
-    ov: &mut [i32],
+    out: &mut EntriesMut<'_>,
     at: usize,
 ) -> usize
-    requires ds_value { (rises ds.now ≡ true) × (rises (raised by vs.now) ≡ true) }
-    requires ds_bound { (first + length ds.now ≤ item_numbers) × (at + length ds.now ≤ room oi.old ov.old) }
-    ensures { Appends at (chosen first [] ds.now (raised by vs.now)) result oi ov }
+    requires rising { (rises ds.now ≡ true) × (rises (raised by vs.now) ≡ true) }
+    requires room { (first + length ds.now ≤ item_numbers) × (at + length ds.now ≤ places out.old) }
+    ensures { AppendsTo at (chosen first [] ds.now (raised by vs.now)) result out.old out.new }
 {
     let mut k = 0;
     let mut i = 0;
@@ -69,7 +64,7 @@ fn search_rising(
         } else if v < d {
             i += 1;
         } else {
-            n = push(oi, ov, n, (first + k) as u16, d);
+            n = out.push(n, (first + k) as u16, d);
             k += 1;
             i += 1;
         }
@@ -83,23 +78,16 @@ fn search_each(
     by: i32,
     ds: &[i32],
     first: usize,
-    oi: &mut [u16],
-    ov: &mut [i32],
+    out: &mut EntriesMut<'_>,
     at: usize,
 ) -> usize
-    requires { (first + length ds.now ≤ item_numbers) × (at + length ds.now ≤ room oi.old ov.old) }
-    ensures { Appends at (chosen first [] ds.now (raised by vs.now)) result oi ov }
+    requires { (first + length ds.now ≤ item_numbers) × (at + length ds.now ≤ places out.old) }
+    ensures { AppendsTo at (chosen first [] ds.now (raised by vs.now)) result out.old out.new }
 {
-    let mut k = 0;
     let mut n = at;
-    while k < ds.len() {
-        let i = k;
-        let d = ds[i];
-        k += 1;
-        if hits(vs, by, d) {
-            if !hits(&ds[..i], 0, d) {
-                n = push(oi, ov, n, (first + i) as u16, d);
-            }
+    for (k, d) in ds.iter().enumerate() {
+        if hits(vs, by, *d) && !hits(&ds[..k], 0, *d) {
+            n = out.push(n, (first + k) as u16, *d);
         }
     }
     n
@@ -111,20 +99,17 @@ pub fn retarget(
     by: i32,
     ds: &[i32],
     first: usize,
-    oi: &mut [u16],
-    ov: &mut [i32],
+    out: &mut EntriesMut<'_>,
     at: usize,
 ) -> usize
-    requires { (first + length ds.now ≤ item_numbers) × (at + length ds.now ≤ room oi.old ov.old) }
-    ensures { Appends at (chosen first [] ds.now (raised by vs.now)) result oi ov }
+    requires { (first + length ds.now ≤ item_numbers) × (at + length ds.now ≤ places out.old) }
+    ensures { AppendsTo at (chosen first [] ds.now (raised by vs.now)) result out.old out.new }
 {
-    if vs.len() == 0 {
+    if vs.is_empty() {
         return at;
     }
-    if rises(ds, 0) {
-        if rises(vs, by) {
-            return search_rising(vs, by, ds, first, oi, ov, at);
-        }
+    if rises(ds, 0) && rises(vs, by) {
+        return search_rising(vs, by, ds, first, out, at);
     }
-    search_each(vs, by, ds, first, oi, ov, at)
+    search_each(vs, by, ds, first, out, at)
 }

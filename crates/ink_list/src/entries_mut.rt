@@ -1,6 +1,6 @@
 // Entries written into two lent slices.
 
-ghost use Rattle.std.specs.Prelude.{[], ◌∷◌, ◌+◌, ◌<◌, ◌≤◌, length};
+ghost use Rattle.std.specs.Prelude.{◌≡◌, [], ◌∷◌, ◌+◌, ◌<◌, ◌≤◌, length, take};
 ghost use Rattle.ink_list.specs.Lists.{list_of, places, AppendsTo, Fills};
 
 use crate::entries::Entries;
@@ -40,5 +40,13 @@ impl<'a> EntriesMut<'a> {
         ensures { Fills (list_of a.entry) result self.old self.new }
     {
         self.append(0, a)
+    }
+
+    // The items of the first n entries.
+    pub fn first_items(&self, n: usize) -> &[u16]
+        requires { n ≤ length self.now.items.now }
+        ensures { result.now ≡ take n self.now.items.now }
+    {
+        &self.items[..n]
     }
 }

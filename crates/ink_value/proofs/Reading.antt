@@ -73,6 +73,9 @@ pub few_in : (limit : ℕ) (is : List ℕ) (vs : List ℤ) (v : Value) → Forme
 few_in limit is vs v f =
     omega (arith, len_in limit is vs v f, rising_length limit (held is vs v) (of_lent limit (part (start_of v) (len_of v) is) (part (start_of v) (len_of v) vs) f.lent))
 
+pub part_few : (limit : ℕ) (is : List ℕ) (vs : List ℤ) (v : Value) → Formed limit is vs v → length (part (start_of v) (len_of v) is) ≤ limit
+part_few limit is vs v f = omega (arith, length_part (start_of v) (len_of v) is f.items_in, few_in limit is vs v f)
+
 pub rising_in : (limit : ℕ) (is : List ℕ) (vs : List ℤ) (v : Value) → Formed limit is vs v → Rising limit (entries_of (val_of is vs v))
 rising_in limit is vs v f =
     subst (Rising limit) (sym (entries_in_lem is vs v)) (of_lent limit (part (start_of v) (len_of v) is) (part (start_of v) (len_of v) vs) f.lent)

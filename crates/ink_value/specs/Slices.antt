@@ -2,7 +2,9 @@
 use Rattle.std.specs.Prelude.{List, ℕ, ℤ, Float}
 use Rattle.ink_number.specs.Answer.{Answer, gives}
 use Rattle.slices.specs.Slices.{Slice, MutSlice}
+use Rattle.ink_list.specs.declared.entries_mut.EntriesMut.{EntriesMut}
 use Rattle.ink_list.specs.Entries.{Entry}
+use Rattle.ink_list.specs.Lists.{Same}
 use Rattle.ink_value.specs.Val.{Val}
 use Rattle.ink_value.specs.Value.{val_of, first_of, entries_at, of_parts, Gave}
 use Rattle.ink_value.specs.declared.Value.{Value}
@@ -36,3 +38,10 @@ Gives answer r oi ov = Gave answer r oi.entry.now oi.exit.now ov.entry.now ov.ex
 -- the same of a call that refuses nothing: it returns the value
 abbrev pub Makes : Val → Value → MutSlice ℕ → MutSlice ℤ → Type 0
 Makes v r oi ov = Gives (gives v) (Out.Value r) oi ov
+
+-- both, of two slices that are held as one value: they are the same two still
+abbrev pub GivesTo : Answer Val → Outcome → EntriesMut → EntriesMut → Type 0
+GivesTo answer r before after = Gave answer r before.items.now after.items.now before.values.now after.values.now × Same before after
+
+abbrev pub MakesTo : Val → Value → EntriesMut → EntriesMut → Type 0
+MakesTo v r before after = GivesTo (gives v) (Out.Value r) before after

@@ -12,6 +12,7 @@ ghost use Rattle.ink_value.specs.Val.{listK, code_of};
 ghost use Rattle.ink_value.specs.declared.Value.{Value};
 ghost use Rattle.ink_list.specs.Ops.{value_of_list};
 
+use ink_list::entries::Entries;
 use kind_code::{BOOL, FLOAT, INT, LIST, VOID};
 
 // A value. A list's entries stand beside it, in two parallel slices, from `start` on.
@@ -65,6 +66,20 @@ fn greatest(values: &[i32], start: usize, len: usize) -> i32
 {
     let end = start + len;
     extreme_values::value_of_list(&values[start..end])
+}
+
+// The entries of a value's list, in the slices that hold them; none for other values.
+pub fn entries_of<'a>(v: Value, items: &'a [u16], values: &'a [i32]) -> Entries<'a>
+    requires { (start_of v + len_of v ≤ length items.now) × (start_of v + len_of v ≤ length values.now) }
+    ensures items { result.items.now ≡ part (start_of v) (len_of v) items.now }
+    ensures values { result.values.now ≡ part (start_of v) (len_of v) values.now }
+{
+    let start = start_of(v);
+    let end = start + len_of(v);
+    Entries {
+        items: &items[start..end],
+        values: &values[start..end],
+    }
 }
 
 // Where a list's entries start, how many there are, and its origin set; 0 for other values.

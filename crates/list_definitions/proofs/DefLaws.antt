@@ -1,6 +1,6 @@
 -- A walk over the definitions. Assumes nothing.
 use mathlib.Core.Path.{◌≡◌, refl, sym, ap, ◌∙◌}
-use mathlib.Core.Bool.{Bool, true, false, cond}
+use mathlib.Core.Bool.{true, false}
 use mathlib.Core.Logic.{⊎_elim}
 use mathlib.Core.Option.{Option, none, some}
 use mathlib.Core.List.{List, [], ◌∷◌, ◌++◌}
@@ -8,16 +8,15 @@ use Prim.Native.Nat.{ℕ, zero, suc, ◌+◌, ◌-◌, ◌/◌, ◌%◌, ◌≤�
 use native.Mathlib.Numerals.{add-one}
 use native.Mathlib.Nat.{sub-zero, le_refl, add-zero, zero-add}
 use native.Mathlib.Omega.{arith}
-use borrow.Author.Tests.{lt-ltb, le-ltb}
+use borrow.Author.Tests.{lt-ltb, le-ltb, ne_eqb}
 use lib.IntN.{ℤ, pos}
 use lib.ListN.{length, get_or, drop, drop_of_length-le}
 use Rattle.ink_list.specs.Entries.{Entry, member, Ascends, put, gather_from, gather}
 use Rattle.ink_list.specs.Steps.{drop_below, head_is}
-use Rattle.list_definitions.specs.Defs.{Ends, origin_of, in_set, unheld, invert, all}
-use Rattle.ink_list.proofs.Output.{Writing, turn}
+use Rattle.list_definitions.specs.Defs.{Ends, missing, unheld, invert, all}
 use Rattle.ink_list.proofs.Laws.{from_ext, length_gather, lt_or_le}
 use Rattle.slices.proofs.Lists.{drop_at}
-use Rattle.ink_list.proofs.SiftLaws.{member_skip, skip_tells, ascends_drop}
+use Rattle.ink_list.proofs.SiftLaws.{member_skip, skip_tells, ascends_lower}
 
 -- gathering that goes by the next number k, up to a total
 abbrev pub onward : ℕ → ℕ → (ℕ → Option ℤ) → List Entry
@@ -89,51 +88,69 @@ ends_most low total (e ∷ es) r = let h : e ≤ total = ends_most e total es r.
 pub ends_below : (low total d : ℕ) (ends : List ℕ) → d < length ends → Ends low total (drop d ends) → get_or ends d 0 ≤ total
 ends_below low total d ends h r = ends_most (get_or ends d 0) total (drop (d + 1) ends) (ends_here low total d ends h r).1
 
-module _ (defined : List ℤ) (ends : List ℕ) (d : ℕ) (h : d < length ends) (s : ℕ) (is : List ℕ) (k : ℕ) where
+pub ends_turn : (ends : List ℕ) (d : ℕ) → d < length ends → (low total : ℕ) → Ends low total (drop d ends) → (e : ℕ) → e ≡ get_or ends d 0
+    → (low < e) × (e ≤ total) × Ends e total (drop (d + 1) ends)
+ends_turn ends d h low total b e here = let r = ends_here low total d ends h b in rw here (r.0, ends_below low total d ends h b, r.1)
+
+-- a turn at definition d, whose items are those from low on and before e
+module _ (defined : List ℤ) (ends : List ℕ) (d : ℕ) (h : d < length ends) (s : ℕ) (is : List ℕ) (low total : ℕ) (b : Ends low total (drop d ends))
+    (e : ℕ) (here : e ≡ get_or ends d 0) where
+  turn : (low < e) × (e ≤ total) × Ends e total (drop (d + 1) ends)
+  turn = ends_turn ends d h low total b e here
+
   -- past this definition
-  pub past_def : (total : ℕ) → get_or ends d 0 ≤ k → onward k total (unheld (drop d ends) defined s is) ≡ onward k total (unheld (drop (d + 1) ends) defined (s / 2) is)
-  past_def total l =
-      onward_ext k total (unheld (drop d ends) defined s is) (unheld (drop (d + 1) ends) defined (s / 2) is)
-      (λ j p. rw (drop_at ends d 0 h, le-ltb j (get_or ends d 0) (let q : get_or ends d 0 ≤ j = omega arith in q)))
+  past_def : onward e total (unheld (drop d ends) defined s is) ≡ onward e total (unheld (drop (d + 1) ends) defined (s / 2) is)
+  past_def =
+      onward_ext e total (unheld (drop d ends) defined s is) (unheld (drop (d + 1) ends) defined (s / 2) is)
+      (λ j p. let q : get_or ends d 0 ≤ j = omega arith in rw (drop_at ends d 0 h, le-ltb j (get_or ends d 0) q))
 
   -- a definition that is not in the set
-  pub not_in : (total : ℕ) → k < get_or ends d 0 → get_or ends d 0 ≤ total → s % 2 ≡ 0
-      → onward k total (unheld (drop d ends) defined s is) ≡ onward (get_or ends d 0) total (unheld (drop d ends) defined s is)
-  not_in total l t z =
-      onward_skip k (get_or ends d 0) total (unheld (drop d ends) defined s is) (omega arith) t
-      (λ j p q. rw (drop_at ends d 0 h, lt-ltb j (get_or ends d 0) q, z))
+  pub def_out : (s % 2 ≡ 1 → ⊥) → onward low total (unheld (drop d ends) defined s is) ≡ onward e total (unheld (drop (d + 1) ends) defined (s / 2) is)
+  def_out z =
+      onward_skip low e total (unheld (drop d ends) defined s is) (omega (arith, turn.0)) turn.1
+      (λ j p q. let r : j < get_or ends d 0 = omega arith in rw (drop_at ends d 0 h, lt-ltb j (get_or ends d 0) r, ne_eqb (s % 2) 1 z))
+      ∙ past_def
 
-  -- an item of a definition in the set
-  in_def : k < get_or ends d 0 → s % 2 ≡ 1 → unheld (drop d ends) defined s is k ≡ cond (member is k) none (some (get_or defined k (pos 0)))
-  in_def l z = rw (drop_at ends d 0 h, lt-ltb k (get_or ends d 0) l, z)
+  -- a definition in the set: from low on the list has the members that `left` has
+  pub def_in : (left : List ℕ) → s % 2 ≡ 1 → ((j : ℕ) → low ≤ j → member left j ≡ member is j)
+      → onward low total (unheld (drop d ends) defined s is)
+      ≡ gather_from low (e - low) (missing defined left) ++ onward e total (unheld (drop (d + 1) ends) defined (s / 2) is)
+  def_in left z same =
+      onward_split low e total (unheld (drop d ends) defined s is) (omega (arith, turn.0)) turn.1
+      ∙ rw (past_def, from_ext low (e - low) (unheld (drop d ends) defined s is) (missing defined left) agree)
+    where
+      agree : (j : ℕ) → low ≤ j → j < low + (e - low) → unheld (drop d ends) defined s is j ≡ missing defined left j
+      agree j p q =
+          let r : j < get_or ends d 0 = omega (arith, turn.0) in
+          rw (drop_at ends d 0 h, lt-ltb j (get_or ends d 0) r, z, same j p)
 
--- one item, with the cursor over the list that is to be left out
-module _ (defined : List ℤ) (ends : List ℕ) (d : ℕ) (h : d < length ends) (s : ℕ) (limit : ℕ) (ai : List ℕ) (ra : Ascends 0 limit ai) (j j' k : ℕ)
-    (l : k < get_or ends d 0) (z : s % 2 ≡ 1) (total : ℕ) (t : k < total) (skip : drop j' ai ≡ drop_below k (drop j ai)) where
-  tells : member (drop j ai) k ≡ head_is k (drop j' ai)
-  tells = rw skip (skip_tells limit k (drop j ai) (ascends_drop j limit ai ra))
+-- what is left of rising items rises
+pub below_ascends : (x low limit : ℕ) (is : List ℕ) → Ascends low limit is → Ascends low limit (drop_below x is)
+below_ascends x low limit [] r = tt
+below_ascends x low limit (i ∷ is) r =
+    ⊎_elim
+    (λ p. let l : low ≤ i = r.0 in rw (lt-ltb i x p) (ascends_lower (suc i) low limit (drop_below x is) (omega arith) (below_ascends x (suc i) limit is r.2)))
+    (λ p. rw (le-ltb i x p) r)
+    (lt_or_le i x)
 
-  onward_on : onward (k + 1) total (unheld (drop d ends) defined s (drop j ai)) ≡ onward (k + 1) total (unheld (drop d ends) defined s (drop j' ai))
-  onward_on =
-      onward_ext (k + 1) total (unheld (drop d ends) defined s (drop j ai)) (unheld (drop d ends) defined s (drop j' ai))
-      (λ i p. ap (λ (b : Bool). cond (in_set s (origin_of (drop d ends) i)) (cond b none (some (get_or defined i (pos 0)))) none)
-      (sym (ap (λ (m : List ℕ). member m i) skip ∙ member_skip k i (drop j ai) (omega arith))))
+-- a turn at item k of a definition in the set: left' is what is left after it
+module _ (defined : List ℤ) (is left : List ℕ) (k end : ℕ) (t : k < end) (limit : ℕ) (r : Ascends 0 limit left)
+    (same : (j : ℕ) → k ≤ j → member left j ≡ member is j) (left' : List ℕ) (skip : left' ≡ drop_below k left) where
+  pub still_rising : Ascends 0 limit left'
+  still_rising = rw skip (below_ascends k 0 limit left r)
 
-  pub item_held : head_is k (drop j' ai) ≡ true
-      → onward k total (unheld (drop d ends) defined s (drop j ai)) ≡ onward (k + 1) total (unheld (drop d ends) defined s (drop j' ai))
-  item_held e =
-      onward_next k total (unheld (drop d ends) defined s (drop j ai)) t
-      ∙ ap (λ (o : Option ℤ). put k o (onward (k + 1) total (unheld (drop d ends) defined s (drop j ai))))
-      (in_def defined ends d h s (drop j ai) k l z ∙ ap (λ (b : Bool). cond b none (some (get_or defined k (pos 0)))) (tells ∙ e))
-      ∙ onward_on
+  pub still_same : (j : ℕ) → k + 1 ≤ j → member left' j ≡ member is j
+  still_same j p = rw skip (member_skip k j left (omega arith) ∙ same j (omega arith))
 
-  pub item_unheld : head_is k (drop j' ai) ≡ false
-      → onward k total (unheld (drop d ends) defined s (drop j ai)) ≡ (k, get_or defined k (pos 0)) ∷ onward (k + 1) total (unheld (drop d ends) defined s (drop j' ai))
-  item_unheld e =
-      onward_next k total (unheld (drop d ends) defined s (drop j ai)) t
-      ∙ ap (λ (o : Option ℤ). put k o (onward (k + 1) total (unheld (drop d ends) defined s (drop j ai))))
-      (in_def defined ends d h s (drop j ai) k l z ∙ ap (λ (b : Bool). cond b none (some (get_or defined k (pos 0)))) (tells ∙ e))
-      ∙ ap {B = List Entry} (λ r. (k, get_or defined k (pos 0)) ∷ r) onward_on
+  tells : member is k ≡ head_is k left'
+  tells = rw skip (sym (same k (le_refl k)) ∙ skip_tells limit k left r)
+
+  pub item_held : head_is k left' ≡ true → onward k end (missing defined is) ≡ onward (k + 1) end (missing defined is)
+  item_held e = onward_next k end (missing defined is) t ∙ rw (tells, e)
+
+  pub item_missing : head_is k left' ≡ false
+      → onward k end (missing defined is) ≡ (k, get_or defined k (pos 0)) ∷ onward (k + 1) end (missing defined is)
+  item_missing e = onward_next k end (missing defined is) t ∙ rw (tells, e)
 
 pub invert_length : (ends : List ℕ) (defined : List ℤ) (set : ℕ) (is : List ℕ) → length (invert ends defined set is) ≤ length defined
 unfolding invert
@@ -146,19 +163,3 @@ invert_start ends defined set is = onward_start (length defined) (unheld ends de
 pub all_is : (ends : List ℕ) (defined : List ℤ) (set : ℕ) → invert ends defined set [] ≡ all ends defined set
 unfolding invert all
 all_is ends defined set = refl
-
--- ---- a turn at a definition that is not in the set
-
--- of the definitions from d on, the first ends by the total
-pub end_bound : (low k total d : ℕ) (ends : List ℕ) → Ends low total (drop d ends) → low ≤ k → k < total → get_or ends d 0 ≤ total
-end_bound low k total d ends b l h = ends_below low total d ends (ends_at low total d ends b (omega arith)) b
-
-pub bounded_on : (low k e total : ℕ) (es : List ℕ) → Ends low total es → low ≤ k → k < e → (x : ℕ) × (x ≤ e) × Ends x total es
-bounded_on low k e total es b l h = (low, omega arith, b)
-
-pub passed_over : {at n : ℕ} {answer : List Entry} {oi oi' : List ℕ} {ov ov' : List ℤ} (low : ℕ) (defined : List ℤ) (ends : List ℕ) (d s : ℕ) (is : List ℕ) (k total : ℕ)
-    → Writing at answer n (onward k total (unheld (drop d ends) defined s is)) oi oi' ov ov'
-    → Ends low total (drop d ends) → low ≤ k → k < total → k < get_or ends d 0 → s % 2 ≡ 0
-    → Writing at answer n (onward (get_or ends d 0) total (unheld (drop d ends) defined s is)) oi oi' ov ov'
-passed_over low defined ends d s is k total w b m h l z =
-    turn w (not_in defined ends d (ends_at low total d ends b (omega arith)) s is k total l (end_bound low k total d ends b m h) z)

@@ -54,10 +54,6 @@ pub rises_none : (by : ℤ) (vs : List ℤ) → length vs ≡ 0 → Rose by vs t
 rises_none by [] h = record { told = refl; ints = λ e. refl }
 rises_none by (v ∷ vs) h = absurd (omega arith)
 
-pub rises_first : (by : ℤ) (vs : List ℤ) → 0 < length vs → rises (raised by vs) ≡ rises_above (wrap (get_or vs 0 (pos 0) +ℤ by)) (raised by (drop 1 vs))
-rises_first by [] h = absurd (omega arith)
-rises_first by (v ∷ vs) h = refl
-
 module _ (by last : ℤ) (vs : List ℤ) (i : ℕ) (h : i < length vs) where
   pub rise_yes : lt_z last (wrap (get_or vs i (pos 0) +ℤ by)) ≡ true
       → rises_above last (raised by (drop i vs)) ≡ rises_above (wrap (get_or vs i (pos 0) +ℤ by)) (raised by (drop (i + 1) vs))

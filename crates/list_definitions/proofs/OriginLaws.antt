@@ -3,21 +3,20 @@ use mathlib.Core.Path.{◌≡◌, refl, sym, ap, ◌∙◌}
 use mathlib.Core.Bool.{Bool, true, false}
 use mathlib.Core.Logic.{⊎_elim}
 use mathlib.Core.List.{List, [], ◌∷◌}
-use Prim.Native.Nat.{ℕ, zero, suc, ◌+◌, ◌-◌, ◌*◌, ◌^◌, ◌/◌, ◌%◌, ◌≤◌, ◌<◌, zero-le}
+use Prim.Native.Nat.{ℕ, zero, suc, ◌+◌, ◌*◌, ◌^◌, ◌/◌, ◌%◌, ◌≤◌, ◌<◌, zero-le}
 use native.Mathlib.Numerals.{add-one}
 use native.Mathlib.Nat.{pow-suc, mul-add, mul_assoc, mul-one, mul-zero, one-mul, le_refl, add_assoc, mod-eq_of_lt, lt_of_lt_of_le, not-suc-le-zero, le_of_suc-le-suc}
 use native.Mathlib.Omega.{arith}
 use borrow.Author.Tests.{lt-ltb, le-ltb, eq-eqb, ne_eqb}
 use lib.Dec.{eqb, ltb, eqb-suc-suc, eqb-suc-zero, eqb-zero-suc}
 use lib.Pow.{pow_mono, pow-lt}
-use lib.ListN.{length, get_or, drop, length-drop, drop_of_length-le}
+use lib.ListN.{length, get_or, drop}
 use Rattle.ink_list.specs.Entries.{Ascends}
 use Rattle.ink_list.specs.Steps.{drop_below}
 use Rattle.ink_number.specs.Int.{bit_of}
 use Rattle.list_definitions.specs.Defs.{origin_of, in_set, reached, set_of, origins_of}
 use Rattle.ink_list.proofs.Laws.{lt_or_le}
 use Rattle.slices.proofs.Lists.{drop_at}
-use Rattle.ink_list.proofs.SiftLaws.{ascends_drop}
 
 pub set_of_ext : (n : ℕ) (f g : ℕ → Bool) → ((d : ℕ) → f d ≡ g d) → set_of n f ≡ set_of n g
 set_of_ext zero f g h = refl
@@ -67,7 +66,7 @@ origins_step e low limit es is r =
     (set_of_ext (length es) (λ d. reached (e ∷ es) is (suc d)) (reached es (drop_below e is)) (λ d. later_def e low limit es is d r))
 
 -- a cursor that moved passed an item
-shorter : (e : ℕ) (is : List ℕ) → length (drop_below e is) ≤ length is
+pub shorter : (e : ℕ) (is : List ℕ) → length (drop_below e is) ≤ length is
 shorter e [] = zero-le
 shorter e (k ∷ ks) =
     ⊎_elim
@@ -83,47 +82,35 @@ moved_head e (k ∷ ks) =
     (λ p. rw (le-ltb k e p) (sym (le-ltb (suc (length ks)) (suc (length ks)) (le_refl (suc (length ks))))))
     (lt_or_le k e)
 
-moved : (j j' n : ℕ) → j ≤ n → j' ≤ n → ltb (n - j') (n - j) ≡ ltb j j'
-moved j j' n h h' =
-    ⊎_elim (λ p. lt-ltb (n - j') (n - j) (omega arith) ∙ sym (lt-ltb j j' p)) (λ p. le-ltb (n - j') (n - j) (omega arith) ∙ sym (le-ltb j j' p)) (lt_or_le j j')
-
-module _ (limit : ℕ) (ai ends : List ℕ) (ra : Ascends 0 limit ai) (d j j' : ℕ) (hd : d < length ends) (hj : j ≤ length ai) (hj' : j' ≤ length ai)
-    (skip : drop j' ai ≡ drop_below (get_or ends d 0) (drop j ai)) where
-  turn : origins_of (drop d ends) (drop j ai) ≡ bit_of (ltb j j') + 2 * origins_of (drop (d + 1) ends) (drop j' ai)
+-- a turn at definition d: `rest` is what is left after it
+module _ (limit : ℕ) (left ends : List ℕ) (ra : Ascends 0 limit left) (d : ℕ) (hd : d < length ends) (rest : List ℕ)
+    (skip : rest ≡ drop_below (get_or ends d 0) left) where
+  turn : origins_of (drop d ends) left ≡ bit_of (ltb (length rest) (length left)) + 2 * origins_of (drop (d + 1) ends) rest
   turn =
-      ap (λ (l : List ℕ). origins_of l (drop j ai)) (drop_at ends d 0 hd)
-      ∙ origins_step (get_or ends d 0) 0 limit (drop (d + 1) ends) (drop j ai) (ascends_drop j limit ai ra)
-      ∙ ap (λ (b : Bool). bit_of b + 2 * origins_of (drop (d + 1) ends) (drop_below (get_or ends d 0) (drop j ai)))
-      (moved_head (get_or ends d 0) (drop j ai)
-      ∙ ap (λ (l : List ℕ). ltb (length l) (length (drop j ai))) (sym skip)
-      ∙ ap (λ (n : ℕ). ltb n (length (drop j ai))) (length-drop j' ai) ∙ ap (λ (n : ℕ). ltb (length ai - j') n) (length-drop j ai)
-      ∙ moved j j' (length ai) hj hj')
-      ∙ ap (λ (l : List ℕ). bit_of (ltb j j') + 2 * origins_of (drop (d + 1) ends) l) (sym skip)
+      ap (λ (l : List ℕ). origins_of l left) (drop_at ends d 0 hd)
+      ∙ origins_step (get_or ends d 0) 0 limit (drop (d + 1) ends) left ra
+      ∙ ap (λ (b : Bool). bit_of b + 2 * origins_of (drop (d + 1) ends) (drop_below (get_or ends d 0) left)) (moved_head (get_or ends d 0) left)
+      ∙ ap (λ (l : List ℕ). bit_of (ltb (length l) (length left)) + 2 * origins_of (drop (d + 1) ends) l) (sym skip)
 
   weigh : (set b r : ℕ) → set + 2 ^ d * (b + 2 * r) ≡ (set + 2 ^ d * b) + 2 ^ (d + 1) * r
   weigh set b r =
       ap (λ (n : ℕ). set + n) (mul-add (2 ^ d) b (2 * r) ∙ ap (λ (n : ℕ). 2 ^ d * b + n) (sym (mul_assoc (2 ^ d) 2 r) ∙ ap (λ (n : ℕ). n * r) (sym (pow-suc 2 d) ∙ ap (λ (n : ℕ). 2 ^ n) (sym (add-one d)))))
       ∙ sym (add_assoc set (2 ^ d * b) (2 ^ (d + 1) * r))
 
-  pub origin_yes : (set : ℕ) → j < j' → set + 2 ^ d * origins_of (drop d ends) (drop j ai) ≡ (set + 2 ^ d) + 2 ^ (d + 1) * origins_of (drop (d + 1) ends) (drop j' ai)
+  pub origin_yes : (set : ℕ) → length rest < length left
+      → set + 2 ^ d * origins_of (drop d ends) left ≡ (set + 2 ^ d) + 2 ^ (d + 1) * origins_of (drop (d + 1) ends) rest
   origin_yes set h =
-      ap (λ (n : ℕ). set + 2 ^ d * n) (turn ∙ ap (λ (b : Bool). bit_of b + 2 * origins_of (drop (d + 1) ends) (drop j' ai)) (lt-ltb j j' h))
-      ∙ weigh set 1 (origins_of (drop (d + 1) ends) (drop j' ai))
-      ∙ ap (λ (n : ℕ). (set + n) + 2 ^ (d + 1) * origins_of (drop (d + 1) ends) (drop j' ai)) (mul-one (2 ^ d))
+      ap (λ (n : ℕ). set + 2 ^ d * n) (turn ∙ ap (λ (b : Bool). bit_of b + 2 * origins_of (drop (d + 1) ends) rest) (lt-ltb _ _ h))
+      ∙ weigh set 1 (origins_of (drop (d + 1) ends) rest)
+      ∙ ap (λ (n : ℕ). (set + n) + 2 ^ (d + 1) * origins_of (drop (d + 1) ends) rest) (mul-one (2 ^ d))
 
-  pub origin_no : (set : ℕ) → j' ≤ j → set + 2 ^ d * origins_of (drop d ends) (drop j ai) ≡ set + 2 ^ (d + 1) * origins_of (drop (d + 1) ends) (drop j' ai)
+  pub origin_no : (set : ℕ) → length left ≤ length rest
+      → set + 2 ^ d * origins_of (drop d ends) left ≡ set + 2 ^ (d + 1) * origins_of (drop (d + 1) ends) rest
   origin_no set h =
-      ap (λ (n : ℕ). set + 2 ^ d * n) (turn ∙ ap (λ (b : Bool). bit_of b + 2 * origins_of (drop (d + 1) ends) (drop j' ai)) (le-ltb j j' h))
-      ∙ weigh set 0 (origins_of (drop (d + 1) ends) (drop j' ai))
-      ∙ ap (λ (n : ℕ). (set + n) + 2 ^ (d + 1) * origins_of (drop (d + 1) ends) (drop j' ai)) (mul-zero (2 ^ d))
+      ap (λ (n : ℕ). set + 2 ^ d * n) (turn ∙ ap (λ (b : Bool). bit_of b + 2 * origins_of (drop (d + 1) ends) rest) (le-ltb _ _ h))
+      ∙ weigh set 0 (origins_of (drop (d + 1) ends) rest)
+      ∙ ap (λ (n : ℕ). (set + n) + 2 ^ (d + 1) * origins_of (drop (d + 1) ends) rest) (mul-zero (2 ^ d))
       ∙ omega arith
-
-pub origins_start : (ends ai : List ℕ) → origins_of ends ai ≡ 0 + 2 ^ 0 * origins_of (drop 0 ends) (drop 0 ai)
-origins_start ends ai = omega arith
-
-pub origins_end : (ends ai : List ℕ) (set d j : ℕ) → length ends ≤ d → set + 2 ^ d * origins_of (drop d ends) (drop j ai) ≡ set
-origins_end ends ai set d j h =
-    ap (λ (l : List ℕ). set + 2 ^ d * origins_of l (drop j ai)) (drop_of_length-le ends {i = d} h) ∙ ap (λ (n : ℕ). set + n) (mul-zero (2 ^ d)) ∙ omega arith
 
 -- one bit, made by a shift
 pub one_bit : (d : ℕ) → d < 64 → (1 * 2 ^ d) % 2 ^ 64 ≡ 2 ^ d

@@ -37,6 +37,11 @@ raised_part by (suc n) zero (v ∷ vs) = ap {B = List ℤ} (λ l. wrap (v +ℤ b
 raised_part by (suc n) (suc i) [] = refl
 raised_part by n (suc i) (v ∷ vs) = raised_part by n i vs
 
+pub raised_drop : (by : ℤ) (m : ℕ) (vs : List ℤ) → raised by (drop m vs) ≡ drop m (raised by vs)
+raised_drop by zero vs = refl
+raised_drop by (suc m) [] = refl
+raised_drop by (suc m) (v ∷ vs) = raised_drop by m vs
+
 -- what `wrapping_add` gives of a value that was read
 pub sum_of : (v by : ℤ) {r : ℤ} → mag v < 2 ^ 31 → r ≡ wrap (back w32 v +ℤ by) → wrap (v +ℤ by) ≡ r
 sum_of v by h e = sym (e ∙ ap (λ (z : ℤ). wrap (z +ℤ by)) (returned {z = v} h))
@@ -52,6 +57,10 @@ ints_more vs k h b e =
     rw (add-one k, take-suc vs k (pos 0) h)
     (raised_append (pos 0) (take k vs) (get_or vs k (pos 0) ∷ [])
     ∙ rw (e, unraised (get_or vs k (pos 0)) b))
+
+-- one Int before
+pub ints_from : (v : ℤ) (vs : List ℤ) → mag v < 2 ^ 31 → raised (pos 0) vs ≡ vs → raised (pos 0) (v ∷ vs) ≡ v ∷ vs
+ints_from v vs b e = rw (unraised v b, e)
 
 -- v + -n is v - n, modulo 2^32
 taken : (v n : ℤ) → wrap (v -ℤ n) ≡ wrap (v +ℤ wrap (neg_ℤ n))

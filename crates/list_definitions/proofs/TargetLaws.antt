@@ -1,5 +1,5 @@
 -- Increment, a definition at a time: what its items are the targets of, and what is left for those after it. Assumes nothing.
-use mathlib.Core.Path.{◌≡◌, refl, sym, ap, ◌∙◌, subst}
+use mathlib.Core.Path.{◌≡◌, refl, sym, ap, ◌∙◌}
 use mathlib.Core.Bool.{Bool, true, false, cond}
 use mathlib.Core.Logic.{⊎_elim}
 use mathlib.Core.Option.{Option, none, some}
@@ -12,17 +12,15 @@ use borrow.Author.Tests.{lt-ltb, le-ltb}
 use lib.Dec.{ltb, eqb-suc-suc, eqb-suc-zero, eqb-zero-suc}
 use lib.IntN.{ℤ, pos}
 use lib.ListN.{length, get_or, take, drop, length-drop}
-use lib.Seq.{drop-drop}
-use Rattle.ink_list.specs.Entries.{Entry, entries, RisingFrom, Lent}
+use Rattle.ink_list.specs.Entries.{Entry, entries, RisingFrom}
 use Rattle.ink_list.specs.Steps.{drop_below}
 use Rattle.list_definitions.specs.Search.{among, raised, chosen}
 use Rattle.list_definitions.specs.Defs.{Ends, origin_of, in_set, any_from, alike, aimed, target, retarget}
 use Rattle.ink_number.specs.Int.{eq_z}
 use Rattle.ink_list.proofs.Laws.{lt_or_le, length_gather, from_ext}
 use Rattle.slices.proofs.Lists.{drop_at}
-use Rattle.ink_list.proofs.Rests.{rest}
-use Rattle.list_definitions.proofs.DefLaws.{ends_here, ends_below, onward, onward_start, onward_ext, onward_skip, onward_split}
-use Rattle.list_definitions.proofs.Raised.{length_raised, raised_part}
+use Rattle.list_definitions.proofs.DefLaws.{ends_turn, onward, onward_start, onward_ext, onward_skip, onward_split}
+use Rattle.list_definitions.proofs.Raised.{length_raised, raised_part, raised_drop}
 use Rattle.list_definitions.proofs.IncrementSearch.{pick, chosen_items}
 
 -- ---- a search among numbers
@@ -89,38 +87,16 @@ below_skip x (k ∷ ks) [] e = absurd (omega arith)
 below_skip x (k ∷ ks) (v ∷ vs) e =
     ⊎_elim (λ p. rw (lt-ltb k x p) (ap {B = List ℤ} (λ l. v ∷ l) (below_skip x ks vs (omega arith)))) (λ p. rw (le-ltb k x p)) (lt_or_le k x)
 
--- where a cursor skipped the items below x, it skipped their entries
-module _ (x j j' : ℕ) (is : List ℕ) (vs : List ℤ) (e : length is ≡ length vs) (hj : j ≤ length is) (hj' : j' ≤ length is) (s : drop j' is ≡ drop_below x (drop j is)) where
-  m : ℕ
-  m = skipped x (drop j is)
+-- where m items are below x, the entries from place m on are those from x on
+module _ (x m : ℕ) (is : List ℕ) (vs : List ℤ) (e : length is ≡ length vs) (s : m ≡ length is - length (drop_below x is)) where
+  passed : m ≡ skipped x is
+  passed = let r = skip_is x is in omega (arith, ap length r.0, length-drop (skipped x is) is)
 
-  moved : j' ≡ j + m
-  unfolding m
-  moved =
-      let r : (drop_below x (drop j is) ≡ drop (skipped x (drop j is)) (drop j is)) × (skipped x (drop j is) ≤ length (drop j is)) = skip_is x (drop j is) in
-      let q : drop j' is ≡ drop (j + skipped x (drop j is)) is = s ∙ r.0 ∙ drop-drop (skipped x (drop j is)) j is in
-      let b : skipped x (drop j is) ≤ length is - j = subst (λ (n : ℕ). skipped x (drop j is) ≤ n) (length-drop j is) r.1 in
-      omega (arith, ap length q, length-drop j' is, length-drop (j + skipped x (drop j is)) is)
+  skip_entries : entries (drop m is) (drop m vs) ≡ from_item x (entries is vs)
+  skip_entries = rw passed (sym (from_skip x is vs e))
 
-  skip_on : j ≤ j'
-  skip_on = omega (arith, moved)
-
-  long : length (drop j is) ≡ length (drop j vs)
-  long = length-drop j is ∙ omega (arith, length-drop j vs)
-
-  skip_entries : rest j' is vs ≡ from_item x (rest j is vs)
-  unfolding m
-  skip_entries =
-      ap (λ (i : ℕ). rest i is vs) moved
-      ∙ sym (from_skip x (drop j is) (drop j vs) long
-      ∙ ap (λ (l : List ℕ). entries l (drop (skipped x (drop j is)) (drop j vs))) (drop-drop (skipped x (drop j is)) j is)
-      ∙ ap (λ (l : List ℤ). entries (drop (j + skipped x (drop j is)) is) l) (drop-drop (skipped x (drop j is)) j vs))
-
-  skip_values : values_below x (rest j is vs) ≡ take (j' - j) (drop j vs)
-  unfolding m
-  skip_values =
-      let n : skipped x (drop j is) ≡ j' - j = omega (arith, moved) in
-      below_skip x (drop j is) (drop j vs) long ∙ ap (λ (i : ℕ). take i (drop j vs)) n
+  skip_values : values_below x (entries is vs) ≡ take m vs
+  skip_values = rw passed (below_skip x is vs e)
 
 pub from_rising : (x low limit : ℕ) (a : List Entry) → RisingFrom low limit a → RisingFrom x limit (from_item x a)
 from_rising x low limit [] r = tt
@@ -254,44 +230,32 @@ module _ (defined : List ℤ) (ends : List ℕ) (d : ℕ) (h : d < length ends) 
       ∙ chosen_items (get_or ends d 0 - low) low defined (values_below (get_or ends d 0) a) (omega arith))
       ∙ ap (λ (x : List Entry). chosen low [] (take (get_or ends d 0 - low) (drop low defined)) (values_below (get_or ends d 0) a) ++ x) past
 
--- the same, with a cursor over the entries, whose values are those of `av` raised
-module _ {limit : ℕ} {ai : List ℕ} {av : List ℤ} (lent : Lent limit ai av) (by : ℤ) (ends : List ℕ) (defined : List ℤ) (d low s j j' : ℕ) (h : d < length ends)
-    (numbered : Ends low (length defined) (drop d ends)) (rising : RisingFrom low limit (rest j ai (raised by av)))
-    (hj : j ≤ length ai) (hj' : j' ≤ length ai) (skip : drop j' ai ≡ drop_below (get_or ends d 0) (drop j ai)) where
-  same : length ai ≡ length (raised by av)
-  same = lent.long ∙ sym (length_raised by av)
+-- the same, where the definition ends at e, and the entries are those that are left, whose values are raised: m of them are below e
+module _ (limit : ℕ) (is : List ℕ) (vs : List ℤ) (parallel : length is ≡ length vs) (by : ℤ) (ends : List ℕ) (defined : List ℤ) (d low s m : ℕ) (h : d < length ends)
+    (numbered : Ends low (length defined) (drop d ends)) (rising : RisingFrom low limit (entries is (raised by vs))) (e : ℕ) (here : e ≡ get_or ends d 0)
+    (skip : m ≡ length is - length (drop_below e is)) where
+  same : length is ≡ length (raised by vs)
+  same = parallel ∙ sym (length_raised by vs)
 
-  onto : rest j' ai (raised by av) ≡ from_item (get_or ends d 0) (rest j ai (raised by av))
-  onto = skip_entries (get_or ends d 0) j j' ai (raised by av) same hj hj' skip
+  onto : entries (drop m is) (raised by (drop m vs)) ≡ from_item e (entries is (raised by vs))
+  onto = ap (entries (drop m is)) (raised_drop by m vs) ∙ skip_entries e m is (raised by vs) same skip
 
-  pub cursor_on : j ≤ j'
-  cursor_on = skip_on (get_or ends d 0) j j' ai (raised by av) same hj hj' skip
+  bounds : (low < get_or ends d 0) × (get_or ends d 0 ≤ length defined) × Ends (get_or ends d 0) (length defined) (drop (d + 1) ends)
+  bounds = ends_turn ends d h low (length defined) numbered (get_or ends d 0) refl
 
-  pub low_on : (low < get_or ends d 0) × (get_or ends d 0 ≤ length defined)
-  low_on = ((ends_here low (length defined) d ends h numbered).0, ends_below low (length defined) d ends h numbered)
+  pub rising_on : RisingFrom e limit (entries (drop m is) (raised by (drop m vs)))
+  rising_on = rw onto (from_rising e low limit (entries is (raised by vs)) rising)
 
-  pub numbered_on : Ends (get_or ends d 0) (length defined) (drop (d + 1) ends)
-  numbered_on = (ends_here low (length defined) d ends h numbered).1
+  pub step_out : (s % 2 ≡ 1 → ⊥) → onward low (length defined) (target_from low (drop d ends) defined s (entries is (raised by vs)))
+      ≡ onward e (length defined) (target_from e (drop (d + 1) ends) defined (s / 2) (entries (drop m is) (raised by (drop m vs))))
+  step_out z = rw (onto, here) (turn_out defined ends d h low s limit (entries is (raised by vs)) rising (length defined) bounds.0 bounds.1 (omega arith))
 
-  pub rising_on : RisingFrom (get_or ends d 0) limit (rest j' ai (raised by av))
-  rising_on = rw onto (from_rising (get_or ends d 0) low limit (rest j ai (raised by av)) rising)
-
-  pub step_out : s % 2 ≡ 0 → onward low (length defined) (target_from low (drop d ends) defined s (rest j ai (raised by av)))
-      ≡ onward (get_or ends d 0) (length defined) (target_from (get_or ends d 0) (drop (d + 1) ends) defined (s / 2) (rest j' ai (raised by av)))
-  step_out z =
-      turn_out defined ends d h low s limit (rest j ai (raised by av)) rising (length defined) low_on.0 low_on.1 z
-      ∙ ap (λ (a : List Entry). onward (get_or ends d 0) (length defined) (target_from (get_or ends d 0) (drop (d + 1) ends) defined (s / 2) a)) (sym onto)
-
-  pub step_in_lem : s % 2 ≡ 1 → onward low (length defined) (target_from low (drop d ends) defined s (rest j ai (raised by av)))
-      ≡ chosen low [] (take (get_or ends d 0 - low) (drop low defined)) (raised by (take (j' - j) (drop j av)))
-      ++ onward (get_or ends d 0) (length defined) (target_from (get_or ends d 0) (drop (d + 1) ends) defined (s / 2) (rest j' ai (raised by av)))
-  step_in_lem z =
-      turn_in defined ends d h low s limit (rest j ai (raised by av)) rising (length defined) low_on.0 low_on.1 z (le_refl (length defined))
-      ∙ ap (λ (a : List Entry). chosen low [] (take (get_or ends d 0 - low) (drop low defined)) (values_below (get_or ends d 0) (rest j ai (raised by av)))
-      ++ onward (get_or ends d 0) (length defined) (target_from (get_or ends d 0) (drop (d + 1) ends) defined (s / 2) a)) (sym onto)
-      ∙ ap (λ (vs : List ℤ). chosen low [] (take (get_or ends d 0 - low) (drop low defined)) vs
-      ++ onward (get_or ends d 0) (length defined) (target_from (get_or ends d 0) (drop (d + 1) ends) defined (s / 2) (rest j' ai (raised by av))))
-      (skip_values (get_or ends d 0) j j' ai (raised by av) same hj hj' skip ∙ sym (raised_part by (j' - j) j av))
+  pub step_in : s % 2 ≡ 1 → onward low (length defined) (target_from low (drop d ends) defined s (entries is (raised by vs)))
+      ≡ chosen low [] (take (e - low) (drop low defined)) (raised by (take m vs))
+      ++ onward e (length defined) (target_from e (drop (d + 1) ends) defined (s / 2) (entries (drop m is) (raised by (drop m vs))))
+  step_in z =
+      rw (onto, raised_part by m 0 vs, ← skip_values e m is (raised by vs) same skip, here)
+      (turn_in defined ends d h low s limit (entries is (raised by vs)) rising (length defined) bounds.0 bounds.1 z (le_refl (length defined)))
 
 pub retarget_length : (ends : List ℕ) (defined : List ℤ) (set : ℕ) (a : List Entry) → length (retarget ends defined set a) ≤ length defined
 unfolding retarget

@@ -1,6 +1,8 @@
 -- The pack's definitions, as two tables, and the list operators that go by them. `ends` has for each definition the number one past its
 -- last item, and `defined` each item's value.
 use Rattle.std.specs.Prelude.{◌≡◌, Bool, true, false, cond, List, [], ◌∷◌, ℕ, zero, suc, ◌+◌, ◌*◌, ◌/◌, ◌%◌, ◌<◌, eqb, ltb, ℤ, pos, ◌+ℤ◌, ◌-ℤ◌, length, get_or}
+use Rattle.std.specs.Coded.{×_prop, le_prop}
+use Rattle.std.proofs.Math.Nat.{ℕ_set}
 use Rattle.std.proofs.Math.Option.{Option, none, some}
 use Rattle.ink_number.specs.Int.{eq_z, wrap, bit_of}
 use Rattle.ink_list.specs.Entries.{item_numbers, Entry, member, gather}
@@ -21,6 +23,17 @@ pub record Tables (ends : List ℕ) (defined : List ℤ) : Type 0 where
   pub numbered : Ends 0 (length defined) ends
   pub few : length defined < item_numbers
 
+-- two tables are of one pack in one way, so that a struct may hold that they are
+Ends-prop : (low total : ℕ) (es : List ℕ) → IsProp (Ends low total es)
+Ends-prop low total [] = ℕ_set low total
+Ends-prop low total (e ∷ es) = ×_prop le_prop (Ends-prop e total es)
+
+pub Tables-prop : (ends : List ℕ) (defined : List ℤ) → IsProp (Tables ends defined)
+Tables-prop ends defined p q = λ i. record {
+  numbered = Ends-prop 0 (length defined) ends p.numbered q.numbered i;
+  few = le_prop p.few q.few i;
+}
+
 -- the definition of an item, its origin: how many definitions end at or before it
 abbrev pub origin_of : List ℕ → ℕ → ℕ
 origin_of [] k = 0
@@ -37,9 +50,13 @@ in_set set (suc d) = in_set (set / 2) d
 unfoldable pub all : List ℕ → List ℤ → ℕ → List Entry
 all ends defined set = gather (length defined) (λ k. cond (in_set set (origin_of ends k)) (some (get_or defined k (pos 0))) none)
 
+-- item k's defined value, where k is not among the items
+abbrev pub missing : List ℤ → List ℕ → ℕ → Option ℤ
+missing defined is k = cond (member is k) none (some (get_or defined k (pos 0)))
+
 -- item k's defined value, where its definition is in the set and k is not among the items
 abbrev pub unheld : List ℕ → List ℤ → ℕ → List ℕ → ℕ → Option ℤ
-unheld ends defined set is k = cond (in_set set (origin_of ends k)) (cond (member is k) none (some (get_or defined k (pos 0)))) none
+unheld ends defined set is k = cond (in_set set (origin_of ends k)) (missing defined is k) none
 
 -- all items of the set's definitions that the list has not
 unfoldable pub invert : List ℕ → List ℤ → ℕ → List ℕ → List Entry

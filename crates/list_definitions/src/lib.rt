@@ -1,81 +1,90 @@
-// The list operators that go by the pack's definitions: `ends` has for each definition the number one past its last
-// item, and `defined` each item's value.
+// The list operators that go by the pack's definitions.
 #![tactic(auto)]
 
-ghost use Rattle.std.specs.Prelude.{◌≡◌, ◌≤◌, length};
-ghost use Rattle.ink_list.specs.Entries.{Ascends, item_numbers, room};
-ghost use Rattle.list_definitions.specs.Defs.{Tables, invert, all, origins_of};
-ghost use Rattle.ink_list.specs.Slices.{Answers};
+pub mod definitions;
 
+ghost use Rattle.std.specs.Prelude.{◌≡◌, ℕ, ◌+◌, ◌-◌, ◌<◌, ◌≤◌, length};
+ghost use Rattle.ink_list.specs.Entries.{Ascends, item_numbers, gather_from, member};
+ghost use Rattle.ink_list.specs.Lists.{places, AppendsTo, Fills};
+ghost use Rattle.list_definitions.specs.Defs.{missing, invert, all, origins_of};
+
+use definitions::Definitions;
 use ink_list::cursor::{skip_below, stands};
-use ink_list::entries::push;
+use ink_list::entries_mut::EntriesMut;
+
+// Stores from place `at` on the items from first on and before end that a has not, with their defined values. The next
+// place, and what is left of a.
+fn push_missing<'a>(
+    a: &'a [u16],
+    first: usize,
+    end: usize,
+    defined: &[i32],
+    out: &mut EntriesMut<'_>,
+    at: usize,
+) -> (usize, &'a [u16])
+    requires ascends { Ascends 0 item_numbers a.now }
+    requires range { (first ≤ end) × (end ≤ length defined.now) × (length defined.now < item_numbers) }
+    requires room { at + length (gather_from first (end - first) (missing defined.now a.now)) ≤ places out.old }
+    ensures entries { AppendsTo at (gather_from first (end - first) (missing defined.now a.now)) result.0 out.old out.new }
+    ensures left { Ascends 0 item_numbers result.1.now
+        × ((k : ℕ) → end ≤ k → member result.1.now k ≡ member a.now k) }
+{
+    let mut left = a;
+    let mut n = at;
+    for k in first..end {
+        let item = k as u16;
+        left = skip_below(left, item);
+        if !stands(left, item) {
+            n = out.push(n, item, defined[k]);
+        }
+    }
+    (n, left)
+}
 
 // Invert: all items of the set's definitions that a has not, with their defined values.
-#[tactic(auto, using(crate::proofs::DefLaws::end_bound, crate::proofs::DefLaws::bounded_on, crate::proofs::DefLaws::passed_over))]
-pub fn invert(
-    ai: &[u16],
-    set: u64,
-    ends: &[u16],
-    defined: &[i32],
-    oi: &mut [u16],
-    ov: &mut [i32],
-) -> usize
-    requires tables { Tables ends.now defined.now }
-    requires ascends { Ascends 0 item_numbers ai.now }
-    requires defined_len_bound { length defined.now ≤ room oi.old ov.old }
-    ensures { Answers (invert ends.now defined.now set ai.now) result oi ov }
+pub fn invert(a: &[u16], set: u64, definitions: Definitions<'_>, out: &mut EntriesMut<'_>) -> usize
+    requires ascends { Ascends 0 item_numbers a.now }
+    requires defined_len_bound { length definitions.defined.now ≤ places out.old }
+    ensures { Fills (invert definitions.entry.ends.now definitions.entry.defined.now set a.now) result out.old out.new }
 {
-    let mut k = 0;
-    let mut d = 0;
+    let mut left = a;
     let mut s = set;
-    let mut j = 0;
+    let mut low = 0;
     let mut n = 0;
-    while k < defined.len() {
-        let end = ends[d] as usize;
-        if end <= k {
-            d += 1;
-            s = s / 2;
-        } else if s % 2 == 0 {
-            k = end;
-        } else {
-            let x = k as u16;
-            let v = defined[k];
-            k += 1;
-            j = skip_below(ai, j, x);
-            if !stands(ai, j, x) {
-                n = push(oi, ov, n, x, v);
-            }
+    for end in definitions.ends {
+        let first = low;
+        let chosen = s % 2 == 1;
+        low = usize::from(*end);
+        if chosen {
+            (n, left) = push_missing(left, first, low, definitions.defined, out, n);
         }
+        s /= 2;
     }
     n
 }
 
 // All: all items of the set's definitions.
-pub fn all(set: u64, ends: &[u16], defined: &[i32], oi: &mut [u16], ov: &mut [i32]) -> usize
-    requires tables { Tables ends.now defined.now }
-    requires defined_len_bound { length defined.now ≤ room oi.old ov.old }
-    ensures { Answers (all ends.now defined.now set) result oi ov }
+pub fn all(set: u64, definitions: Definitions<'_>, out: &mut EntriesMut<'_>) -> usize
+    requires defined_len_bound { length definitions.defined.now ≤ places out.old }
+    ensures { Fills (all definitions.entry.ends.now definitions.entry.defined.now set) result out.old out.new }
 {
-    invert(&ends[..0], set, ends, defined, oi, ov)
+    invert(&[], set, definitions, out)
 }
 
 // The set of the origins of some items.
-pub fn origins_of(ai: &[u16], ends: &[u16]) -> u64
-    requires ascends { Ascends 0 item_numbers ai.now }
+pub fn origins_of(a: &[u16], ends: &[u16]) -> u64
+    requires ascends { Ascends 0 item_numbers a.now }
     requires ends_len_bound { length ends.now ≤ 64 }
-    ensures { result ≡ origins_of ends.now ai.now }
+    ensures { result ≡ origins_of ends.now a.now }
 {
-    let mut set: u64 = 0;
-    let mut d = 0;
-    let mut j = 0;
-    while d < ends.len() {
-        let at = d;
-        let from = j;
-        j = skip_below(ai, j, ends[d]);
-        d += 1;
-        if from < j {
-            set += 1u64 << at;
+    let mut set = 0;
+    let mut left = a;
+    for (d, end) in ends.iter().enumerate() {
+        let rest = skip_below(left, *end);
+        if rest.len() < left.len() {
+            set += 1 << d;
         }
+        left = rest;
     }
     set
 }

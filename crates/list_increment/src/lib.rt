@@ -2,75 +2,65 @@
 #![tactic(auto)]
 
 ghost use Rattle.std.specs.Prelude.{◌≤◌, length};
-ghost use Rattle.ink_list.specs.Entries.{Lent, item_numbers, room};
-ghost use Rattle.list_definitions.specs.Defs.{Tables, increment, decrement};
-ghost use Rattle.ink_list.specs.Slices.{list, Answers};
+ghost use Rattle.ink_list.specs.Entries.{Ascends, item_numbers};
+ghost use Rattle.ink_list.specs.Lists.{list_of, places, Fills};
+ghost use Rattle.list_definitions.specs.Defs.{increment, decrement};
 
 use increment_search::retarget;
 use ink_list::cursor::skip_below;
+use ink_list::entries::Entries;
+use ink_list::entries_mut::EntriesMut;
+use list_definitions::definitions::Definitions;
 
 // Increment: `by` is added to each value, wrapping, and the first item of the same definition that is defined
 // with that value is kept, if the definition is in the set.
 pub fn increment(
-    ai: &[u16],
-    av: &[i32],
+    a: Entries<'_>,
     by: i32,
     set: u64,
-    ends: &[u16],
-    defined: &[i32],
-    oi: &mut [u16],
-    ov: &mut [i32],
+    definitions: Definitions<'_>,
+    out: &mut EntriesMut<'_>,
 ) -> usize
-    requires tables { Tables ends.now defined.now }
-    requires lent { Lent item_numbers ai.now av.now }
-    requires defined_len_bound { length defined.now ≤ room oi.old ov.old }
-    ensures { Answers (increment ends.now defined.now set by (list ai av)) result oi ov }
+    requires ascends { Ascends 0 item_numbers a.items.now }
+    requires defined_len_bound { length definitions.defined.now ≤ places out.old }
+    ensures { Fills (increment definitions.entry.ends.now definitions.entry.defined.now set by (list_of a.entry)) result out.old out.new }
 {
-    let mut d = 0;
+    let mut left = a;
     let mut s = set;
     let mut low = 0;
-    let mut j = 0;
     let mut n = 0;
-    while d < ends.len() {
-        let end = ends[d];
+    for end in definitions.ends {
         let first = low;
-        let from = j;
-        let bit = s % 2;
-        d += 1;
-        s = s / 2;
-        low = end as usize;
-        j = skip_below(ai, j, end);
-        if bit == 1 {
-            n = retarget(&av[from..j], by, &defined[first..low], first, oi, ov, n);
+        let chosen = s % 2 == 1;
+        let passed = left.len() - skip_below(left.items, *end).len();
+        low = usize::from(*end);
+        if chosen {
+            let values = &left.values[..passed];
+            n = retarget(values, by, &definitions.defined[first..low], first, out, n);
         }
+        left = left.from(passed);
+        s /= 2;
     }
     n
 }
 
 // The same with `by` taken from each value.
 pub fn decrement(
-    ai: &[u16],
-    av: &[i32],
+    a: Entries<'_>,
     by: i32,
     set: u64,
-    ends: &[u16],
-    defined: &[i32],
-    oi: &mut [u16],
-    ov: &mut [i32],
+    definitions: Definitions<'_>,
+    out: &mut EntriesMut<'_>,
 ) -> usize
-    requires tables { Tables ends.now defined.now }
-    requires lent { Lent item_numbers ai.now av.now }
-    requires defined_len_bound { length defined.now ≤ room oi.old ov.old }
-    ensures { Answers (decrement ends.now defined.now set by (list ai av)) result oi ov }
+    requires ascends { Ascends 0 item_numbers a.items.now }
+    requires defined_len_bound { length definitions.defined.now ≤ places out.old }
+    ensures { Fills (decrement definitions.entry.ends.now definitions.entry.defined.now set by (list_of a.entry)) result out.old out.new }
 {
     increment(
-        ai,
-        av,
+        a,
         ink_number::int::wrapping_mul(by, -1),
         set,
-        ends,
-        defined,
-        oi,
-        ov,
+        definitions,
+        out,
     )
 }

@@ -1,5 +1,5 @@
 -- What the operators give rises below the item limit, and a list that was written to the output slices is the answer. Assumes nothing.
-use mathlib.Core.Path.{◌≡◌, refl, ap, ◌∙◌, subst}
+use mathlib.Core.Path.{◌≡◌, refl, sym, ap, ◌∙◌, subst}
 use mathlib.Core.Bool.{Bool, true, false, cond}
 use mathlib.Core.List.{List, [], ◌∷◌}
 use Prim.Native.Nat.{ℕ, suc, ◌≤◌, ◌<◌}
@@ -19,7 +19,8 @@ use Rattle.list_operators.specs.Lists.{shift_l, unary_l, list_binary, entries_fo
 use Rattle.result_origins.specs.Origins.{origins_after}
 use Rattle.ink_value.specs.Value.{val_of, code_of_value, Gave, Wf, AllWf}
 use Rattle.ink_list.specs.Ops.{list_extreme, extreme, beats}
-use Rattle.ink_list.proofs.Laws.{rising_length, rising_limit}
+use Rattle.ink_list.proofs.Laws.{rising_limit}
+use Rattle.ink_list.proofs.Output.{length_items}
 use Rattle.list_definitions.proofs.DefLaws.{all_is}
 use Rattle.ink_list.proofs.Wrote.{read_items, union_rising, sift_rising, ascends_limit}
 use Rattle.list_definitions.proofs.AnswersFormed.{invert_rising, retarget_rising}
@@ -91,11 +92,13 @@ module _ (u : ListDefinitions) (l : ℕ) (within : length u.defined ≤ l) where
 
 -- ---- a list that was written is the result
 
+pub written : (u : ListDefinitions) (o : ℕ) (vs : List Val) {n : ℕ} {oi oi' : List ℕ} {ov ov' : List ℤ} → Wrote (entries_for u o vs) n oi oi' ov ov'
+    → n ≡ length (take n oi')
+written u o vs {n} {oi} {oi'} {ov} {ov'} w =
+    w.counted ∙ sym (length_items (entries_for u o vs)) ∙ sym (ap length (read_items (entries_for u o vs) n oi oi' ov ov' w))
+
 module _ (u : ListDefinitions) (within : length u.defined ≤ u.limit) (o : ℕ) (vs : List Val) (wf : AllWf u.limit vs) {n : ℕ}
     {oi oi' : List ℕ} {ov ov' : List ℤ} (w : Wrote (entries_for u o vs) n oi oi' ov ov') where
-  pub short : n ≤ u.limit
-  short = omega (arith, w.counted, rising_length u.limit (entries_for u o vs) (entries_rise u u.limit within o vs wf))
-
   pub rises : u.limit < item_numbers → Ascends 0 item_numbers (take n oi')
   rises small =
       rw (read_items (entries_for u o vs) n oi oi' ov ov' w)

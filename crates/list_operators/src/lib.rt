@@ -2,59 +2,57 @@
 #![tactic(auto)]
 
 ghost use Rattle.std.specs.Prelude.{◌≡◌, [], ◌∷◌, ℕ, ◌≤◌, length};
-ghost use Rattle.ink_list.specs.Entries.{item_numbers, room, Lent};
-ghost use Rattle.ink_list.specs.Slices.{list, Answers};
-ghost use Rattle.list_definitions.specs.Defs.{Tables};
+ghost use Rattle.ink_list.specs.Entries.{Ascends, item_numbers};
+ghost use Rattle.ink_list.specs.Lists.{list_of, places, Fills};
 ghost use Rattle.ink_value.specs.Val.{listK, code_of};
 ghost use Rattle.ink_value.specs.Convert.{entries_of};
 ghost use Rattle.ink_value.specs.Value.{code_of_value, Formed, FirstFormed};
-ghost use Rattle.ink_value.specs.Slices.{val_in, first_in, Makes};
+ghost use Rattle.ink_value.specs.Slices.{val_in, first_in, MakesTo};
 ghost use Rattle.list_pairs.specs.Pairs.{merge_l};
-ghost use Rattle.list_operators.specs.Lists.{unary_l, shift_l, entries_for, list_result, Room, definitions, definitions_in};
+ghost use Rattle.list_operators.specs.Lists.{unary_l, shift_l, entries_for, list_result, definitions_of, RoomFor};
 
+use ink_list::entries::Entries;
+use ink_list::entries_mut::EntriesMut;
 use ink_value::{Value, kind_code};
+use list_definitions::definitions::Definitions;
 
+#[tactic(auto, unfolding(crate::specs::Lists::unary_l), using(ink_list::proofs::Rests::items_entries))]
 fn unary(
     op: u8,
-    ai: &[u16],
-    av: &[i32],
+    a: Entries<'_>,
     set: u64,
-    ends: &[u16],
-    defined: &[i32],
-    oi: &mut [u16],
-    ov: &mut [i32],
+    definitions: Definitions<'_>,
+    out: &mut EntriesMut<'_>,
 ) -> usize
-    requires tables { Tables ends.now defined.now × Lent item_numbers ai.now av.now }
-    requires bound { (1 ≤ room oi.old ov.old) × (length defined.now ≤ room oi.old ov.old) }
-    ensures { Answers (unary_l ends.now defined.now op set (list ai av)) result oi ov }
+    requires ascends { Ascends 0 item_numbers a.items.now }
+    requires bound { (1 ≤ places out.old) × (length definitions.defined.now ≤ places out.old) }
+    ensures { Fills (unary_l definitions.entry.ends.now definitions.entry.defined.now op set (list_of a.entry)) result out.old out.new }
 {
     match op {
-        op::LIST_MIN => list_extremes::list_min(ai, av, oi, ov),
-        op::LIST_MAX => list_extremes::list_max(ai, av, oi, ov),
-        op::ALL => list_definitions::all(set, ends, defined, oi, ov),
-        op::INVERT => list_definitions::invert(ai, set, ends, defined, oi, ov),
+        op::LIST_MIN => list_extremes::list_min(a, out),
+        op::LIST_MAX => list_extremes::list_max(a, out),
+        op::ALL => list_definitions::all(set, definitions, out),
+        op::INVERT => list_definitions::invert(a.items, set, definitions, out),
         _ => 0,
     }
 }
 
+#[tactic(auto, unfolding(crate::specs::Lists::shift_l))]
 fn shift(
     op: u8,
-    ai: &[u16],
-    av: &[i32],
+    a: Entries<'_>,
     by: i32,
     set: u64,
-    ends: &[u16],
-    defined: &[i32],
-    oi: &mut [u16],
-    ov: &mut [i32],
+    definitions: Definitions<'_>,
+    out: &mut EntriesMut<'_>,
 ) -> usize
-    requires tables { Tables ends.now defined.now × Lent item_numbers ai.now av.now }
-    requires defined_len_bound { length defined.now ≤ room oi.old ov.old }
-    ensures { Answers (shift_l ends.now defined.now op set by (list ai av)) result oi ov }
+    requires ascends { Ascends 0 item_numbers a.items.now }
+    requires defined_len_bound { length definitions.defined.now ≤ places out.old }
+    ensures { Fills (shift_l definitions.entry.ends.now definitions.entry.defined.now op set by (list_of a.entry)) result out.old out.new }
 {
     match op {
-        op::ADD => list_increment::increment(ai, av, by, set, ends, defined, oi, ov),
-        op::SUBTRACT => list_increment::decrement(ai, av, by, set, ends, defined, oi, ov),
+        op::ADD => list_increment::increment(a, by, set, definitions, out),
+        op::SUBTRACT => list_increment::decrement(a, by, set, definitions, out),
         _ => 0,
     }
 }
@@ -65,21 +63,16 @@ fn list1(
     a: Value,
     items: &[u16],
     values: &[i32],
-    ends: &[u16],
-    defined: &[i32],
+    definitions: Definitions<'_>,
     limit: usize,
-    oi: &mut [u16],
-    ov: &mut [i32],
+    out: &mut EntriesMut<'_>,
 ) -> usize
-    requires room { Room (definitions ends.now defined.now limit) oi.old ov.old }
+    requires room { RoomFor definitions limit out.old }
     requires formed { Formed limit items.now values.now a }
-    ensures { Answers (entries_for (definitions_in ends defined limit) op (val_in items values a ∷ [])) result oi ov }
+    ensures { Fills (entries_for (definitions_of definitions.entry limit) op (val_in items values a ∷ [])) result out.old out.new }
 {
-    let i = ink_value::start_of(a);
-    let m = ink_value::len_of(a);
-    let set = ink_value::origins_in(a);
-    let e = i + m;
-    unary(op, &items[i..e], &values[i..e], set, ends, defined, oi, ov)
+    let list = ink_value::entries_of(a, items, values);
+    unary(op, list, ink_value::origins_in(a), definitions, out)
 }
 
 // Add, Subtract and Intersect of two lists.
@@ -89,20 +82,19 @@ fn list_list(
     b: Value,
     items: &[u16],
     values: &[i32],
-    oi: &mut [u16],
-    ov: &mut [i32],
+    out: &mut EntriesMut<'_>,
 ) -> usize
-    requires formed { Formed (room oi.old ov.old) items.now values.now a }
-    requires formed_2 { Formed (room oi.old ov.old) items.now values.now b }
+    requires formed_a { Formed (places out.old) items.now values.now a }
+    requires formed_b { Formed (places out.old) items.now values.now b }
     ensures { (limit : ℕ) → Formed limit items.now values.now a
         → Formed limit items.now values.now b
-        → Answers (merge_l limit op (entries_of (val_in items values a)) (entries_of (val_in items values b))) result oi ov }
+        → Fills (merge_l limit op (entries_of (val_in items values a)) (entries_of (val_in items values b))) result out.old out.new }
 {
     let i = ink_value::start_of(a);
     let m = ink_value::len_of(a);
     let j = ink_value::start_of(b);
     let n = ink_value::len_of(b);
-    list_pairs::merge_held(op, i, m, j, n, items, values, oi, ov)
+    list_pairs::merge_held(op, i, m, j, n, items, values, out)
 }
 
 // Add and Subtract of a list and an Int.
@@ -112,34 +104,20 @@ fn list_int(
     b: Value,
     items: &[u16],
     values: &[i32],
-    ends: &[u16],
-    defined: &[i32],
+    definitions: Definitions<'_>,
     limit: usize,
-    oi: &mut [u16],
-    ov: &mut [i32],
+    out: &mut EntriesMut<'_>,
 ) -> usize
-    requires room { Room (definitions ends.now defined.now limit) oi.old ov.old }
+    requires room { RoomFor definitions limit out.old }
     requires formed { Formed limit items.now values.now a × Formed limit items.now values.now b }
-    requires fact { code_of_value b ≡ code_of listK → ⊥ }
-    ensures { Answers (entries_for (definitions_in ends defined limit) op
-        (val_in items values a ∷ val_in items values b ∷ [])) result oi ov }
+    requires no_list { code_of_value b ≡ code_of listK → ⊥ }
+    ensures { Fills (entries_for (definitions_of definitions.entry limit) op
+        (val_in items values a ∷ val_in items values b ∷ [])) result out.old out.new }
 {
-    let i = ink_value::start_of(a);
-    let m = ink_value::len_of(a);
+    let list = ink_value::entries_of(a, items, values);
     let set = ink_value::origins_in(a);
     let by = ink_value::to_int(b, values);
-    let e = i + m;
-    shift(
-        op,
-        &items[i..e],
-        &values[i..e],
-        by,
-        set,
-        ends,
-        defined,
-        oi,
-        ov,
-    )
+    shift(op, list, by, set, definitions, out)
 }
 
 fn list2(
@@ -148,21 +126,19 @@ fn list2(
     b: Value,
     items: &[u16],
     values: &[i32],
-    ends: &[u16],
-    defined: &[i32],
+    definitions: Definitions<'_>,
     limit: usize,
-    oi: &mut [u16],
-    ov: &mut [i32],
+    out: &mut EntriesMut<'_>,
 ) -> usize
-    requires room { Room (definitions ends.now defined.now limit) oi.old ov.old }
+    requires room { RoomFor definitions limit out.old }
     requires formed { Formed limit items.now values.now a × Formed limit items.now values.now b }
-    ensures { Answers (entries_for (definitions_in ends defined limit) op
-        (val_in items values a ∷ val_in items values b ∷ [])) result oi ov }
+    ensures { Fills (entries_for (definitions_of definitions.entry limit) op
+        (val_in items values a ∷ val_in items values b ∷ [])) result out.old out.new }
 {
     if ink_value::kind(b) == kind_code::LIST {
-        return list_list(op, a, b, items, values, oi, ov);
+        return list_list(op, a, b, items, values, out);
     }
-    list_int(op, a, b, items, values, ends, defined, limit, oi, ov)
+    list_int(op, a, b, items, values, definitions, limit, out)
 }
 
 // The entries of a result that is a List.
@@ -174,24 +150,20 @@ fn entries_for(
     c: Value,
     items: &[u16],
     values: &[i32],
-    ends: &[u16],
-    defined: &[i32],
+    definitions: Definitions<'_>,
     limit: usize,
-    oi: &mut [u16],
-    ov: &mut [i32],
+    out: &mut EntriesMut<'_>,
 ) -> usize
-    requires room { Room (definitions ends.now defined.now limit) oi.old ov.old }
+    requires room { RoomFor definitions limit out.old }
     requires first_formed { FirstFormed limit items.now values.now count a b c }
     requires le_count { (1 ≤ count) × (count ≤ 3) }
-    ensures { Answers (entries_for (definitions_in ends defined limit) op (first_in items values count a b c)) result oi ov }
+    ensures { Fills (entries_for (definitions_of definitions.entry limit) op (first_in items values count a b c)) result out.old out.new }
 {
-    if count == 1 {
-        return list1(op, a, items, values, ends, defined, limit, oi, ov);
+    match count {
+        1 => list1(op, a, items, values, definitions, limit, out),
+        2 => list2(op, a, b, items, values, definitions, limit, out),
+        _ => value_range::range(a, b, c, items, values, out),
     }
-    if count == 2 {
-        return list2(op, a, b, items, values, ends, defined, limit, oi, ov);
-    }
-    value_range::range(a, b, c, items, values, oi, ov)
 }
 
 // A result that is a List, written from the start of the two output slices.
@@ -203,24 +175,21 @@ pub fn list(
     c: Value,
     items: &[u16],
     values: &[i32],
-    ends: &[u16],
-    defined: &[i32],
+    definitions: Definitions<'_>,
     limit: usize,
-    oi: &mut [u16],
-    ov: &mut [i32],
+    out: &mut EntriesMut<'_>,
 ) -> Value
-    requires room { Room (definitions ends.now defined.now limit) oi.old ov.old }
+    requires room { RoomFor definitions limit out.old }
     requires first_formed { FirstFormed limit items.now values.now count a b c }
     requires le_count { (1 ≤ count) × (count ≤ 3) }
-    ensures { Makes (list_result (definitions_in ends defined limit) op (first_in items values count a b c)) result oi ov }
+    ensures { MakesTo (list_result (definitions_of definitions.entry limit) op (first_in items values count a b c)) result out.old out.new }
 {
-    let n = entries_for(
-        op, count, a, b, c, items, values, ends, defined, limit, oi, ov,
-    );
-    let origins = result_origins::origins_after(op, count, a, b, &oi[..n], ends);
+    let len = entries_for(op, count, a, b, c, items, values, definitions, limit, out);
+    let items = out.first_items(len);
+    let origins = result_origins::origins_after(op, count, a, b, items, definitions.ends);
     Value::List {
         origins,
         start: 0,
-        len: n,
+        len,
     }
 }

@@ -12,9 +12,11 @@ ghost use Rattle.number_operators.specs.Numbers.{whole_unary, real_unary};
 ghost use Rattle.list_operators.specs.Lists.{Room, definitions, definitions_in};
 ghost use Rattle.native_function_call.specs.Apply.{of_int, test_lists, test, whole, real, compute, call};
 
+use ink_list::entries_mut::EntriesMut;
 use ink_number::int;
 use ink_number::question::Question;
 use ink_value::{Outcome, Value, kind_code};
+use list_definitions::definitions::Definitions;
 
 fn whole_outcome(d: Result<i32, Question>) -> Outcome
     ensures { result ≡ placed (of_int (answer d)) }
@@ -266,8 +268,22 @@ fn computed(
     ensures { Gives (compute (definitions_in ends defined limit) op (first_in items values count a b c) (kind_at kind)) result oi ov }
 {
     if kind == kind_code::LIST {
+        let definitions = Definitions { ends, defined };
+        let mut out = EntriesMut {
+            items: oi,
+            values: ov,
+        };
         return Outcome::Value(list_operators::list(
-            op, count, a, b, c, items, values, ends, defined, limit, oi, ov,
+            op,
+            count,
+            a,
+            b,
+            c,
+            items,
+            values,
+            definitions,
+            limit,
+            &mut out,
         ));
     }
     scalar(op, kind, count, a, b, items, values)

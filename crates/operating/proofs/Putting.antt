@@ -1,22 +1,22 @@
 -- Values put at a place of two slices: what each leaves is what the definitions say. Assumes nothing.
 use mathlib.Core.Path.{◌≡◌, refl, sym, ap, ◌∙◌, subst}
 use mathlib.Core.List.{List, []}
-use Prim.Native.Nat.{ℕ, suc, ◌+◌, ◌-◌, ◌*◌, ◌≤◌, ◌<◌}
+use Prim.Native.Nat.{ℕ, suc, ◌+◌, ◌*◌, ◌≤◌, ◌<◌}
 use native.Mathlib.Omega.{arith}
 use native.Mathlib.Nat.{suc-mul, mul-le-mul_right}
 use lib.IntN.{ℤ}
-use lib.ListN.{length, take, drop}
+use lib.ListN.{length}
 use Rattle.ink_number.specs.Answer.{Answer, gives}
-use Rattle.ink_list.specs.Entries.{Entry, entries, items, values, Rising, Stored}
+use Rattle.ink_list.specs.Entries.{Entry, items, values, Rising, Stored}
 use Rattle.slices.specs.Filled.{fill}
 use Rattle.slices.proofs.Filled.{fill_nothing}
 use Rattle.ink_value.specs.Val.{Val, bool, int, float, void}
 use Rattle.ink_value.specs.Convert.{entries_of}
-use Rattle.ink_value.specs.Value.{val_of, code_of_value, start_of, len_of, set_in, placed_val, Formed, FirstFormed, Gave, first_of}
+use Rattle.ink_value.specs.Value.{val_of, code_of_value, held, len_of, set_in, placed_val, Formed, FirstFormed, Gave, first_of}
 use Rattle.ink_value.specs.declared.Value.{Value}
 use Rattle.ink_value.specs.declared.Value.TheVariants as Is
 use Rattle.ink_value.specs.declared.Outcome.TheVariants as Out
-use Rattle.ink_value.proofs.Reading.{lends_held, list_in, len_in, entries_in_lem, rising_in}
+use Rattle.ink_value.proofs.Reading.{list_in, len_in, entries_in_lem, rising_in}
 use Rattle.ink_value.proofs.ReadBack.{read_back, formed_back, first_wf}
 use Rattle.list_operators.specs.Lists.{definitions, entries_for, list_result}
 use Rattle.list_operators.proofs.Listing.{entries_rise}
@@ -52,40 +52,38 @@ put_plain at is vs (Is.List o s n) oi ov h = absurd (h refl)
 put_plain at is vs Is.Void oi ov h = put_none void at Is.Void oi ov refl refl
 
 -- a list that is copied from its slices
-module _ (F : Format) (is : List ℕ) (vs : List ℤ) (v : Value) (f : Formed F.limit is vs v) (i n to : ℕ) (p : i ≡ start_of v) (q : n ≡ len_of v)
-    (oi oi' : List ℕ) (ov ov' : List ℤ) (hi : to + len_of v ≤ length oi) (hv : to + len_of v ≤ length ov) (m : ℕ)
-    (w : Stored to (entries (take (i + n - i) (drop i is)) (take (i + n - i) (drop i vs))) m oi oi' ov ov') where
-  entries_are : entries (take (i + n - i) (drop i is)) (take (i + n - i) (drop i vs)) ≡ entries_of (val_of is vs v)
-  entries_are = lends_held F.limit is vs i n v p q ∙ sym (entries_in_lem is vs v)
-
-  pub put_copied : (o : ℕ) (r : Value) → o ≡ set_in v → code_of_value v ≡ 3 → r ≡ Is.List o to n → Put F (val_of is vs v) to r oi oi' ov ov'
-  put_copied o r s k e =
+module _ (F : Format) (is : List ℕ) (vs : List ℤ) (v : Value) (f : Formed F.limit is vs v) (to : ℕ)
+    (m : ℕ) {oi ois : List ℕ} {ov ovs : List ℤ} (w : Stored to (held is vs v) m oi ois ov ovs) where
+  pub put_copied : (o n : ℕ) {r : Value} → o ≡ set_in v → n ≡ len_of v → code_of_value v ≡ 3 → r ≡ Is.List o to n
+      → {oi' : List ℕ} → {ov' : List ℤ} → oi' ≡ ois → ov' ≡ ovs → Put F (val_of is vs v) to r oi oi' ov ov'
+  put_copied o n {r} s q k e {oi'} {ov'} ei ev =
       record {
         value_is = e ∙ ap (λ (x : ℕ). Is.List x to n) s ∙ ap (Is.List (set_in v) to) (q ∙ sym (len_in F.limit is vs v f))
             ∙ ap (placed_at to) (sym (list_in is vs v k));
-        items_in = w.items_in ∙ ap (λ (es : List Entry). fill to (items es) oi) entries_are;
-        values_in = w.values_in ∙ ap (λ (es : List Entry). fill to (values es) ov) entries_are;
+        items_in = ei ∙ w.items_in ∙ ap (λ (es : List Entry). fill to (items es) oi) (sym (entries_in_lem is vs v));
+        values_in = ev ∙ w.values_in ∙ ap (λ (es : List Entry). fill to (values es) ov) (sym (entries_in_lem is vs v));
         rising = rising_in F.limit is vs v f;
       }
 
 -- ---- results
 
 -- a List that its operator made in lent slices stands there well formed
-pub made_formed : (F : Format) (ends : List ℕ) (defined : List ℤ) (o n : ℕ) (a b c v : Value) (wi : List ℕ) (wv : List ℤ) (oi oi' : List ℕ) (ov ov' : List ℤ)
-    → Gave (gives (list_result (definitions ends defined F.limit) o (first_of wi wv n a b c))) (Out.Value v) oi oi' ov ov'
-    → PackLists F.limit ends defined → FirstFormed F.limit wi wv n a b c → F.limit ≤ length oi → F.limit ≤ length ov → Formed F.limit oi' ov' v
-made_formed F ends defined o n a b c v wi wv oi oi' ov ov' g t f hi hv =
+pub made_formed : (F : Format) (ends : List ℕ) (defined : List ℤ) (o n : ℕ) (a b c v : Value) (wi : List ℕ) (wv : List ℤ) (oi ois : List ℕ) (ov ovs : List ℤ)
+    → Gave (gives (list_result (definitions ends defined F.limit) o (first_of wi wv n a b c))) (Out.Value v) oi ois ov ovs
+    → PackLists F.limit ends defined → FirstFormed F.limit wi wv n a b c → F.limit ≤ length oi → F.limit ≤ length ov
+    → {oi' : List ℕ} → {ov' : List ℤ} → oi' ≡ ois → ov' ≡ ovs → Formed F.limit oi' ov' v
+made_formed F ends defined o n a b c v wi wv oi ois ov ovs g t f hi hv ei ev =
     let u = definitions ends defined F.limit in
     let vs = first_of wi wv n a b c in
     let up = entries_rise u F.limit t.within o vs (first_wf F.limit wi wv n a b c f) in
     let s : v ≡ placed_val (list_result u o vs) = cc in
-    subst (Formed F.limit oi' ov') (sym s) (formed_back F.limit _ (entries_for u o vs) (Out.Value v) oi oi' ov ov' g up hi hv)
+    rw (ei, ev) (subst (Formed F.limit ois ovs) (sym s) (formed_back F.limit _ (entries_for u o vs) (Out.Value v) oi ois ov ovs g up hi hv))
 
 -- a value that was made there is the one that is put from there
-pub made_put : {F : Format} {x : Val} {v r : Value} {at : ℕ} {oi oi' wi wi' : List ℕ} {ov ov' wv wv' : List ℤ} → Gave (gives x) (Out.Value v) oi oi' ov ov'
-    → Put F (val_of oi' ov' v) at r wi wi' wv wv' → Put F x at r wi wi' wv wv'
-made_put {F} {x} {v} {r} {at} {oi} {oi'} {wi} {wi'} {ov} {ov'} {wv} {wv'} g w =
-    let b = read_back (gives x) (Out.Value v) oi oi' ov ov' g in
+pub made_put : {F : Format} {x : Val} {v r : Value} {at : ℕ} {oi ois oi' wi wi' : List ℕ} {ov ovs ov' wv wv' : List ℤ} → Gave (gives x) (Out.Value v) oi ois ov ovs
+    → Put F (val_of oi' ov' v) at r wi wi' wv wv' → oi' ≡ ois → ov' ≡ ovs → Put F x at r wi wi' wv wv'
+made_put {F} {x} {v} {r} {at} {oi} {ois} {oi'} {wi} {wi'} {ov} {ovs} {ov'} {wv} {wv'} g w ei ev =
+    let b = read_back (gives x) (Out.Value v) oi ois ov ovs g in
     let e : val_of oi' ov' v ≡ x = cc in
     subst (λ (y : Val). Put F y at r wi wi' wv wv') e w
 

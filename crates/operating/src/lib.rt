@@ -17,8 +17,10 @@ ghost use Rattle.pack.specs.Read.{PackLists};
 ghost use Rattle.ink_value.specs.Slices.{first_in};
 ghost use Rattle.operating.specs.Slices.{StoredIn, PutIn, AnsweredIn};
 
+use ink_list::entries_mut::EntriesMut;
 use ink_number::question::Question;
 use ink_value::{Value, kind_code};
+use list_definitions::definitions::Definitions;
 use native_function_call::{real, test, whole};
 use pack::format::Format;
 
@@ -50,15 +52,16 @@ pub fn store(
     if ink_value::kind(v) != kind_code::LIST {
         return v;
     }
-    let start = ink_value::start_of(v);
-    let len = ink_value::len_of(v);
-    let origins = ink_value::origins_in(v);
-    let end = start + len;
-    ink_list::entries::copy_rest(&items[start..end], &values[start..end], 0, oi, ov, to);
+    let list = ink_value::entries_of(v, items, values);
+    let mut out = EntriesMut {
+        items: oi,
+        values: ov,
+    };
+    out.append(to, list);
     Value::List {
-        origins,
+        origins: ink_value::origins_in(v),
         start: to,
-        len,
+        len: ink_value::len_of(v),
     }
 }
 
@@ -150,6 +153,11 @@ fn list_through(
     ensures { PutIn format (list_result (definitions_in ends defined format.limit) op
         (first_of work_items.old work_values.old count a b c)) place result work_items work_values }
 {
+    let definitions = Definitions { ends, defined };
+    let mut out = EntriesMut {
+        items: &mut items[..],
+        values: &mut values[..],
+    };
     let v = list_operators::list(
         op,
         count,
@@ -158,11 +166,9 @@ fn list_through(
         c,
         &work_items[..],
         &work_values[..],
-        ends,
-        defined,
+        definitions,
         format.limit,
-        items,
-        values,
+        &mut out,
     );
     let to = place * format.limit;
     store(v, &items[..], &values[..], work_items, work_values, to)

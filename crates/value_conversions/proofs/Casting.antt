@@ -1,19 +1,12 @@
 -- Question 18. Assumes nothing.
-use mathlib.Core.Path.{◌≡◌, refl}
+use mathlib.Core.Path.{◌≡◌}
 use mathlib.Core.Bool.{Bool, true, false, cond}
 use Prim.Native.Nat.{ℕ}
 use native.Mathlib.Omega.{arith}
 use lib.Dec.{eqb}
-use lib.IntN.{pos}
 use borrow.Author.Tests.{eqb-true, ne_eqb}
 use Rattle.ink_value.specs.Val.{Val}
-use Rattle.ink_value.specs.Convert.{bit_z}
 use Rattle.value_conversions.specs.Convert.{castable, converted}
-use Rattle.ink_number.specs.Int.{eq_z}
-
-pub bit_one : (b : Bool) → b ≡ eq_z (bit_z b) (pos 1)
-bit_one true = refl
-bit_one false = refl
 
 -- where nothing else is left, a List is cast to itself
 pub cast_list : (to from : ℕ) → (to ≡ 0 → ⊥) → (to ≡ 1 → ⊥) → (to ≡ 2 → ⊥) → castable to from ≡ true → from ≡ 3

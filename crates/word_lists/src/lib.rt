@@ -6,6 +6,9 @@ ghost use Rattle.list_operators.specs.Lists.{Room, definitions};
 ghost use Rattle.word_lists.specs.Operands.{FirstIn};
 ghost use Rattle.word_lists.specs.Slices.{ListSays};
 
+use ink_list::entries_mut::EntriesMut;
+use list_definitions::definitions::Definitions;
+
 // A result that is a List.
 pub fn list(
     op: u8,
@@ -28,6 +31,11 @@ pub fn list(
     let a = words_in::operand_at(operands, 0);
     let b = words_in::operand_at(operands, 1);
     let c = words_in::operand_at(operands, 2);
+    let definitions = Definitions { ends, defined };
+    let mut out = EntriesMut {
+        items: result_items,
+        values: result_values,
+    };
     let v = list_operators::list(
         op,
         count,
@@ -36,11 +44,9 @@ pub fn list(
         c,
         items,
         values,
-        ends,
-        defined,
+        definitions,
         limit,
-        result_items,
-        result_values,
+        &mut out,
     );
     words_out::put_value(answer, v);
     0

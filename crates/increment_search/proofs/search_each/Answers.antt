@@ -1,81 +1,69 @@
--- `increment_search::search_each` meets its contract: what is left to be stored is what is chosen of the definition's values from cursor k
--- on, those before it being the first k. Assumes nothing.
-use mathlib.Core.List.{[]}
-use mathlib.Core.Path.{refl, sym, ap, ap₂, ◌∙◌}
-use Prim.Native.Nat.{◌+◌, ◌-◌}
-use native.Mathlib.Omega.{arith}
-use borrow.Author.Rules.{rules}
-use lib.IntN.{pos}
-use lib.ListN.{take, get_or}
-use lib.Seq.{length-take-le}
-use mir.Syntax.{w32}
+-- `increment_search::search_each` meets its contract: what is left to store is what is chosen of the definition's values from place k on,
+-- those before it being the first k. Assumes nothing.
+use Rattle.std.proofs.Common.{[], ◌+◌, ◌<◌, ◌^◌, ◌∙◌, refl, sym, ap, arith, get_or, pos, take, w32}
+use mathlib.Core.Path.{ap₂}
+use lib.Signed.{mag}
 use Rattle.ink_number.proofs.Signed.{back, returned}
 use Rattle.list_definitions.specs.Search.{among, raised}
 use Rattle.list_definitions.proofs.Raised.{ints_more}
-use Rattle.ink_list.proofs.Output.{begin, turn, has_room, pushed, kept, stored}
+use Rattle.ink_list.proofs.Output.{begin, turn, has_room, pushed, stored}
 use Rattle.list_definitions.proofs.IncrementSearch.{stored_read, chosen_start, chosen_end, chosen_length, each_yes, each_seen, each_no}
 use Rattle.increment_search.proofs.search_each.Goals as goal
+use Rattle.increment_search.proofs.search_each.Goals.{then-hits+then-not-hits, else-hits, else-hits-via-then-hits+else-not-hits, else-hits-via-else-hits}
 
 pub loop-k-init : goal.loop-k-init
 loop-k-init c =
     let a = c.args in
     let W = raised (back w32 a.by) a.vs.now in
     let h = chosen_length a.first [] a.ds.now W in
-    (search rules, refl, refl, refl, turn (begin (omega arith)) (chosen_start a.first a.ds.now W))
-
-pub slice_bounds-hits-end : goal.slice_bounds-hits-end
-slice_bounds-hits-end c =
-    sym (length-take-le c.loop-k.k c.args.ds.now c.loop-k.invariant.0)
+    record { ints = refl; same = (refl, refl); writing = turn (begin (omega arith)) (chosen_start a.first a.ds.now W) }
 
 pub push-n-requires : goal.push-n-requires
 push-n-requires c =
     let a = c.args in
     let l = c.loop-k in
     let d = get_or a.ds.now l.k (pos 0) in
+    let b : mag d < 2 ^ 31 = omega arith in
     let W = raised (back w32 a.by) a.vs.now in
-    let hit = c.hits.ensures ∙ ap (among W) (returned {z = d} c.d-1.given) in
-    let seen = c.hits-then-hits.ensures ∙ ap₂ among l.invariant.3 (returned {z = d} c.d-1.given) in
-    has_room l.invariant.4 (each_yes a.first a.ds.now W l.k c.loop-k-test.true (sym hit ∙ c.if-hits.true) (sym seen ∙ c.if-not-hits.true))
-
-pub loop-k-preserved-then-not-hits : goal.loop-k-preserved-then-not-hits
-loop-k-preserved-then-not-hits c =
-    let a = c.args in
-    let l = c.loop-k in
-    let d = get_or a.ds.now l.k (pos 0) in
-    let W = raised (back w32 a.by) a.vs.now in
-    let hit = c.hits.ensures ∙ ap (among W) (returned {z = d} c.d-1.given) in
-    let seen = c.hits-then-hits.ensures ∙ ap₂ among l.invariant.3 (returned {z = d} c.d-1.given) in
-    let w = pushed l.invariant.4 (each_yes a.first a.ds.now W l.k c.loop-k-test.true (sym hit ∙ c.if-hits.true) (sym seen ∙ c.if-not-hits.true)) c.d-1.given c.push-n.ensures in
-    let k = kept w in
-    (search rules, k.0, k.1, ints_more a.ds.now l.k c.loop-k-test.true c.d-1.given l.invariant.3, w)
-
-pub loop-k-preserved-else-not-hits : goal.loop-k-preserved-else-not-hits
-loop-k-preserved-else-not-hits c =
-    let a = c.args in
-    let l = c.loop-k in
-    let d = get_or a.ds.now l.k (pos 0) in
-    let W = raised (back w32 a.by) a.vs.now in
-    let hit = c.hits.ensures ∙ ap (among W) (returned {z = d} c.d-1.given) in
-    let seen = c.hits-then-hits.ensures ∙ ap₂ among l.invariant.3 (returned {z = d} c.d-1.given) in (
-      search rules,
-      l.invariant.1,
-      l.invariant.2,
-      ints_more a.ds.now l.k c.loop-k-test.true c.d-1.given l.invariant.3,
-      turn l.invariant.4 (each_seen a.first a.ds.now W l.k c.loop-k-test.true (sym hit ∙ c.if-hits.true) (sym seen ∙ c.if-not-hits.false)),
-    )
+    let hit = c.hits.ensures ∙ ap (among W) (returned b) in
+    let seen = c.hits-then-hits.ensures ∙ ap₂ among l.invariant.ints (returned b) in
+    has_room l.invariant.writing (each_yes a.first a.ds.now W l.k c.loop-k-test.true (sym hit ∙ c.if-hits.true) (sym seen ∙ c.if-not-hits.true))
 
 pub loop-k-preserved : goal.loop-k-preserved
 loop-k-preserved c =
     let a = c.args in
     let l = c.loop-k in
+    let i = l.invariant in
     let d = get_or a.ds.now l.k (pos 0) in
+    let b : mag d < 2 ^ 31 = omega arith in
     let W = raised (back w32 a.by) a.vs.now in
-    let hit = c.hits.ensures ∙ ap (among W) (returned {z = d} c.d-1.given) in
-    (search rules, l.invariant.1, l.invariant.2, ints_more a.ds.now l.k c.loop-k-test.true c.d-1.given l.invariant.3, turn l.invariant.4 (each_no a.first a.ds.now W l.k c.loop-k-test.true (sym hit ∙ c.if-hits.false)))
+    let hit = c.hits.ensures ∙ ap (among W) (returned b) in
+    elim c.if-hits.branch [
+      | then-hits+then-not-hits w ↦
+          let seen = w.hits-then-hits.ensures ∙ ap₂ among i.ints (returned b) in
+          let h = each_yes a.first a.ds.now W l.k c.loop-k-test.true (sym hit ∙ w.if-hits.true) (sym seen ∙ w.if-not-hits.true) in
+          record {
+            ints = ints_more a.ds.now l.k c.loop-k-test.true b i.ints;
+            same = rw w.out-is (w.push-n.ensures.1.0 ∙ i.same.0, w.push-n.ensures.1.1 ∙ i.same.1);
+            writing = rw (w.out-is, w.n-is) (pushed i.writing h b w.push-n.ensures.0);
+          }
+      | else-hits w ↦ record {
+        ints = ints_more a.ds.now l.k c.loop-k-test.true b i.ints;
+        same = rw w.out-is i.same;
+        writing = rw (w.out-is, w.n-is) (elim w.else-hits.branch [
+          | else-hits-via-then-hits+else-not-hits x ↦
+              let seen = x.hits-then-hits.ensures ∙ ap₂ among i.ints (returned b) in
+              turn i.writing (each_seen a.first a.ds.now W l.k c.loop-k-test.true (sym hit ∙ x.if-hits.true) (sym seen ∙ x.if-not-hits.false))
+          | else-hits-via-else-hits x ↦ turn i.writing (each_no a.first a.ds.now W l.k c.loop-k-test.true (sym hit ∙ x.if-hits.false))
+        ]);
+      }
+    ]
 
 pub returns : goal.returns
 returns c =
     let a = c.args in
-    let l = c.loop-k in
-    stored_read a.first a.by a.ds.now a.vs.now c.ranges.by
-    (stored l.invariant.4 (chosen_end (a.first + l.k) l.k (take l.k a.ds.now) a.ds.now (raised (back w32 a.by) a.vs.now) c.loop-k-test.false))
+    let l = c.loop-k in (
+      stored_read a.first a.by a.ds.now a.vs.now c.ranges.by
+          (stored l.invariant.writing (chosen_end (a.first + l.k) l.k (take l.k a.ds.now) a.ds.now (raised (back w32 a.by) a.vs.now) c.loop-k-test.false)),
+      l.invariant.same,
+    )

@@ -1,18 +1,15 @@
--- `increment_search::search_each` meets its contract: what is left to be stored is what is chosen of the definition's values from cursor k
--- on, those before it being the first k. Assumes nothing.
-use mathlib.Core.List.{[]}
-use mathlib.Core.Path.{◌≡◌}
-use Prim.Native.Nat.{◌+◌, ◌-◌, ◌≤◌}
-use lib.IntN.{pos}
-use lib.ListN.{length, take, drop}
-use Rattle.list_definitions.specs.Search.{raised, chosen}
+-- `increment_search::search_each` meets its contract: what is left to store is what is chosen of the definition's values from place k on,
+-- those before it being the first k. Assumes nothing.
+use Rattle.std.proofs.Common.{◌≡◌, [], ◌+◌, pos, take, drop}
+use Rattle.ink_list.specs.Lists.{Same}
 use Rattle.ink_list.proofs.Output.{Writing}
+use Rattle.list_definitions.specs.Search.{raised, chosen}
 use Rattle.increment_search.proofs.search_each.Given as goal
 
 abbrev pub invariant-loop-k : goal.invariant-loop-k
-invariant-loop-k l =
-    (l.k ≤ length l.ds) × (length l.oi ≡ length l.initial.oi) × (length l.ov ≡ length l.initial.ov) × (raised (pos 0) (take l.k l.ds) ≡ take l.k l.ds)
-    × Writing l.at (chosen l.first [] l.ds (raised l.by l.vs)) l.n (chosen (l.first + l.k) (take l.k l.ds) (drop l.k l.ds) (raised l.by l.vs)) l.initial.oi l.oi l.initial.ov l.ov
-
-abbrev pub decreases-loop-k : goal.decreases-loop-k
-decreases-loop-k l = length l.ds - l.k
+invariant-loop-k l = record {
+  ints : raised (pos 0) (take l.k l.ds) ≡ take l.k l.ds;
+  same : Same l.initial.out l.out;
+  writing : Writing l.at (chosen l.first [] l.ds (raised l.by l.vs)) l.n (chosen (l.first + l.k) (take l.k l.ds) (drop l.k l.ds) (raised l.by l.vs))
+      l.initial.out.items.now l.out.items.now l.initial.out.values.now l.out.values.now;
+}

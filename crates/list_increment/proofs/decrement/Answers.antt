@@ -17,6 +17,9 @@ less (negsuc a) = ap pos (mul-one (suc a))
 pub returns : goal.returns
 returns c =
     let a = c.args in
-    wrote_lower a.ends.now a.defined.now a.set a.by (entries a.ai.now a.av.now)
-    (returned c.wrapping_mul.type_inv ∙ c.wrapping_mul.ensures ∙ read (λ (z : ℤ). wrap (z *ℤ negsuc 0)) a.by c.ranges.by ∙ ap wrap (less a.by))
-    c.increment.ensures
+    let d = a.definitions in (
+      wrote_lower d.ends.now d.defined.now a.set a.by (entries a.a.items.now a.a.values.now)
+          (returned c.wrapping_mul.type_inv ∙ c.wrapping_mul.ensures ∙ read (λ (z : ℤ). wrap (z *ℤ negsuc 0)) a.by c.ranges.by ∙ ap wrap (less a.by))
+          c.increment.ensures.0,
+      c.increment.ensures.1,
+    )

@@ -1,28 +1,35 @@
 -- `list_operators::list` meets its contract: the entries, and the origin set that goes with them. Assumes nothing.
-use mathlib.Core.Path.{sym, ap}
-use mathlib.Core.List.{List}
+use mathlib.Core.Path.{ap}
 use Prim.Native.Nat.{ℕ}
 use native.Mathlib.Omega.{arith}
-use lib.Seq.{length-take-le}
+use Rattle.std.proofs.Common.{length-take}
 use Rattle.ink_value.specs.Value.{first_of}
 use Rattle.ink_value.proofs.ReadBack.{first_wf}
 use Rattle.ink_value.specs.declared.Value.TheVariants as Is
-use Rattle.list_operators.specs.Lists.{definitions}
-use Rattle.list_operators.proofs.Listing.{short, rises, makes}
+use Rattle.list_operators.specs.Lists.{definitions_of}
+use Rattle.list_operators.proofs.Listing.{written, rises, makes}
 use Rattle.list_operators.proofs.list.Goals as goal
 
-pub slice_bounds-origins_after-end : goal.slice_bounds-origins_after-end
-slice_bounds-origins_after-end c =
-    omega (arith, short (definitions c.args.ends.now c.args.defined.now c.args.limit) c.requires.room.within c.args.op (first_of c.args.items.now c.args.values.now c.args.count c.args.a c.args.b c.args.c) (first_wf c.args.limit c.args.items.now c.args.values.now c.args.count c.args.a c.args.b c.args.c c.requires.first_formed) c.entries_for-n.ensures, c.requires.room)
-
-pub slice_bounds-origins_after-end-2 : goal.slice_bounds-origins_after-end-2
-slice_bounds-origins_after-end-2 c =
-    sym (length-take-le c.entries_for-n.result _ (omega (arith, short (definitions c.args.ends.now c.args.defined.now c.args.limit) c.requires.room.within c.args.op (first_of c.args.items.now c.args.values.now c.args.count c.args.a c.args.b c.args.c) (first_wf c.args.limit c.args.items.now c.args.values.now c.args.count c.args.a c.args.b c.args.c c.requires.first_formed) c.entries_for-n.ensures, c.requires.room)))
+pub first_items-items-requires : goal.first_items-items-requires
+first_items-items-requires c =
+    let e = written (definitions_of c.args.definitions c.args.limit) c.args.op _ c.entries_for-len.ensures.0 in
+    omega (arith, e, length-take {A = ℕ})
 
 pub origins_after-origins-requires : goal.origins_after-origins-requires
 origins_after-origins-requires c =
-    (rises (definitions c.args.ends.now c.args.defined.now c.args.limit) c.requires.room.within c.args.op (first_of c.args.items.now c.args.values.now c.args.count c.args.a c.args.b c.args.c) (first_wf c.args.limit c.args.items.now c.args.values.now c.args.count c.args.a c.args.b c.args.c c.requires.first_formed) c.entries_for-n.ensures c.requires.room.small, c.requires.room.few)
+    let a = c.args in (
+      rw c.first_items-items.ensures
+          (rises (definitions_of a.definitions a.limit) c.requires.room.within a.op (first_of a.items.now a.values.now a.count a.a a.b a.c)
+          (first_wf a.limit a.items.now a.values.now a.count a.a a.b a.c c.requires.first_formed) c.entries_for-len.ensures.0 c.requires.room.small),
+      c.requires.room.few,
+    )
 
 pub returns : goal.returns
 returns c =
-    makes (definitions c.args.ends.now c.args.defined.now c.args.limit) c.requires.room.within c.args.op (first_of c.args.items.now c.args.values.now c.args.count c.args.a c.args.b c.args.c) (first_wf c.args.limit c.args.items.now c.args.values.now c.args.count c.args.a c.args.b c.args.c c.requires.first_formed) c.entries_for-n.ensures _ (ap (λ (o : ℕ). Is.List o 0 c.entries_for-n.result) (c.origins_after-origins.ensures c.args.items.now c.args.values.now c.args.c))
+    let a = c.args in (
+      makes (definitions_of a.definitions a.limit) c.requires.room.within a.op (first_of a.items.now a.values.now a.count a.a a.b a.c)
+          (first_wf a.limit a.items.now a.values.now a.count a.a a.b a.c c.requires.first_formed) c.entries_for-len.ensures.0 _
+          (ap (λ (o : ℕ). Is.List o 0 c.entries_for-len.result)
+          (rw c.first_items-items.ensures at (c.origins_after-origins.ensures a.items.now a.values.now a.c))),
+      c.entries_for-len.ensures.1,
+    )

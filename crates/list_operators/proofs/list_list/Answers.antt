@@ -7,8 +7,8 @@ use Rattle.list_operators.proofs.list_list.Goals as goal
 pub merge_held-requires : goal.merge_held-requires
 merge_held-requires c =
     record {
-      spans = rw (c.start_of-i.ensures, c.len_of-m.ensures) c.requires.formed;
-      spans_2 = rw (c.start_of-j.ensures, c.len_of-n.ensures) c.requires.formed_2;
+      spans_a = rw (c.start_of-i.ensures, c.len_of-m.ensures) c.requires.formed_a;
+      spans_b = rw (c.start_of-j.ensures, c.len_of-n.ensures) c.requires.formed_b;
     }
 
 pub returns : goal.returns
@@ -16,5 +16,7 @@ returns c =
     let is = c.args.items.now in
     let vs = c.args.values.now in
     λ limit a b.
-    wrote_is (ap2 (merge_l limit c.args.op) (entries_in_lem is vs c.args.a) (entries_in_lem is vs c.args.b))
-    (rw (c.start_of-i.ensures, c.len_of-m.ensures, c.start_of-j.ensures, c.len_of-n.ensures) at (c.merge_held.ensures limit) a b)
+    let w = rw (c.start_of-i.ensures, c.len_of-m.ensures, c.start_of-j.ensures, c.len_of-n.ensures) at (c.merge_held.ensures limit) a b in (
+      wrote_is (ap2 (merge_l limit c.args.op) (entries_in_lem is vs c.args.a) (entries_in_lem is vs c.args.b)) w.0,
+      w.1,
+    )

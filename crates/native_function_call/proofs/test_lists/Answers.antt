@@ -14,10 +14,10 @@ use Rattle.native_function_call.proofs.InParts.{parts_entries, spans_cut}
 use Rattle.native_function_call.proofs.test_lists.Goals as goal
 
 pub test_held-requires : goal.test_held-requires
-test_held-requires c = (
-  spans_cut c.args.items.now c.args.values.now c.args.ka c.args.sa c.args.na _ c.len_from.ensures c.requires.0,
-  spans_cut c.args.items.now c.args.values.now c.args.kb c.args.sb c.args.nb _ c.len_from-in_default.ensures c.requires.1,
-)
+test_held-requires c = record {
+  spans_a = spans_cut c.args.items.now c.args.values.now c.args.ka c.args.sa c.args.na _ c.len_from.ensures c.requires.0;
+  spans_b = spans_cut c.args.items.now c.args.values.now c.args.kb c.args.sb c.args.nb _ c.len_from-in_default.ensures c.requires.1;
+}
 
 pub returns-in-13 : goal.returns-in-13
 unfolding test_lists

@@ -1,5 +1,5 @@
 -- `operating::list_through` meets its contract: the list is read back from where its operator wrote it, and put in its place. Assumes nothing.
-use native.Mathlib.Omega.{arith}
+use Rattle.std.proofs.Common.{refl, arith, rules}
 use Prim.Native.Nat.{zero-le}
 use Rattle.ink_list.specs.Entries.{item_numbers}
 use Rattle.ink_value.proofs.Reading.{few_in, formed_limit}
@@ -19,14 +19,22 @@ overflow_mul-to c = omega (arith, place_fits c.args.format c.args.place 0 c.requ
 
 pub store-requires : goal.store-requires
 store-requires c =
-    let f = made_formed c.args.format _ _ c.args.op _ _ _ _ _ _ _ _ _ _ _ c.list-v.ensures c.requires.pack_lists.0 c.requires.first_formed c.requires.limit_in_bounds.0 c.requires.limit_in_bounds.1 in
-    let g = place_fits c.args.format c.args.place _ c.requires.pack_lists.4 (few_in c.args.format.limit _ _ c.list-v.result f) in
+    let p = c.requires.pack_lists in
+    let f = made_formed c.args.format c.args.ends.now c.args.defined.now c.args.op _ _ _ _ _ _ _ _ _ _ _ c.list-v.ensures.0 p.0 c.requires.first_formed c.requires.limit_in_bounds.0
+    c.requires.limit_in_bounds.1 refl refl in
+    let g = place_fits c.args.format c.args.place _ p.4 (few_in c.args.format.limit _ _ c.list-v.result f) in
     record {
-      formed = formed_limit c.args.format.limit _ _ item_numbers c.list-v.result (omega (arith, c.requires.pack_lists.1.format.few)) f;
-      v_in_bounds = (omega (arith, g, c.requires.pack_lists.1.items_room), omega (arith, g, c.requires.pack_lists.1.values_room));
+      formed =
+          formed_limit c.args.format.limit _ _ item_numbers c.list-v.result (omega (arith, p.1.format.few))
+          (made_formed c.args.format c.args.ends.now c.args.defined.now c.args.op _ _ _ _ _ _ _ _ _ _ _ c.list-v.ensures.0 p.0 c.requires.first_formed c.requires.limit_in_bounds.0
+          c.requires.limit_in_bounds.1 (search rules) (search rules));
+      v_in_bounds = (omega (arith, g, p.1.items_room), omega (arith, g, p.1.values_room));
     }
 
 pub returns : goal.returns
 returns c =
-    let f = made_formed c.args.format _ _ c.args.op _ _ _ _ _ _ _ _ _ _ _ c.list-v.ensures c.requires.pack_lists.0 c.requires.first_formed c.requires.limit_in_bounds.0 c.requires.limit_in_bounds.1 in
-    made_put c.list-v.ensures (c.store.ensures c.args.format f)
+    made_put c.list-v.ensures.0
+    (c.store.ensures c.args.format
+    (made_formed c.args.format c.args.ends.now c.args.defined.now c.args.op _ _ _ _ _ _ _ _ _ _ _ c.list-v.ensures.0 c.requires.pack_lists.0 c.requires.first_formed
+    c.requires.limit_in_bounds.0 c.requires.limit_in_bounds.1 (search rules) (search rules)))
+    (search rules) (search rules)

@@ -1,7 +1,16 @@
 -- `operating::store` meets its contract: a list's entries copied, and any other value as it is. Assumes nothing.
-use mathlib.Core.Path.{refl, sym, ◌∙◌}
+use Rattle.std.proofs.Common.{refl, sym, ap, rules, ◌∙◌, arith, length}
+use Rattle.ink_value.specs.Value.{start_of, len_of}
+use Rattle.slices.proofs.Filled.{length_part}
 use Rattle.operating.proofs.Putting.{put_plain, put_copied}
 use Rattle.operating.proofs.store.Goals as goal
+
+pub append-requires : goal.append-requires
+append-requires c =
+    let a = c.args in
+    let e = length_part (start_of a.v) (len_of a.v) a.items.now c.requires.formed.items_in in
+    let h = c.entries_of-list.ensures.items in
+    omega (arith, e, ap length h)
 
 pub returns-then-kind-ne-LIST : goal.returns-then-kind-ne-LIST
 returns-then-kind-ne-LIST c =
@@ -9,4 +18,7 @@ returns-then-kind-ne-LIST c =
 
 pub returns : goal.returns
 returns c =
-    λ F f. put_copied F c.args.items.now c.args.values.now c.args.v f c.start_of-start.result c.len_of-len.result c.args.to c.start_of-start.ensures c.len_of-len.ensures _ _ _ _ c.requires.v_in_bounds.0 c.requires.v_in_bounds.1 _ c.copy_rest.ensures c.origins_in-origins.result _ c.origins_in-origins.ensures (sym c.kind.ensures.0 ∙ c.if-kind-ne-LIST.false) refl
+    let a = c.args in
+    λ F f. put_copied F a.items.now a.values.now a.v f a.to c.append.result
+    (rw (c.entries_of-list.ensures.items, c.entries_of-list.ensures.values) at c.append.ensures.0)
+    c.origins_in.result c.len_of.result c.origins_in.ensures c.len_of.ensures (sym c.kind.ensures.0 ∙ c.if-kind-ne-LIST.false) refl (search rules) (search rules)

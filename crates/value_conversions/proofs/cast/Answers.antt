@@ -13,8 +13,8 @@ convert-requires c = (c.requires, ap (castable c.args.to) (sym c.kind.ensures.0)
 
 pub returns-then-castable : goal.returns-then-castable
 unfolding cast
-returns-then-castable c = gave_is (ap (λ (t : Bool). cond t (gives (converted c.args.to (val_of c.args.items.now c.args.values.now c.args.v))) (refuses 18)) (ap (castable c.args.to) (code_of_lem c.args.items.now c.args.values.now c.args.v ∙ sym c.kind.ensures.0) ∙ sym c.castable.ensures ∙ c.if-castable.true)) c.convert.ensures
+returns-then-castable c = (gave_is (ap (λ (t : Bool). cond t (gives (converted c.args.to (val_of c.args.items.now c.args.values.now c.args.v))) (refuses 18)) (ap (castable c.args.to) (code_of_lem c.args.items.now c.args.values.now c.args.v ∙ sym c.kind.ensures.0) ∙ sym c.castable.ensures ∙ c.if-castable.true)) c.convert.ensures.0, c.convert.ensures.1)
 
 pub returns : goal.returns
 unfolding cast
-returns c = gave_is (ap (λ (t : Bool). cond t (gives (converted c.args.to (val_of c.args.items.now c.args.values.now c.args.v))) (refuses 18)) (ap (castable c.args.to) (code_of_lem c.args.items.now c.args.values.now c.args.v ∙ sym c.kind.ensures.0) ∙ sym c.castable.ensures ∙ c.if-castable.false)) (gave_plain (refuses 18) _ _ _ refl refl)
+returns c = (gave_is (ap (λ (t : Bool). cond t (gives (converted c.args.to (val_of c.args.items.now c.args.values.now c.args.v))) (refuses 18)) (ap (castable c.args.to) (code_of_lem c.args.items.now c.args.values.now c.args.v ∙ sym c.kind.ensures.0) ∙ sym c.castable.ensures ∙ c.if-castable.false)) (gave_plain (refuses 18) _ _ _ refl refl), (refl, refl))
