@@ -23,15 +23,16 @@ impl<'a> EntriesMut<'a> {
         n + 1
     }
 
-    // Stores a list's entries from place n on; the next place.
+    // Stores a list's entries from place n on; the next place. `copy_from_slice` is a call for each slice, which short lists wait for.
     pub fn append(&mut self, n: usize, a: Entries<'_>) -> usize
         requires { n + length a.items.now ≤ places self.old }
         ensures { AppendsTo n (list_of a.entry) result self.old self.new }
     {
-        let end = n + a.items.len();
-        self.items[n..end].copy_from_slice(a.items);
-        self.values[n..end].copy_from_slice(a.values);
-        end
+        let mut next = n;
+        for (i, x) in a.items.iter().enumerate() {
+            next = self.push(next, *x, a.values[i]);
+        }
+        next
     }
 
     // Stores a list's entries from the start; their count.

@@ -16,14 +16,6 @@ module _ {A : Type 0} where
   unfolding fill
   fill_nothing at l = rw (add-zero at) (ap (λ (r : List A). r ++ drop at l) (append-nil (take at l)) ∙ take-append-drop at l)
 
-  -- a part that was written whole, by place `at` and the place after it
-  pub filled_part : (at e : ℕ) (xs l : List A) → e ≡ at + length xs → take at l ++ (xs ++ drop (e - at) (drop at l)) ≡ fill at xs l
-  unfolding fill
-  filled_part at e xs l h =
-      sym (append_assoc (take at l) xs (drop (e - at) (drop at l)))
-      ∙ ap (λ (r : List A). take at l ++ xs ++ r)
-      (drop-drop (e - at) at l ∙ ap (λ (k : ℕ). drop k l) (omega (arith, h)))
-
   module _ (at : ℕ) (xs l : List A) (fits : at + length xs ≤ length l) where
     -- what has been written, with what is before it
     head : length (take at l ++ xs) ≡ at + length xs
