@@ -2,44 +2,41 @@
 #![tactic(auto)]
 
 ghost use Rattle.std.specs.Prelude.{◌≡◌};
-ghost use Rattle.answer_words.specs.Answers.{ran_number, ran_words, SmallRan, vetted_number, vetted_index};
+ghost use Rattle.machine.specs.Ended.{end_of};
+ghost use Rattle.answer_words.specs.Answers.{end_number, ran_words, SmallRan, vetted_index};
 
-use running::Ran;
-use value_words::number;
-use vet_program::Vetted;
+use ink_value::Value;
+use machine::Stop;
 
 // A run's answer.
-pub fn ran(r: Ran, answer: &mut [u64; 3]) -> u32
-    requires { SmallRan r }
-    ensures { (result ≡ ran_number r) × (answer.new ≡ ran_words r) }
+pub fn ran(r: Result<Value, Stop>, answer: &mut [u64; 3]) -> u32
+    requires { SmallRan (end_of r) }
+    ensures { (result ≡ end_number (end_of r)) × (answer.new ≡ ran_words (end_of r)) }
 {
     match r {
-        Ran::Ended(v) => {
+        Ok(v) => {
             words_out::put_value(answer, v);
             0
         }
-        Ran::Stopped { number: n, index } => {
-            words_out::put_index(answer, index);
-            number(n)
+        Err(stop) => {
+            words_out::put_index(answer, stop.index);
+            u32::from(stop.question.number())
         }
     }
 }
 
 // Vetting's answer.
-pub fn vetted(v: Vetted, index: &mut u64) -> u32
-    ensures { (result ≡ vetted_number v) × (index.new ≡ vetted_index v) }
+pub fn vetted(v: Result<usize, Stop>, index: &mut u64) -> u32
+    ensures { (result ≡ end_number (end_of v)) × (index.new ≡ vetted_index (end_of v)) }
 {
     match v {
-        Vetted::Passed { count } => {
+        Ok(count) => {
             *index = count as u64;
             0
         }
-        Vetted::Refused {
-            number: n,
-            index: at,
-        } => {
-            *index = at as u64;
-            number(n)
+        Err(stop) => {
+            *index = stop.index as u64;
+            u32::from(stop.question.number())
         }
     }
 }

@@ -1,2 +1,3 @@
 -- The laws of question 7 of a direct call.
+pub mod Rooms
 pub mod UsedOperands

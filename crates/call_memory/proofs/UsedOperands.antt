@@ -2,16 +2,16 @@
 use mathlib.Core.Path.{◌≡◌, refl, sym, ap, ◌∙◌}
 use mathlib.Core.Bool.{Bool, true, false, cond}
 use mathlib.Core.List.{List, [], ◌∷◌}
-use Prim.Native.Nat.{ℕ, zero, suc, ◌^◌, ◌≤◌, ◌<◌}
+use Prim.Native.Nat.{ℕ, zero, suc, ◌^◌, ◌≤◌}
 use native.Mathlib.Omega.{arith}
-use lib.Dec.{ltb, leb, eqb}
+use lib.Dec.{ltb, eqb}
 use lib.IntN.{ℤ}
 use lib.ListN.{length, take}
 use lib.Pow.{pow_pos}
-use borrow.Author.Tests.{lt-ltb, le-leb, lt-leb, eq-eqb, ne_eqb}
+use borrow.Author.Tests.{lt-ltb, le-leb, eq-eqb, ne_eqb}
 use Rattle.slices.specs.Every.{◌and◌}
 use Rattle.ink_list.specs.Entries.{bits_below, formed}
-use Rattle.slices.proofs.Every.{and_on, and_true, and_left, and_right, and_no_left, and_no_right}
+use Rattle.slices.proofs.Every.{and_on, and_true, and_left, and_right, and_no_left}
 use Rattle.ink_value.specs.Value.{FirstFormed, formed_in, each_formed, all_formed}
 use Rattle.ink_value.specs.declared.Value.{Value}
 use Rattle.ink_value.proofs.Forming.{formed_yes}
@@ -45,19 +45,11 @@ kept_formed total d is vs (suc (suc (suc (suc n)))) a b c =
 
 -- ---- question 7, as the code asks it
 
--- question 7 of the operands, where the result slices are long enough
-pub rooms : (f : Bool) (m n limit : ℕ) → limit ≤ m → limit ≤ n → f and (leb limit m and leb limit n) ≡ f
-unfolding ◌and◌
-rooms f m n limit h k = rw (le-leb limit m h, le-leb limit n k) (and_true f)
-
--- where the first is not
-pub short_items : (f : Bool) (m n limit : ℕ) → m < limit → false ≡ f and (leb limit m and leb limit n)
-short_items f m n limit h = sym (and_no_right _ _ (and_no_left _ _ (lt-leb limit m h)))
+-- where the two slices are not equally long
+pub uneven : (m n : ℕ) (f : Bool) → (m ≡ n → ⊥) → false ≡ eqb m n and f
+uneven m n f h = sym (and_no_left _ _ (ne_eqb m n h))
 
 module _ (total d : ℕ) (is : List ℕ) (vs : List ℤ) where
-  pub unlike_long : (l : List Value) → (length is ≡ length vs → ⊥) → all_formed total d is vs l ≡ false
-  unlike_long l h = and_no_left _ _ (ne_eqb (length is) (length vs) h)
-
   module _ (long : length is ≡ length vs) where
     pub all_one : (v : Value) → all_formed total d is vs (v ∷ []) ≡ formed_in total d is vs v
     all_one v = and_on _ _ (eq-eqb (length is) (length vs) long) ∙ and_true (formed_in total d is vs v)

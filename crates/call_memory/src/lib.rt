@@ -13,16 +13,18 @@ use pack::format::Format;
 use pack_lists::definitions::total_items;
 
 // Question 7 of a value, with its two slices equally long.
+#[tactic(auto, using(crate::proofs::UsedOperands::uneven, crate::proofs::UsedOperands::all_one))]
 fn one_formed(v: Value, items: &[u16], values: &[i32], total: usize, definitions: usize) -> bool
     ensures { result ≡ formed_in total definitions items values (v ∷ []) }
 {
     if items.len() != values.len() {
         return false;
     }
-    ink_value::is_formed(v, items, values, total, definitions)
+    v.is_formed(items, values, total, definitions)
 }
 
 // The same of three.
+#[tactic(auto, using(crate::proofs::UsedOperands::uneven))]
 fn three_formed(
     a: Value,
     b: Value,
@@ -37,13 +39,13 @@ fn three_formed(
     if items.len() != values.len() {
         return false;
     }
-    if !ink_value::is_formed(a, items, values, total, definitions) {
+    if !a.is_formed(items, values, total, definitions) {
         return false;
     }
-    if !ink_value::is_formed(b, items, values, total, definitions) {
+    if !b.is_formed(items, values, total, definitions) {
         return false;
     }
-    ink_value::is_formed(c, items, values, total, definitions)
+    c.is_formed(items, values, total, definitions)
 }
 
 // An operand that is used, or Void in its place.
@@ -78,7 +80,7 @@ fn used_formed(
 }
 
 // Question 7 of the first `count` of three operands and of result slices of these lengths, which `limit` entries must fit.
-#[tactic(auto, using(crate::proofs::UsedOperands::short_items))]
+#[tactic(auto, using(crate::proofs::Rooms::short_items, crate::proofs::Rooms::short_values, crate::proofs::Rooms::rooms))]
 pub fn lent_well(
     count: usize,
     a: Value,

@@ -3,6 +3,8 @@
 ghost use Rattle.std.specs.Prelude.{◌<◌, ◌≤◌};
 
 use ink_value::Value;
+pub use list_cases::read::byte;
+use list_cases::read::value;
 
 // How many bytes a call takes, and where its parts are.
 pub const CASE: usize = 80;
@@ -27,39 +29,17 @@ pub const PACK_LENGTH: usize = 68;
 
 pub const PACK_START: usize = 69;
 
-fn widen(x: u8) -> usize
-    ensures { result < 256 }
-{
-    x as usize
-}
-
-pub fn byte(s: &[u8], at: usize) -> u8 {
-    if at < s.len() {
-        return s[at];
-    }
-    0
-}
-
 pub fn number(s: &[u8], at: usize) -> usize
     ensures { result < 256 }
 {
-    widen(byte(s, at))
-}
-
-fn word(s: &[u8], at: usize) -> u32
-    requires { at ≤ 80 }
-{
-    (number(s, at)
-        + 256 * number(s, at + 1)
-        + 65536 * number(s, at + 2)
-        + 16777216 * number(s, at + 3)) as u32
+    usize::from(byte(s, at))
 }
 
 fn list(s: &[u8], at: usize) -> Value
     requires { at ≤ 80 }
 {
     Value::List {
-        origins: number(s, at) as u64,
+        origins: u64::from(byte(s, at)),
         start: number(s, at + 1),
         len: number(s, at + 2),
     }
@@ -71,8 +51,8 @@ pub fn operand(s: &[u8], at: usize) -> Value
 {
     match byte(s, at) {
         0 => Value::Bool(byte(s, at + 1) == 1),
-        1 => Value::Int(ink_number::int::signed_of(word(s, at + 1))),
-        2 => Value::Float(float_conversions::float_from_bits(word(s, at + 1))),
+        1 => Value::Int(value(s, at + 1)),
+        2 => Value::Float(float_conversions::float_from_bits(value(s, at + 1).cast_unsigned())),
         3 => list(s, at + 1),
         _ => Value::Void,
     }

@@ -9,9 +9,11 @@ use cases::{
     CASE, COUNT, FIRST, LENT, PACK_LENGTH, PACK_START, RESULTS, SECOND, THIRD, WHAT, WHICH, byte,
     number, operand,
 };
-use ink_value::{Outcome, Value};
-use output_buffer::Output;
-use test_output::{entry, text};
+use ink_number::question::Question;
+use ink_value::{Kind, Value};
+use op::Op;
+use printing::{Refused, Shown};
+use test_output::{bytes, entry, print, println};
 
 // A pack of two definitions, of the values 1, 2, 3 and of 10, 20.
 const PACK: [u8; 34] = [
@@ -29,31 +31,30 @@ const UNWRITTEN_ITEM: u16 = 9999;
 
 const UNWRITTEN_VALUE: i32 = 9999;
 
-fn written(r: Outcome) -> usize {
+fn written(r: Result<Value, Question>) -> usize {
     match r {
-        Outcome::Value(v) => ink_value::len_of(v),
-        Outcome::Refused(_) => 0,
+        Ok(v) => v.len_of(),
+        Err(_) => 0,
     }
 }
 
-fn show(r: Outcome, items: &[u16], values: &[i32]) {
-    let mut out = io::buffer();
+fn show(r: Result<Value, Question>, items: &[u16], values: &[i32]) {
     match r {
-        Outcome::Value(v) => printing::value(Output::new(), &mut out, v, items, values).flush(&out),
-        Outcome::Refused(number) => printing::refused(Output::new(), &mut out, number).flush(&out),
-    };
+        Ok(value) => print(Shown {
+            value,
+            items,
+            values,
+        }),
+        Err(question) => print(Refused(question)),
+    }
 }
 
 // The place after the first n entries.
 fn place_after(n: usize, items: &[u16], values: &[i32]) {
-    if items.len() <= n {
-        return;
+    if let (Some(item), Some(value)) = (items.get(n), values.get(n)) {
+        print(" then");
+        entry(*item, *value);
     }
-    if values.len() <= n {
-        return;
-    }
-    text(b" then");
-    entry(items[n], values[n]);
 }
 
 fn print_name(s: &[u8]) {
@@ -61,16 +62,16 @@ fn print_name(s: &[u8]) {
     if s.len() < end {
         return;
     }
-    text(&s[1..end]);
-    text(b":");
+    bytes(&s[1..end]);
+    print(":");
 }
 
 // The line of a call that has result slices.
-fn report(s: &[u8], r: Outcome, items: &[u16], values: &[i32]) {
+fn report(s: &[u8], r: Result<Value, Question>, items: &[u16], values: &[i32]) {
     print_name(s);
     show(r, items, values);
     place_after(written(r), items, values);
-    text(b"\n");
+    println("");
 }
 
 fn call_into(s: &[u8], pack: &[u8], values: &[i32], oi: &mut [u16], ov: &mut [i32]) {
@@ -78,7 +79,8 @@ fn call_into(s: &[u8], pack: &[u8], values: &[i32], oi: &mut [u16], ov: &mut [i3
     let b = operand(s, SECOND);
     let c = operand(s, THIRD);
     let count = number(s, COUNT);
-    let r = calls::call(pack, byte(s, WHICH), count, a, b, c, &ITEMS, values, oi, ov);
+    let op = Op::numbered(byte(s, WHICH));
+    let r = calls::call(pack, op, count, a, b, c, &ITEMS, values, oi, ov);
     report(s, r, oi, ov);
 }
 
@@ -121,14 +123,21 @@ fn cast(s: &[u8]) {
     let mut oi = [UNWRITTEN_ITEM; 256];
     let mut ov = [UNWRITTEN_VALUE; 256];
     let v = operand(s, FIRST);
-    let r = calls::cast(&PACK, byte(s, WHICH), v, &ITEMS, &VALUES, &mut oi, &mut ov);
+    let to = Kind::coded(byte(s, WHICH));
+    let r = calls::cast(&PACK, to, v, &ITEMS, &VALUES, &mut oi, &mut ov);
     report(s, r, &oi, &ov);
 }
 
-fn coerced(pack: &[u8], to: u8, v: Value, items: &[u16], values: &[i32]) -> Outcome {
+fn coerced(
+    pack: &[u8],
+    to: Kind,
+    v: Value,
+    items: &[u16],
+    values: &[i32],
+) -> Result<Value, Question> {
     match to {
-        0 => calls::coerce_to_bool(pack, v, items, values),
-        1 => calls::coerce_to_int(pack, v, items, values),
+        Kind::Bool => calls::coerce_to_bool(pack, v, items, values),
+        Kind::Int => calls::coerce_to_int(pack, v, items, values),
         _ => calls::coerce_to_float(pack, v, items, values),
     }
 }
@@ -137,10 +146,11 @@ fn coerced(pack: &[u8], to: u8, v: Value, items: &[u16], values: &[i32]) -> Outc
 fn coerce(s: &[u8]) {
     let items = ITEMS;
     let values = VALUES;
-    let r = coerced(&PACK, byte(s, WHICH), operand(s, FIRST), &items, &values);
+    let to = Kind::coded(byte(s, WHICH));
+    let r = coerced(&PACK, to, operand(s, FIRST), &items, &values);
     print_name(s);
     show(r, &items, &values);
-    text(b"\n");
+    println("");
 }
 
 fn work(s: &[u8]) {
@@ -152,11 +162,8 @@ fn work(s: &[u8]) {
 }
 
 fn work_all(s: &[u8]) {
-    let mut at = 0;
-    while CASE <= s.len() - at {
-        let end = at + CASE;
-        work(&s[at..end]);
-        at = end;
+    for case in s.chunks_exact(CASE) {
+        work(case);
     }
 }
 

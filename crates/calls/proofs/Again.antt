@@ -21,7 +21,6 @@ use Rattle.ink_value.specs.Convert.{entries_of}
 use Rattle.ink_value.specs.Value.{val_of, placed_val, written, Gave, formed_in, InPack, GivesInPack}
 use Rattle.ink_value.specs.declared.Value.{Value}
 use Rattle.ink_value.specs.declared.Value.TheVariants as Is
-use Rattle.ink_value.specs.declared.Outcome.TheVariants as Out
 use Rattle.native_function_call.specs.Apply.{call}
 use Rattle.pack.specs.Bodies.{Pack}
 use Rattle.pack.specs.declared.format.Format.{Format}
@@ -61,12 +60,12 @@ module _ (F : Format) (p is : List ℕ) (vs : List ℤ) (oi : List ℕ) (ov : Li
       go false q h = let z : ◌≡◌ {A = ℕ} 0 1 = cc in absurd (omega arith)
 
   pub call_again : (d : Pack) → judge F p ≡ gives d → (v : Value) (oi' : List ℕ) (ov' : List ℤ)
-      → Gave (on_pack F p (called is vs oi ov o n l)) (Out.Value v) oi oi' ov ov' → formed_in (length (defined_of d)) (length (ends_of d)) oi' ov' v ≡ true
+      → Gave (on_pack F p (called is vs oi ov o n l)) (gives v) oi oi' ov ov' → formed_in (length (defined_of d)) (length (ends_of d)) oi' ov' v ≡ true
   call_again d e v oi' ov' g =
       go (called is vs oi ov o n l (definitions_of d F)) refl
       (rw e at g) (rw e at (call_formed F p is vs oi ov o n l d e)) (rw e at (call_few F p is vs oi ov o n l))
     where
-      go : (a : Answer Val) → called is vs oi ov o n l (definitions_of d F) ≡ a → Gave a (Out.Value v) oi oi' ov ov'
+      go : (a : Answer Val) → called is vs oi ov o n l (definitions_of d F) ≡ a → Gave a (gives v) oi oi' ov ov'
           → GivesInPack (length (defined_of d)) (length (ends_of d)) a → length (written a) ≤ F.limit
           → formed_in (length (defined_of d)) (length (ends_of d)) oi' ov' v ≡ true
       go (gives x) q w h few =

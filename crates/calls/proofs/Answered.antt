@@ -11,7 +11,6 @@ use Rattle.ink_number.specs.Answer.{Answer, gives}
 use Rattle.slices.specs.Every.{◌and◌}
 use Rattle.ink_value.specs.Val.{Val}
 use Rattle.ink_value.specs.Value.{val_of, placed, written, Gave}
-use Rattle.ink_value.specs.declared.Outcome.{Outcome}
 use Rattle.ink_value.specs.declared.Value.{Value}
 use Rattle.operator_kinds.specs.Kinds.{known, arity}
 use Rattle.native_function_call.specs.Apply.{apply_op, call}
@@ -30,7 +29,7 @@ unfolding called call ◌and◌
 answered F p is vs oi ov d op n l passed operands results is_Known takes = rw (passed, operands, results, is_Known, takes, eq-eqb n n refl)
 
 -- no List: it is returned, and the result slices are as they were
-pub returned : {x : Answer Val} {r : Outcome} {oi oi' : List ℕ} {ov ov' : List ℤ} (y : Answer Val) → x ≡ y → written y ≡ []
+pub returned : {x : Answer Val} {r : Answer Value} {oi oi' : List ℕ} {ov ov' : List ℤ} (y : Answer Val) → x ≡ y → written y ≡ []
     → Returned x r oi oi' ov ov' → (r ≡ placed y) × (oi' ≡ oi) × (ov' ≡ ov)
 returned {x} {r} {oi} {oi'} {ov} {ov'} y e none w =
     let gave : Gave y r oi oi' ov ov' = subst (λ (a : Answer Val). Gave a r oi oi' ov ov') e w.gave in

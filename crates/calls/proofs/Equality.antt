@@ -22,8 +22,6 @@ use Rattle.ink_list.proofs.Rests.{items_entries}
 use Rattle.list_definitions.specs.Defs.{ListDefinitions}
 use Rattle.ink_value.specs.Val.{Val, bool}
 use Rattle.ink_value.specs.Value.{val_of, entries_at, formed_in}
-use Rattle.ink_value.specs.declared.Outcome.{Outcome}
-use Rattle.ink_value.specs.declared.Outcome.TheVariants as Out
 use Rattle.ink_value.specs.declared.Value.{Value}
 use Rattle.ink_value.specs.declared.Value.TheVariants as Is
 use Rattle.ink_value.proofs.Forming.{formed_yes}
@@ -90,9 +88,9 @@ module _ (F : Format) (p is : List ℕ) (vs : List ℤ) (oi : List ℕ) (ov : Li
         applied op_not_equals refl refl ∙ not_equals_as_file u o o' _ _ _ rise.0 rise.1 ∙ ap (λ (t : Bool). gives (bool (not t))) stand
 
     -- what `call` returns, by its contract: the Bool, and the result slices are as they were
-    module _ (r : Outcome) (oi' : List ℕ) (ov' : List ℤ) where
+    module _ (r : Answer Value) (oi' : List ℕ) (ov' : List ℤ) where
       abbrev Returns : Bool → Type 0
-      Returns t = (r ≡ Out.Value (Is.Bool t)) × (oi' ≡ oi) × (ov' ≡ ov)
+      Returns t = (r ≡ gives (Is.Bool t)) × (oi' ≡ oi) × (ov' ≡ ov)
 
       pub equal_returned : Returned (answer op_equal) r oi oi' ov ov' → Returns (eq_in_file (part s n is) (part s' n' is))
       equal_returned = returned _ equal_answered refl

@@ -14,6 +14,8 @@ use Rattle.slices.specs.Every.{◌and◌}
 use Rattle.slices.proofs.Every.{and_left, and_right}
 use Rattle.list_definitions.specs.Defs.{ListDefinitions}
 use Rattle.ink_value.specs.Val.{Val, bool, int, float, kind_of, code_of}
+use Rattle.ink_value.specs.declared.Kind.{Kind}
+use Rattle.ink_value.specs.declared.Kind.TheVariants as K
 use Rattle.ink_value.specs.Convert.{truthy, as_int, as_float, entries_of, origins_in}
 use Rattle.value_conversions.specs.Convert.{castable, converted, cast, coerce_bool, coerce_int, coerce_float}
 use Rattle.ink_value.specs.Value.{val_of, written, InPack, GivesInPack}
@@ -54,20 +56,20 @@ module _ (u : ListDefinitions) (is : List ℕ) (vs : List ℤ) where
   plain : (v : Val) → origins_in v ≡ 0 → entries_of v ≡ [] → InPack (length u.defined) (length u.ends) v
   plain v e f = plain_in_pack (length u.defined) (length u.ends) v e f
 
-  cast_formed : (to : ℕ) (x : Val) → InPack (length u.defined) (length u.ends) x → GivesIn u (cast to x)
+  cast_formed : (to : Kind) (x : Val) → InPack (length u.defined) (length u.ends) x → GivesIn u (cast to x)
   unfolding cast converted
-  cast_formed to x w = go (castable to (code_of (kind_of x))) (eqb to 0) (eqb to 1) (eqb to 2)
+  cast_formed to x w = go to (castable to (kind_of x))
     where
-      go : (s a b c : Bool)
-          → GivesIn u (cond s (gives (cond a (bool (truthy x)) (cond b (int (as_int x)) (cond c (float (as_float x)) x)))) (refuses 18))
-      go true true b c = plain (bool (truthy x)) refl refl
-      go true false true c = plain (int (as_int x)) refl refl
-      go true false false true = plain (float (as_float x)) refl refl
-      go true false false false = w
-      go false a b c = tt
+      go : (k : Kind) (s : Bool) → GivesIn u (cond s (gives (converted k x)) (refuses 18))
+      go K.Bool true = plain (bool (truthy x)) refl refl
+      go K.Int true = plain (int (as_int x)) refl refl
+      go K.Float true = plain (float (as_float x)) refl refl
+      go K.List true = w
+      go K.Void true = w
+      go k false = tt
 
   -- a conversion of one value
-  pub cast_to_formed : (v : Value) (oi : List ℕ) (ov : List ℤ) (to : ℕ) → GivesIn u (cast_to is vs oi ov to v u)
+  pub cast_to_formed : (v : Value) (oi : List ℕ) (ov : List ℤ) (to : Kind) → GivesIn u (cast_to is vs oi ov to v u)
   unfolding cast_to
   cast_to_formed v oi ov to = go (operands_ok u is vs (v ∷ []) and results_ok u oi ov) refl
     where

@@ -1,5 +1,5 @@
 -- The answers of a call and of a conversion, by what its questions say. Assumes nothing.
-use mathlib.Core.Path.{◌≡◌, sym, ap, ◌∙◌}
+use mathlib.Core.Path.{◌≡◌, ◌∙◌}
 use mathlib.Core.Bool.{true, false}
 use mathlib.Core.List.{List, [], ◌∷◌, map}
 use Prim.Native.Nat.{ℕ}
@@ -7,16 +7,15 @@ use lib.IntN.{ℤ}
 use lib.ListN.{take}
 use Rattle.slices.specs.Every.{◌and◌}
 use Rattle.slices.proofs.Every.{and_both, and_no_left, and_no_right}
-use Rattle.std.specs.Prelude.{Result}
-use Rattle.ink_number.specs.declared.question.Question.{Question}
 use Rattle.ink_value.specs.Val.{Val}
-use Rattle.ink_value.specs.Value.{placed, val_of}
+use Rattle.ink_value.specs.Value.{val_of}
+use Rattle.ink_value.specs.declared.Kind.{Kind}
 use Rattle.ink_value.specs.declared.Value.{Value}
 use Rattle.ink_number.specs.Answer.{Answer, gives, refuses}
 use Rattle.list_definitions.specs.Defs.{ListDefinitions}
 use Rattle.native_function_call.specs.Apply.{call}
 use Rattle.call_memory.specs.Lent.{operands_ok, results_ok}
-use Rattle.calls.specs.Call.{called, cast_to, coerced, on_pack, after_asked}
+use Rattle.calls.specs.Call.{called, cast_to, coerced, on_pack}
 use Rattle.value_conversions.specs.Convert.{cast}
 use Rattle.pack.specs.Bodies.{decoded}
 use Rattle.pack.specs.declared.format.Format.{Format}
@@ -45,7 +44,7 @@ module _ (is : List ℕ) (vs : List ℤ) (oi : List ℕ) (ov : List ℤ) (o n : 
 
 -- ---- the answers of the conversions
 
-module _ (is : List ℕ) (vs : List ℤ) (oi : List ℕ) (ov : List ℤ) (to : ℕ) (v : Value) (u : ListDefinitions) where
+module _ (is : List ℕ) (vs : List ℤ) (oi : List ℕ) (ov : List ℤ) (to : Kind) (v : Value) (u : ListDefinitions) where
   pub cast_ill : operands_ok u is vs (v ∷ []) ≡ false → cast_to is vs oi ov to v u ≡ refuses 7
   unfolding cast_to
   cast_ill e = rw (and_no_left _ (results_ok u oi ov) e)
@@ -71,7 +70,3 @@ module _ (F : Format) (p is : List ℕ) (vs : List ℤ) (f : Val → Answer Val)
       → on_pack F p (coerced is vs f v) ≡ f (val_of is vs v)
   unfolding coerced
   coerce_goes j e = pack_passed F p (coerced is vs f v) j ∙ rw e
-
--- the outcome of a conversion after its questions, by what they said
-pub asked_outcome : {a : Answer Val} (b : Answer Val) (r q : Result (Unit {0}) Question) → a ≡ after_asked r b → r ≡ q → placed (after_asked q b) ≡ placed a
-asked_outcome b r q e h = ap placed (sym (e ∙ ap (λ (x : Result (Unit {0}) Question). after_asked x b) h))

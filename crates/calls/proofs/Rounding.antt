@@ -20,8 +20,6 @@ use Rattle.ink_list.proofs.Formed.{formed_both}
 use Rattle.list_definitions.specs.Defs.{ListDefinitions}
 use Rattle.ink_value.specs.Val.{Val}
 use Rattle.ink_value.specs.Value.{val_of}
-use Rattle.ink_value.specs.declared.Outcome.{Outcome}
-use Rattle.ink_value.specs.declared.Outcome.TheVariants as Out
 use Rattle.ink_value.specs.declared.Value.{Value}
 use Rattle.ink_value.specs.declared.Value.TheVariants as Is
 use Rattle.operator_kinds.specs.Kinds.{known, unary, arity}
@@ -53,9 +51,9 @@ module _ (F : Format) (p is : List ℕ) (vs : List ℤ) (oi : List ℕ) (ov : Li
 
   -- what `call` returns of a Float, by its contract: the Float of which P holds alone, and the result slices are as they were
   module _ (x : Float) (fits : Binary32 x) (operand : operands_ok (definitions_of d F) is vs (Is.Float x ∷ []) ≡ true)
-      (r : Outcome) (oi' : List ℕ) (ov' : List ℤ) where
+      (r : Answer Value) (oi' : List ℕ) (ov' : List ℤ) where
     abbrev Returns : (Float → Type 0) → Type 0
-    Returns P = (y : Float) × Exactly P y × ((r ≡ Out.Value (Is.Float y)) × (oi' ≡ oi) × (ov' ≡ ov))
+    Returns P = (y : Float) × Exactly P y × ((r ≡ gives (Is.Float y)) × (oi' ≡ oi) × (ov' ≡ ov))
 
     pub floor_returned : Returned (answer op_floor (Is.Float x)) r oi oi' ov ov' → Returns (Floor x)
     floor_returned w = (floor_f x, floor_meets x fits, returned _ (floor_answered (Is.Float x) operand) refl w)

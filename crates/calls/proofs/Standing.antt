@@ -1,6 +1,6 @@
 -- An outcome stands for the answer that it was made of: a List is read back from the result slices, and of a conversion that gives none the
 -- slices do not matter. Assumes nothing.
-use mathlib.Core.Path.{◌≡◌, refl, ap, ◌∙◌}
+use mathlib.Core.Path.{◌≡◌, refl, sym, ap, ◌∙◌}
 use mathlib.Core.Bool.{Bool, true, false, cond}
 use mathlib.Core.List.{List, [], ◌∷◌}
 use Prim.Native.Nat.{ℕ}
@@ -13,18 +13,24 @@ use Rattle.ink_value.specs.Val.{Val, bool, int, float, list, void, kind_of, code
 use Rattle.ink_value.specs.Convert.{as_int, as_float}
 use Rattle.value_conversions.specs.Convert.{coerce_bool, coerce_int, coerce_float}
 use Rattle.ink_value.specs.Value.{val_of, placed, outcome_of, Gave}
-use Rattle.ink_value.specs.declared.Outcome.{Outcome}
 use Rattle.ink_value.specs.declared.Value.{Value}
 use Rattle.ink_value.proofs.ReadBack.{read_back}
-use Rattle.pack.specs.Bodies.{Pack}
+use Rattle.ink_value.proofs.Given.{gave_is}
+use Rattle.pack.specs.Bodies.{Pack, decoded}
 use Rattle.pack.specs.Judge.{judge}
 use Rattle.pack.specs.Read.{definitions_of}
 use Rattle.pack.specs.declared.format.Format.{Format}
 use Rattle.call_memory.specs.Lent.{operands_ok}
+use Rattle.calls.proofs.Forms.{pack_passed}
 use Rattle.calls.specs.Call.{coerced, on_pack, Returned, ReturnedPlain}
 
-pub returned : {a : Answer Val} {r : Outcome} {oi oi' : List ℕ} {ov ov' : List ℤ} → Gave a r oi oi' ov ov' → Returned a r oi oi' ov ov'
+pub returned : {a : Answer Val} {r : Answer Value} {oi oi' : List ℕ} {ov ov' : List ℤ} → Gave a r oi oi' ov ov' → Returned a r oi oi' ov ov'
 returned g = record { gave = g; stands = read_back _ _ _ _ _ _ g }
+
+-- of a pack that has passed
+pub pack_returned : (F : Format) (p : List ℕ) (f : ListDefinitions → Answer Val) {r : Answer Value} {oi oi' : List ℕ} {ov ov' : List ℤ}
+    → gives (decoded F p) ≡ judge F p → Gave (f (definitions_of (decoded F p) F)) r oi oi' ov ov' → Returned (on_pack F p f) r oi oi' ov ov'
+pack_returned F p f e g = returned (gave_is (pack_passed F p f (sym e)) g)
 
 -- the answer is no List
 abbrev pub Plain : Answer Val → Type 0
@@ -77,7 +83,12 @@ module _ (f : Val → Answer Val) (none : (v : Val) → Plain (f v)) where
       go (gives d) = coerced_plain is vs v (definitions_of d F)
       go (refuses r) = tt
 
-  pub coerces : (F : Format) (p is : List ℕ) (vs : List ℤ) (v : Value) (r : Outcome) → r ≡ placed (on_pack F p (coerced is vs f v))
+  coerces : (F : Format) (p is : List ℕ) (vs : List ℤ) (v : Value) (r : Answer Value) → r ≡ placed (on_pack F p (coerced is vs f v))
       → ReturnedPlain (on_pack F p (coerced is vs f v)) r
   coerces F p is vs v r e =
       record { answered = e; stands = λ js ws. ap (outcome_of js ws) e ∙ plain_stands (on_pack F p (coerced is vs f v)) (on_pack_plain F p is vs v) js ws }
+
+  -- a conversion after its questions, of which none said no
+  pub coerced_returned : (F : Format) (p is : List ℕ) (vs : List ℤ) (v : Value) (r : Answer Value)
+      → on_pack F p (coerced is vs f v) ≡ f (val_of is vs v) → r ≡ placed (f (val_of is vs v)) → ReturnedPlain (on_pack F p (coerced is vs f v)) r
+  coerced_returned F p is vs v r e q = coerces F p is vs v r (q ∙ ap placed (sym e))

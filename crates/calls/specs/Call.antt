@@ -8,7 +8,7 @@ use Rattle.list_definitions.specs.Defs.{ListDefinitions}
 use Rattle.ink_value.specs.Val.{Val}
 use Rattle.value_conversions.specs.Convert.{cast}
 use Rattle.ink_value.specs.Value.{val_of, placed, outcome_of, Gave}
-use Rattle.ink_value.specs.declared.Outcome.{Outcome}
+use Rattle.ink_value.specs.declared.Kind.{Kind}
 use Rattle.ink_value.specs.declared.Value.{Value}
 use Rattle.native_function_call.specs.Apply.{call}
 use Rattle.pack.specs.Judge.{judge}
@@ -22,7 +22,7 @@ module _ (is : List ℕ) (vs : List ℤ) where
   called oi ov o n l u = ask 7 (operands_ok u is vs (take n l) and results_ok u oi ov) (call u o n (map (val_of is vs) (take n l)))
 
   -- `cast`: 7, then 18. It has result slices, since a List is cast to a List
-  unfoldable pub cast_to : List ℕ → List ℤ → ℕ → Value → ListDefinitions → Answer Val
+  unfoldable pub cast_to : List ℕ → List ℤ → Kind → Value → ListDefinitions → Answer Val
   cast_to oi ov to v u = ask 7 (operands_ok u is vs (v ∷ []) and results_ok u oi ov) (cast to (val_of is vs v))
 
   -- the three `coerce_to_`, of which f is one: 7, then 18
@@ -41,11 +41,11 @@ after_asked (Err q) a = refuses (number q)
 -- ---- what is returned
 
 -- an answer is returned and written as `Gave` says, and with the result slices at exit the outcome stands for it
-pub record Returned (a : Answer Val) (r : Outcome) (oi oi' : List ℕ) (ov ov' : List ℤ) : Type 0 where
+pub record Returned (a : Answer Val) (r : Answer Value) (oi oi' : List ℕ) (ov ov' : List ℤ) : Type 0 where
   pub gave : Gave a r oi oi' ov ov'
   pub stands : outcome_of oi' ov' r ≡ a
 
 -- an answer that is no List is returned: the outcome stands for it, whatever the slices hold
-pub record ReturnedPlain (a : Answer Val) (r : Outcome) : Type 0 where
+pub record ReturnedPlain (a : Answer Val) (r : Answer Value) : Type 0 where
   pub answered : r ≡ placed a
   pub stands : (is : List ℕ) (vs : List ℤ) → outcome_of is vs r ≡ a

@@ -2,6 +2,8 @@
 #![tactic(auto)]
 
 ghost use Rattle.std.specs.Prelude.{◌≡◌, true, [], ◌∷◌, ◌≤◌, ◌<◌, length, take};
+ghost use Rattle.ink_number.specs.Question.{answer};
+ghost use Rattle.op.specs.Op.{op_number};
 ghost use Rattle.ink_list.specs.Entries.{item_numbers};
 ghost use Rattle.list_operators.specs.Lists.{definitions, definitions_in};
 ghost use Rattle.pack.specs.Read.{PackLists};
@@ -15,13 +17,14 @@ ghost use Rattle.calls.specs.Slices.{called_in, cast_in, coerced_in, on_pack_in,
 
 use ink_list::entries_mut::EntriesMut;
 use ink_number::question::Question;
-use ink_value::{Outcome, Value};
+use ink_value::{Kind, Value};
+use op::Op;
 use pack::format::Format;
 use pack_check::format::{DEFINITION_LIMIT, FORMAT1};
 
 // An operator on operands of which question 7 says yes, with the definitions at hand: questions 8, 10 to 13 and 15.
 pub fn call_formed(
-    op: u8,
+    op: Op,
     count: usize,
     a: Value,
     b: Value,
@@ -33,12 +36,12 @@ pub fn call_formed(
     limit: usize,
     oi: &mut [u16],
     ov: &mut [i32],
-) -> Outcome
+) -> Result<Value, Question>
     requires pack_lists { PackLists limit ends.now defined.now }
     requires c_value { operands_ok (definitions ends.now defined.now limit)
         items.now values.now (take count (a ∷ b ∷ c ∷ [])) ≡ true }
     requires limit_in_bounds { (limit ≤ length oi.old) × (limit ≤ length ov.old) × (1 ≤ limit) × (limit < item_numbers) }
-    ensures { Gives (called_in items values oi ov op count (a ∷ b ∷ c ∷ []) (definitions_in ends defined limit)) result oi ov }
+    ensures { Gives (called_in items values oi ov (op_number op) count (a ∷ b ∷ c ∷ []) (definitions_in ends defined limit)) result oi ov }
 {
     native_function_call::apply(
         op, count, a, b, c, items, values, ends, defined, limit, oi, ov,
@@ -47,7 +50,7 @@ pub fn call_formed(
 
 // An operator with the definitions at hand: question 7, then 8, 10 to 13 and 15.
 pub fn call_with(
-    op: u8,
+    op: Op,
     count: usize,
     a: Value,
     b: Value,
@@ -59,9 +62,9 @@ pub fn call_with(
     limit: usize,
     oi: &mut [u16],
     ov: &mut [i32],
-) -> Outcome
+) -> Result<Value, Question>
     requires { PackLists limit ends.now defined.now × (1 ≤ limit) × (limit < item_numbers) }
-    ensures { Gives (called_in items values oi ov op count (a ∷ b ∷ c ∷ []) (definitions_in ends defined limit)) result oi ov }
+    ensures { Gives (called_in items values oi ov (op_number op) count (a ∷ b ∷ c ∷ []) (definitions_in ends defined limit)) result oi ov }
 {
     if !call_memory::lent_well(
         count,
@@ -76,7 +79,7 @@ pub fn call_with(
         oi.len(),
         ov.len(),
     ) {
-        return Outcome::Refused(7);
+        return Err(Question::Memory);
     }
     call_formed(
         op, count, a, b, c, items, values, ends, defined, limit, oi, ov,
@@ -86,7 +89,7 @@ pub fn call_with(
 // A call on a pack that has passed. Its definitions' values are read into a slice that is lent for it.
 fn call_checked(
     pack: &[u8],
-    op: u8,
+    op: Op,
     count: usize,
     a: Value,
     b: Value,
@@ -97,9 +100,9 @@ fn call_checked(
     defined: &mut [i32],
     oi: &mut [u16],
     ov: &mut [i32],
-) -> Outcome
+) -> Result<Value, Question>
     requires { Sound format pack.now × Runnable format × (format.limit ≤ length defined.old) }
-    ensures { Gives (called_in items values oi ov op count (a ∷ b ∷ c ∷ []) (pack_definitions format pack)) result oi ov }
+    ensures { Gives (called_in items values oi ov (op_number op) count (a ∷ b ∷ c ∷ []) (pack_definitions format pack)) result oi ov }
 {
     let mut ends = [0u16; DEFINITION_LIMIT];
     let read = pack_read::read_definitions(pack, &mut ends, defined, format);
@@ -122,9 +125,10 @@ fn call_checked(
 }
 
 // An operator on the first `count` of three operands, whose entries stand in two slices.
+#[tactic(auto, using(crate::proofs::Standing::pack_returned))]
 pub fn call(
     pack: &[u8],
-    op: u8,
+    op: Op,
     count: usize,
     a: Value,
     b: Value,
@@ -133,54 +137,50 @@ pub fn call(
     values: &[i32],
     result_items: &mut [u16],
     result_values: &mut [i32],
-) -> Outcome
-    ensures { ReturnedIn (on_pack_in format1 pack (called_in items values result_items result_values op count (a ∷ b ∷ c ∷ [])))
+) -> Result<Value, Question>
+    ensures { ReturnedIn (on_pack_in format1 pack (called_in items values result_items result_values (op_number op) count (a ∷ b ∷ c ∷ [])))
         result result_items result_values }
 {
-    match pack_check::check(pack) {
-        Err(question) => Outcome::Refused(question.number()),
-        Ok(()) => {
-            let mut defined = [0i32; FORMAT1.limit];
-            call_checked(
-                pack,
-                op,
-                count,
-                a,
-                b,
-                c,
-                items,
-                values,
-                FORMAT1,
-                &mut defined,
-                result_items,
-                result_values,
-            )
-        }
-    }
+    pack_check::check(pack)?;
+    let mut defined = [0i32; FORMAT1.limit];
+    call_checked(
+        pack,
+        op,
+        count,
+        a,
+        b,
+        c,
+        items,
+        values,
+        FORMAT1,
+        &mut defined,
+        result_items,
+        result_values,
+    )
 }
 
 // `cast` on a pack that has passed.
 fn cast_checked(
     pack: &[u8],
-    to: u8,
+    to: Kind,
     v: Value,
     items: &[u16],
     values: &[i32],
     format: Format,
     oi: &mut [u16],
     ov: &mut [i32],
-) -> Outcome
+) -> Result<Value, Question>
     requires { Sound format pack.now × Runnable format }
     ensures { Gives (cast_in items values oi ov to v (pack_definitions format pack)) result oi ov }
 {
     if !call_memory::operand_formed(pack, v, items, values, format) {
-        return Outcome::Refused(7);
+        return Err(Question::Memory);
     }
     if oi.len() < format.limit {
-        return Outcome::Refused(7);
+        return Err(Question::Memory);
     }
     if ov.len() < format.limit {
-        return Outcome::Refused(7);
+        return Err(Question::Memory);
     }
     let mut out = EntriesMut {
         items: oi,
@@ -189,32 +189,31 @@ fn cast_checked(
     value_conversions::cast(to, v, items, values, &mut out)
 }
 
-// `Value::cast` to the kind code `to`: codes 0 to 3.
+// `Value::cast` to the kind `to`: any but Void.
+#[tactic(auto, using(crate::proofs::Standing::pack_returned))]
 pub fn cast(
     pack: &[u8],
-    to: u8,
+    to: Kind,
     v: Value,
     items: &[u16],
     values: &[i32],
     result_items: &mut [u16],
     result_values: &mut [i32],
-) -> Outcome
+) -> Result<Value, Question>
     ensures { ReturnedIn (on_pack_in format1 pack (cast_in items values result_items result_values to v))
         result result_items result_values }
 {
-    match pack_check::check(pack) {
-        Err(question) => Outcome::Refused(question.number()),
-        Ok(()) => cast_checked(
-            pack,
-            to,
-            v,
-            items,
-            values,
-            FORMAT1,
-            result_items,
-            result_values,
-        ),
-    }
+    pack_check::check(pack)?;
+    cast_checked(
+        pack,
+        to,
+        v,
+        items,
+        values,
+        FORMAT1,
+        result_items,
+        result_values,
+    )
 }
 
 // Questions 1 to 5, and 7 of the operand of a conversion that has no result slices.
@@ -230,31 +229,43 @@ fn operand_asked(pack: &[u8], v: Value, items: &[u16], values: &[i32]) -> Result
 }
 
 // `coerce_to_bool`: Bool and Int only, and only Int 1 is true.
-pub fn coerce_to_bool(pack: &[u8], v: Value, items: &[u16], values: &[i32]) -> Outcome
-    ensures { ReturnedPlain (on_pack_in format1 pack (coerced_in items values coerce_bool v)) result }
+#[tactic(auto, using(crate::proofs::Standing::coerced_returned, crate::proofs::Standing::bool_plain))]
+pub fn coerce_to_bool(
+    pack: &[u8],
+    v: Value,
+    items: &[u16],
+    values: &[i32],
+) -> Result<Value, Question>
+    ensures { ReturnedPlain (on_pack_in format1 pack (coerced_in items values coerce_bool v)) (answer result) }
 {
-    match operand_asked(pack, v, items, values) {
-        Err(question) => Outcome::Refused(question.number()),
-        Ok(()) => value_conversions::coerce_to_bool(v),
-    }
+    operand_asked(pack, v, items, values)?;
+    value_conversions::coerce_to_bool(v)
 }
 
 // `coerce_to_int`: not List or Void.
-pub fn coerce_to_int(pack: &[u8], v: Value, items: &[u16], values: &[i32]) -> Outcome
-    ensures { ReturnedPlain (on_pack_in format1 pack (coerced_in items values coerce_int v)) result }
+#[tactic(auto, using(crate::proofs::Standing::coerced_returned, crate::proofs::Standing::int_plain))]
+pub fn coerce_to_int(
+    pack: &[u8],
+    v: Value,
+    items: &[u16],
+    values: &[i32],
+) -> Result<Value, Question>
+    ensures { ReturnedPlain (on_pack_in format1 pack (coerced_in items values coerce_int v)) (answer result) }
 {
-    match operand_asked(pack, v, items, values) {
-        Err(question) => Outcome::Refused(question.number()),
-        Ok(()) => value_conversions::coerce_to_int(v),
-    }
+    operand_asked(pack, v, items, values)?;
+    value_conversions::coerce_to_int(v)
 }
 
 // `coerce_to_float`: not List or Void.
-pub fn coerce_to_float(pack: &[u8], v: Value, items: &[u16], values: &[i32]) -> Outcome
-    ensures { ReturnedPlain (on_pack_in format1 pack (coerced_in items values coerce_float v)) result }
+#[tactic(auto, using(crate::proofs::Standing::coerced_returned, crate::proofs::Standing::float_plain))]
+pub fn coerce_to_float(
+    pack: &[u8],
+    v: Value,
+    items: &[u16],
+    values: &[i32],
+) -> Result<Value, Question>
+    ensures { ReturnedPlain (on_pack_in format1 pack (coerced_in items values coerce_float v)) (answer result) }
 {
-    match operand_asked(pack, v, items, values) {
-        Err(question) => Outcome::Refused(question.number()),
-        Ok(()) => value_conversions::coerce_to_float(v),
-    }
+    operand_asked(pack, v, items, values)?;
+    value_conversions::coerce_to_float(v)
 }

@@ -1,10 +1,13 @@
 // The definitions of a pack that has passed, read into two slices of a host.
 #![tactic(auto)]
 
+ghost use Rattle.ink_number.specs.Question.{answer};
 ghost use Rattle.pack.specs.Format.{Narrow};
+ghost use Rattle.value_words.specs.Calls.{number_of};
 ghost use Rattle.definition_tables.specs.Tables.{Passed};
 ghost use Rattle.definition_tables.specs.Slices.{ReadsAny};
 
+use ink_number::question::Question;
 use pack::format::Format;
 use pack_check::format::DEFINITION_LIMIT;
 
@@ -15,17 +18,17 @@ pub fn read_tables(
     ends: &mut [u16],
     defined: &mut [i32],
     counts: &mut [u64; 2],
-) -> u32
+) -> Result<(), Question>
     requires { Passed format pack.now × Narrow format }
-    ensures { ReadsAny format pack result ends defined counts }
+    ensures { ReadsAny format pack (number_of (answer result)) ends defined counts }
 {
     if ends.len() < DEFINITION_LIMIT {
-        return 7;
+        return Err(Question::Memory);
     }
     if defined.len() < format.limit {
-        return 7;
+        return Err(Question::Memory);
     }
     let read = pack_read::read_definitions(pack, ends, defined, format);
     *counts = [read.definitions as u64, read.items as u64];
-    0
+    Ok(())
 }

@@ -51,6 +51,7 @@ fn shifted_rem(m: u32, n: u32, d: u32) -> u32
     let divisor = u64::from(n);
     let mut rest = u64::from(m);
     let mut left = d;
+    // What is left counts digits, STEP a turn, and is no index: a `for` over the turns would count the digits by hand beside it.
     while left > STEP {
         rest = (rest << STEP) % divisor;
         left -= STEP;

@@ -14,6 +14,7 @@ use ink_number::int::wrapping_add;
 fn hits(vs: &[i32], by: i32, v: i32) -> bool
     ensures { result ≡ among (raised by vs.now) v }
 {
+    // Tried as `any`: its closure is not told that a value it is lent fits an i32, and the proof did not close.
     for value in vs {
         if wrapping_add(*value, by) == v {
             return true;

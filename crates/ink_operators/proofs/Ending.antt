@@ -14,8 +14,7 @@ use Rattle.machine.specs.Machine.{End, ended, stopped}
 use Rattle.machine.specs.Whole.{opened}
 use Rattle.running.specs.Run.{run_memory, end_entries, end_after, ran_to, Runs}
 use Rattle.running.proofs.Formed.{run_few}
-use Rattle.running.specs.declared.Ran.{Ran}
-use Rattle.answer_words.specs.Answers.{SmallRan, ran_number, ran_words, RunSays}
+use Rattle.answer_words.specs.Answers.{SmallRan, end_number, ran_words, RunSays}
 
 few_end : {F : Format} → Runnable F → (e : End Val) → length (end_entries e) ≤ F.limit → SmallRan (ran_to e)
 few_end f (ended (bool b)) h = tt
@@ -26,7 +25,7 @@ few_end f (ended void) h = tt
 few_end f (stopped r k) h = tt
 
 -- a run stands whole in its words
-pub runs_small : {F : Format} → Runnable F → (p : List ℕ) (s : ℕ) (l : List Value) (si : List ℕ) (sv : List ℤ) (r : Ran) (wi wi' : List ℕ) (wv wv' : List ℤ)
+pub runs_small : {F : Format} → Runnable F → (p : List ℕ) (s : ℕ) (l : List Value) (si : List ℕ) (sv : List ℤ) (r : End Value) (wi wi' : List ℕ) (wv wv' : List ℤ)
     (ri ri' : List ℕ) (rv rv' : List ℤ)
     → Runs F (opened F p s (run_memory F l si sv wi wv ri rv)) s (map (val_of si sv) l) r wi wi' wv wv' ri ri' rv rv' → SmallRan r
 runs_small {F} f p s l si sv r wi wi' wv wv' ri ri' rv rv' w =
@@ -34,15 +33,15 @@ runs_small {F} f p s l si sv r wi wi' wv wv' ri ri' rv rv' w =
     subst SmallRan (sym w.ran.answered) (few_end f e (run_few F p s l si sv wi wv ri rv))
 
 -- a run whose slots are those of the words
-pub run_says : {F : Format} (p : List ℕ) (s : ℕ) (l m : List Value) (si : List ℕ) (sv : List ℤ) (r : Ran) (n : ℕ) (ws wi wi' : List ℕ) (wv wv' : List ℤ)
+pub run_says : {F : Format} (p : List ℕ) (s : ℕ) (l m : List Value) (si : List ℕ) (sv : List ℤ) (r : End Value) (n : ℕ) (ws wi wi' : List ℕ) (wv wv' : List ℤ)
     (ri ri' : List ℕ) (rv rv' : List ℤ) → l ≡ m
     → Runs F (opened F p s (run_memory F l si sv wi wv ri rv)) s (map (val_of si sv) l) r wi wi' wv wv' ri ri' rv rv'
-    → (n ≡ ran_number r) × (ws ≡ ran_words r)
+    → (n ≡ end_number r) × (ws ≡ ran_words r)
     → RunSays F (opened F p s (run_memory F m si sv wi wv ri rv)) s (map (val_of si sv) m) n ws wi wi' wv wv' ri ri' rv rv'
 run_says {F} p s l m si sv r n ws wi wi' wv wv' ri ri' rv rv' q w h =
     subst (λ (x : List Value). RunSays F (opened F p s (run_memory F x si sv wi wv ri rv)) s (map (val_of si sv) x) n ws wi wi' wv wv' ri ri' rv rv') q
     (record {
-      number = h.0 ∙ ap ran_number w.ran.answered;
+      number = h.0 ∙ ap end_number w.ran.answered;
       words = h.1 ∙ ap ran_words w.ran.answered;
-      leaves = subst (λ (x : Ran). Runs F (opened F p s (run_memory F l si sv wi wv ri rv)) s (map (val_of si sv) l) x wi wi' wv wv' ri ri' rv rv') w.ran.answered w;
+      leaves = subst (λ (x : End Value). Runs F (opened F p s (run_memory F l si sv wi wv ri rv)) s (map (val_of si sv) l) x wi wi' wv wv' ri ri' rv rv') w.ran.answered w;
     })

@@ -9,8 +9,8 @@ use native.Mathlib.Omega.{arith}
 use lib.IntN.{ℤ}
 use Rattle.ink_number.specs.Answer.{in_use}
 use lib.ListN.{length, get_or}
-use Rattle.ink_value.specs.Val.{kind_of, kind_at}
-use Rattle.ink_value.specs.Value.{val_of, code_of_value}
+use Rattle.ink_value.specs.Val.{kind_of, kind_at, code_of}
+use Rattle.ink_value.specs.Value.{val_of, kind_in}
 use Rattle.ink_value.specs.declared.Value.{Value}
 use Rattle.ink_value.specs.declared.Value.TheVariants as Is
 use Rattle.slices.specs.Every.{table}
@@ -19,47 +19,45 @@ use Rattle.machine.specs.Foretold.{ByValue}
 use Rattle.machine.specs.Whole.{opened, Suffices, sheet_vet}
 use Rattle.machine.proofs.Numbers.{vet_numbered}
 use Rattle.vetting.specs.Vet.{Vets, forecast_limit, vet_memory}
-use Rattle.vet_program.specs.declared.Vetted.{Vetted}
-use Rattle.vet_program.specs.declared.Vetted.TheVariants as Vet
 use Rattle.running.specs.Run.{run_memory, ran_to, end_after}
-use Rattle.running.specs.declared.Ran.{Ran}
 use Rattle.run_memory.proofs.Opening.{Long}
 use Rattle.vet_and_run.specs.Both.{StoppedByValue, ForetoldAnswer}
 use Rattle.vet_and_run.proofs.Answered.{both}
 use Rattle.vet_and_run.proofs.Instance.{vetting_suffices, run_suffices, kinds_agree}
 use Rattle.words_in.specs.Words.{value_of, plain_at, void_at, slots_in}
 use Rattle.words_out.specs.Words.{words_of}
-use Rattle.answer_words.specs.Answers.{ran_number, ran_words, vetted_number, vetted_index, VetSays, RunSays}
+use Rattle.answer_words.specs.Answers.{end_number, ran_words, vetted_index, VetSays, RunSays}
 use Rattle.ink_operators.specs.Foretold.{Said, refusal, ForetoldWords}
 use Rattle.ink_operators.proofs.InUse.{turned_numbered}
+use Rattle.machine.specs.Machine.{End, ended, stopped}
 
 -- what a run's answer is at the boundary
-abbrev said : Ran → Said
-said r = (ran_number r, ran_words r)
+abbrev said : End Value → Said
+said r = (end_number r, ran_words r)
 
-kind_word : (v : Value) → get_or (words_of v) 0 0 ≡ code_of_value v
+kind_word : (v : Value) → get_or (words_of v) 0 0 ≡ code_of (kind_in v)
 kind_word (Is.Bool b) = refl
 kind_word (Is.Int z) = refl
 kind_word (Is.Float x) = refl
 kind_word (Is.List o s n) = refl
 kind_word Is.Void = refl
 
-by_value : (P : ℕ → Type 0) (r : Ran) → StoppedByValue P r → ByValue refusal P (said r)
+by_value : (P : ℕ → Type 0) (r : End Value) → StoppedByValue P r → ByValue refusal P (said r)
 by_value P r (i, h, e) = (i, h, ap said e)
 
-passes : (n : ℕ) (f : List ℕ) (r : Ran) → ForetoldAnswer (Vet.Passed n) f r → ForetoldWords 0 n f (said r)
-passes n f r (inl w) = inl (ap ran_number w.1, ap (λ (x : Ran). get_or (ran_words x) 0 0) w.1 ∙ kind_word w.0 ∙ w.2)
+passes : (n : ℕ) (f : List ℕ) (r : End Value) → ForetoldAnswer (ended n) f r → ForetoldWords 0 n f (said r)
+passes n f r (inl w) = inl (ap end_number w.1, ap (λ (x : End Value). get_or (ran_words x) 0 0) w.1 ∙ kind_word w.0 ∙ w.2)
 passes n f r (inr w) = inr (by_value (λ i. i < n) r w)
 
-turns : (q k : ℕ) (f : List ℕ) (r : Ran) → in_use q ≡ true → ForetoldAnswer (Vet.Refused q k) f r → ForetoldWords q k f (said r)
+turns : (q k : ℕ) (f : List ℕ) (r : End Value) → in_use q ≡ true → ForetoldAnswer (stopped q k) f r → ForetoldWords q k f (said r)
 turns zero k f r h w = let z : ◌≡◌ {A = ℕ} 0 1 = cc in absurd (omega arith)
 turns (suc q) k f r h (inl w) = inl (by_value (λ i. i < k) r w)
 turns (suc q) k f r h (inr w) = inr (ap said w)
 
 module _ (F : Format) (p : List ℕ) (s : ℕ) (codes f f' : List ℕ) where
-  words_of_lem : (v : Vetted) (r : Ran) → Vets F p s codes v f f' → ForetoldAnswer v f' r → ForetoldWords (vetted_number v) (vetted_index v) f' (said r)
-  words_of_lem (Vet.Passed n) r a w = passes n f' r w
-  words_of_lem (Vet.Refused q k) r a w =
+  words_of_lem : (v : End ℕ) (r : End Value) → Vets F p s codes v f f' → ForetoldAnswer v f' r → ForetoldWords (end_number v) (vetted_index v) f' (said r)
+  words_of_lem (ended n) r a w = passes n f' r w
+  words_of_lem (stopped q k) r a w =
       turns q k f' r (turned_numbered (sheet_vet F p s (vet_memory codes f) (map kind_at codes)).end q k a.right (vet_numbered F p s (vet_memory codes f) (map kind_at codes))) w
 
   -- the contracts of `ink_vet` and of `ink_run`, with memory that suffices for both and slots of the kinds that were vetted
@@ -72,7 +70,7 @@ module _ (F : Format) (p : List ℕ) (s : ℕ) (codes f f' : List ℕ) where
     foretold_words v w h k e =
         let a = opened F p s (run_memory F (slots_in ws) si sv wi wv ri rv) in
         let r = ran_to (end_after F s (map (val_of si sv) (slots_in ws)) a) in
-        let b = both p s codes (slots_in ws) si sv (record { vetted = v.vetted; ran = r }) f f' wi wi' wv wv' ri ri' rv rv' v.answers w.leaves in
+        let b = both p s codes (slots_in ws) si sv v.vetted r f f' wi wi' wv wv' ri ri' rv rv' v.answers w.leaves in
         rw (v.number, v.index_is, w.number, w.words) (words_of_lem v.vetted r v.answers (b.foretold h k e).1)
 
 -- ---- the conditions can be met

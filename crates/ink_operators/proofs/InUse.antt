@@ -13,7 +13,9 @@ use Rattle.ink_number.specs.Answer.{Answer, gives, refuses, in_use, ask}
 use Rattle.ink_number.specs.Int.{eq_z}
 use Rattle.slices.specs.Every.{◌and◌}
 use Rattle.slices.proofs.Every.{not_both}
-use Rattle.ink_value.specs.Val.{Val, bool, int, float, Kind, floatK, listK, kind_of, code_of}
+use Rattle.ink_value.specs.Val.{Val, bool, int, float, kind_of, code_of}
+use Rattle.ink_value.specs.declared.Kind.{Kind}
+use Rattle.ink_value.specs.declared.Kind.TheVariants as K
 use Rattle.ink_value.specs.Convert.{as_int, as_float}
 use Rattle.ink_value.specs.Value.{val_of}
 use Rattle.ink_value.specs.declared.Value.{Value}
@@ -35,9 +37,7 @@ use Rattle.value_words.specs.Calls.{number_of, Says, Calls}
 use Rattle.definition_tables.specs.Tables.{Reads, tables_long}
 use Rattle.running.specs.Run.{ran_to}
 use Rattle.vetting.specs.Vet.{vet_memory, Vets}
-use Rattle.vet_program.specs.declared.Vetted.{Vetted}
-use Rattle.vet_program.specs.declared.Vetted.TheVariants as Vet
-use Rattle.answer_words.specs.Answers.{ran_number, vetted_number, RunSays, VetSays}
+use Rattle.answer_words.specs.Answers.{end_number, RunSays, VetSays}
 
 -- 0, or a number in use
 abbrev pub InUse : ℕ → Type 0
@@ -71,23 +71,23 @@ called_numbered is vs oi ov o c l u =
 converted_numbered : (b : Bool) (x : Val) → Numbered (cond b (gives x) (refuses 18))
 converted_numbered b x = chosen b (gives x) (refuses 18) tt refl
 
-cast_numbered : (is : List ℕ) (vs : List ℤ) (oi : List ℕ) (ov : List ℤ) (to : ℕ) (v : Value) (u : ListDefinitions) → Numbered (cast_to is vs oi ov to v u)
+cast_numbered : (is : List ℕ) (vs : List ℤ) (oi : List ℕ) (ov : List ℤ) (to : Kind) (v : Value) (u : ListDefinitions) → Numbered (cast_to is vs oi ov to v u)
 unfolding cast_to cast
 cast_numbered is vs oi ov to v u =
     let x = val_of is vs v in
-    asks 7 (operands_ok u is vs (v ∷ []) and results_ok u oi ov) (cast to x) refl (converted_numbered (castable to (code_of (kind_of x))) (converted to x))
+    asks 7 (operands_ok u is vs (v ∷ []) and results_ok u oi ov) (cast to x) refl (converted_numbered (castable to (kind_of x)) (converted to x))
 
 pub bool_numbered : (x : Val) → Numbered (coerce_bool x)
 unfolding coerce_bool
-bool_numbered x = converted_numbered (ltb (code_of (kind_of x)) (code_of floatK)) (bool (eq_z (as_int x) (pos 1)))
+bool_numbered x = converted_numbered (ltb (code_of (kind_of x)) (code_of K.Float)) (bool (eq_z (as_int x) (pos 1)))
 
 pub int_numbered : (x : Val) → Numbered (coerce_int x)
 unfolding coerce_int
-int_numbered x = converted_numbered (ltb (code_of (kind_of x)) (code_of listK)) (int (as_int x))
+int_numbered x = converted_numbered (ltb (code_of (kind_of x)) (code_of K.List)) (int (as_int x))
 
 pub float_numbered : (x : Val) → Numbered (coerce_float x)
 unfolding coerce_float
-float_numbered x = converted_numbered (ltb (code_of (kind_of x)) (code_of listK)) (float (as_float x))
+float_numbered x = converted_numbered (ltb (code_of (kind_of x)) (code_of K.List)) (float (as_float x))
 
 coerced_numbered : (is : List ℕ) (vs : List ℤ) (f : Val → Answer Val) (v : Value) (u : ListDefinitions) → ((x : Val) → Numbered (f x)) → Numbered (coerced is vs f v u)
 unfolding coerced
@@ -128,10 +128,10 @@ module _ (F : Format) (p : List ℕ) (n : ℕ) (ws is : List ℕ) (vs : List ℤ
     checked_in_use o c l u w = said_in_use _ n ws (called_numbered is vs oi ov o c l u) w.says
 
     -- `ink_cast`
-    pub cast_in_use : (to : ℕ) (v : Value) → Calls (on_pack F p (cast_to is vs oi ov to v)) n ws oi oi' ov ov' → InUse n
+    pub cast_in_use : (to : Kind) (v : Value) → Calls (on_pack F p (cast_to is vs oi ov to v)) n ws oi oi' ov ov' → InUse n
     cast_in_use to v w = said_in_use _ n ws (pack_numbered F p (cast_to is vs oi ov to v) (cast_numbered is vs oi ov to v)) w.says
 
-end_in_use : (e : End Val) → NumberedEnd e → InUse (ran_number (ran_to e))
+end_in_use : (e : End Val) → NumberedEnd e → InUse (end_number (ran_to e))
 end_in_use (ended v) h = inl refl
 end_in_use (stopped r k) h = inr h
 
@@ -150,6 +150,6 @@ module _ (F : Format) (p : List ℕ) (s : ℕ) where
   pub vet_in_use : (codes f f' : List ℕ) (n index : ℕ) → VetSays F p s codes n index f f' → InUse n
   vet_in_use codes f f' n index w = rw w.number (go w.vetted w.answers)
     where
-      go : (v : Vetted) → Vets F p s codes v f f' → InUse (vetted_number v)
-      go (Vet.Passed m) a = inl refl
-      go (Vet.Refused q k) a = inr (turned_numbered (sheet_vet F p s (vet_memory codes f) _).end q k a.right (vet_numbered F p s (vet_memory codes f) _))
+      go : (v : End ℕ) → Vets F p s codes v f f' → InUse (end_number v)
+      go (ended m) a = inl refl
+      go (stopped q k) a = inr (turned_numbered (sheet_vet F p s (vet_memory codes f) _).end q k a.right (vet_numbered F p s (vet_memory codes f) _))

@@ -3,7 +3,7 @@ use Rattle.std.specs.Prelude.{map, ℕ, ℤ}
 use Rattle.ink_number.specs.Answer.{Answer}
 use Rattle.slices.specs.Slices.{Slice, Cell, MutSlice}
 use Rattle.ink_value.specs.Slices.{val_in}
-use Rattle.ink_value.specs.Val.{Val}
+use Rattle.ink_value.specs.Val.{Val, kind_at}
 use Rattle.pack.specs.declared.format.Format.{Format}
 use Rattle.calls.specs.Slices.{called_in, cast_in, coerced_in, on_pack_in}
 use Rattle.running.specs.Slices.{run_memory_in}
@@ -33,7 +33,7 @@ CallSaysAny F pack op count ws is vs n answer oi ov =
 -- `cast` of the operand that three words hold
 abbrev pub CastSaysAny : Format → Slice ℕ → ℕ → Slice ℕ → Slice ℕ → Slice ℤ → ℕ → MutSlice ℕ → MutSlice ℕ → MutSlice ℤ → Type 0
 CastSaysAny F pack code ws is vs n answer oi ov =
-    CallsIn (on_pack_in F pack (cast_in is vs oi ov code (value_at ws.entry.now 0))) n answer oi ov
+    CallsIn (on_pack_in F pack (cast_in is vs oi ov (kind_at code) (value_at ws.entry.now 0))) n answer oi ov
 
 -- one of the three `coerce_to_`, f
 abbrev pub CoerceSaysAny : Format → Slice ℕ → (Val → Answer Val) → Slice ℕ → Slice ℕ → Slice ℤ → ℕ → MutSlice ℕ → Type 0

@@ -3,6 +3,8 @@
 #![tactic(auto)]
 
 ghost use Rattle.std.specs.Prelude.{◌≡◌};
+ghost use Rattle.ink_number.specs.Question.{answer};
+ghost use Rattle.op.specs.Op.{op_number};
 ghost use Rattle.value_conversions.specs.Convert.{coerce_bool, coerce_int, coerce_float};
 ghost use Rattle.pack.specs.Format.{format1};
 ghost use Rattle.pack.specs.Judge.{judge};
@@ -16,18 +18,27 @@ ghost use Rattle.run_ready.specs.Work.{Clear};
 ghost use Rattle.ink_operators.specs.Apply.{Applies};
 ghost use Rattle.ink_operators.specs.Slices.{RunSaysAny, VetSaysAny, CallSaysAny, CastSaysAny, CoerceSaysAny};
 
-use ink_value::kind_code;
+use ink_number::question::Question;
+use ink_value::Kind;
+use op::Op;
 use pack_check::format::FORMAT1;
+
+// 0, or the number of the question that says no.
+fn number_of(passed: Result<(), Question>) -> u32
+    ensures { result ≡ number_of (answer passed) }
+{
+    match passed {
+        Ok(()) => 0,
+        Err(question) => value_words::number(question),
+    }
+}
 
 // Questions 1 to 5 of a pack: 0, or the number of the first no.
 #[unsafe(no_mangle)]
 pub extern "C" fn ink_check(pack: &[u8]) -> u32
     ensures { result ≡ number_of (judge format1 pack.now) }
 {
-    match pack_check::check(pack) {
-        Ok(()) => 0,
-        Err(question) => value_words::number(question.number()),
-    }
+    number_of(pack_check::check(pack))
 }
 
 // Vets a sheet of any bytes for slots of sixteen kinds.
@@ -98,7 +109,7 @@ pub extern "C" fn ink_call(
     let c = words_in::operand_at(operands, 2);
     let outcome = calls::call(
         pack,
-        op,
+        Op::numbered(op),
         count,
         a,
         b,
@@ -126,7 +137,15 @@ pub extern "C" fn ink_cast(
     ensures { CastSaysAny format1 pack code operand items values result answer result_items result_values }
 {
     let v = words_in::value_in(operand);
-    let outcome = calls::cast(pack, code, v, items, values, result_items, result_values);
+    let outcome = calls::cast(
+        pack,
+        Kind::coded(code),
+        v,
+        items,
+        values,
+        result_items,
+        result_values,
+    );
     value_words::outcome(outcome, answer)
 }
 
@@ -188,7 +207,7 @@ pub extern "C" fn ink_definitions(
     requires { Passed format1 pack.now }
     ensures { ReadsAny format1 pack result ends defined counts }
 {
-    definition_tables::read_tables(pack, FORMAT1, ends, defined, counts)
+    number_of(definition_tables::read_tables(pack, FORMAT1, ends, defined, counts))
 }
 
 // Runs a sheet of a pack that has passed, its definitions read, in work slices that are clear. It answers and leaves what `ink_run` does.
@@ -230,6 +249,43 @@ pub extern "C" fn ink_run_checked(
     answer_words::ran(ran, answer)
 }
 
+// An operator on operands and result slices of which question 7 says yes. Numbers need no slice. Two exported functions end in it: a
+// call more is a third of what an Int operator takes.
+#[inline(always)]
+fn apply(
+    op: Op,
+    count: usize,
+    operands: &[u64; 9],
+    items: &[u16],
+    values: &[i32],
+    ends: &[u16],
+    defined: &[i32],
+    result_items: &mut [u16],
+    result_values: &mut [i32],
+    answer: &mut [u64; 3],
+) -> u32
+    requires { Applies format1 ends.now defined.now items.now values.now count operands.now
+        result_items.old result_values.old }
+    ensures { CallSays format1.limit ends defined (op_number op) count operands items values result answer result_items result_values }
+{
+    match word_kinds::number_kind(op, count, operands) {
+        Some(kind) => word_numbers::number(op, kind, count, operands, answer),
+        None => word_operators::apply(
+            op,
+            count,
+            operands,
+            items,
+            values,
+            ends,
+            defined,
+            FORMAT1.limit,
+            result_items,
+            result_values,
+            answer,
+        ),
+    }
+}
+
 // An operator with the definitions of a pack that has passed.
 #[unsafe(no_mangle)]
 pub extern "C" fn ink_call_checked(
@@ -264,21 +320,16 @@ pub extern "C" fn ink_call_checked(
         result_values.len(),
     ) {
         words_out::put_index(answer, 0);
-        return 7;
+        return value_words::number(Question::Memory);
     }
-    let kind = word_kinds::number_kind(op, count, operands);
-    if kind < kind_code::LIST {
-        return word_numbers::number(op, kind, count, operands, answer);
-    }
-    word_operators::apply(
-        op,
+    apply(
+        Op::numbered(op),
         count,
         operands,
-        &items[..],
-        &values[..],
-        &ends[..],
-        &defined[..],
-        FORMAT1.limit,
+        items,
+        values,
+        ends,
+        defined,
         result_items,
         result_values,
         answer,
@@ -303,19 +354,14 @@ pub extern "C" fn ink_apply(
         result_items.old result_values.old }
     ensures { CallSays format1.limit ends defined op count operands items values result answer result_items result_values }
 {
-    let kind = word_kinds::number_kind(op, count, operands);
-    if kind < kind_code::LIST {
-        return word_numbers::number(op, kind, count, operands, answer);
-    }
-    word_operators::apply(
-        op,
+    apply(
+        Op::numbered(op),
         count,
         operands,
-        &items[..],
-        &values[..],
-        &ends[..],
-        &defined[..],
-        FORMAT1.limit,
+        items,
+        values,
+        ends,
+        defined,
         result_items,
         result_values,
         answer,

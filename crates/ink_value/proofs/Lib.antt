@@ -1,5 +1,4 @@
 -- The laws that the functions' proofs, and those of crates above, cite.
-pub mod Arms
 pub mod Reading
 pub mod Parts
 pub mod Given

@@ -17,7 +17,6 @@ use Rattle.ink_value.specs.Val.{Val, bool, int, float, list, void}
 use Rattle.ink_number.specs.Answer.{Answer, gives, refuses}
 use Rattle.ink_value.specs.Convert.{entries_of, origins_in}
 use Rattle.ink_value.specs.Value.{val_of, first_of, start_of, len_of, placed_val, placed, written, Gave, Formed, outcome_of, AllWf, FirstFormed, formed_in, each_formed, InPack, AllInPack, GivesInPack}
-use Rattle.ink_value.specs.declared.Outcome.{Outcome}
 use Rattle.ink_value.specs.declared.Value.{Value}
 use Rattle.ink_value.proofs.Reading.{rising_in, entries_in_lem, set_in_lem}
 use Rattle.ink_value.proofs.Forming.{formed_yes}
@@ -27,7 +26,7 @@ use Rattle.ink_list.proofs.Laws.{rising_length}
 use Rattle.ink_list.proofs.Formed.{formed_both, formed_rises}
 use Rattle.ink_list.proofs.Rests.{items_entries}
 
-module _ (A : Answer Val) (r : Outcome) (oi oi' : List ℕ) (ov ov' : List ℤ) (g : Gave A r oi oi' ov ov') where
+module _ (A : Answer Val) (r : Answer Value) (oi oi' : List ℕ) (ov ov' : List ℤ) (g : Gave A r oi oi' ov ov') where
   wrote : Wrote (written A) (length (written A)) oi oi' ov ov'
   wrote = record { counted = refl; items_out = g.items_out; values_out = g.values_out }
 
@@ -44,11 +43,11 @@ reads (gives void) is vs h = refl
 reads (refuses r) is vs h = refl
 
 -- a call's result stands for its answer
-pub read_back : (A : Answer Val) (r : Outcome) (oi oi' : List ℕ) (ov ov' : List ℤ) → Gave A r oi oi' ov ov' → outcome_of oi' ov' r ≡ A
+pub read_back : (A : Answer Val) (r : Answer Value) (oi oi' : List ℕ) (ov ov' : List ℤ) → Gave A r oi oi' ov ov' → outcome_of oi' ov' r ≡ A
 read_back A r oi oi' ov ov' g = ap (outcome_of oi' ov') g.answered ∙ reads A oi' ov' (back A r oi oi' ov ov' g)
 
 -- a list's result is formed as an operand is
-pub formed_back : (limit o : ℕ) (es : List Entry) (r : Outcome) (oi oi' : List ℕ) (ov ov' : List ℤ) → Gave (gives (list o es)) r oi oi' ov ov'
+pub formed_back : (limit o : ℕ) (es : List Entry) (r : Answer Value) (oi oi' : List ℕ) (ov ov' : List ℤ) → Gave (gives (list o es)) r oi oi' ov ov'
     → Rising limit es → limit ≤ length oi → limit ≤ length ov → Formed limit oi' ov' (placed_val (list o es))
 formed_back limit o es r oi oi' ov ov' g f h k =
     let few = rising_length limit es f in

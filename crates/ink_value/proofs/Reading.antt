@@ -6,10 +6,11 @@ use native.Mathlib.Omega.{arith}
 use lib.IntN.{ℤ}
 use lib.ListN.{length, take, drop}
 use Rattle.ink_list.specs.Entries.{Entry, entries, Rising, Lent, Wrote, values}
-use Rattle.ink_value.specs.Val.{list, kind_of, kind_at, code_of}
+use Rattle.ink_value.specs.Val.{list, kind_of, code_of}
 use Rattle.ink_value.specs.Convert.{entries_of, origins_in}
-use Rattle.ink_value.specs.Value.{val_of, code_of_value, start_of, len_of, set_in, held, Formed, entries_at}
+use Rattle.ink_value.specs.Value.{val_of, kind_in, start_of, len_of, set_in, held, Formed, entries_at}
 use Rattle.slices.specs.Filled.{part}
+use Rattle.ink_value.specs.declared.Kind.TheVariants as K
 use Rattle.ink_value.specs.declared.Value.{Value}
 use Rattle.slices.proofs.Filled.{length_part}
 use Rattle.ink_list.proofs.Wrote.{lent_limit}
@@ -31,19 +32,12 @@ set_in_lem is vs (Is.Float x) = refl
 set_in_lem is vs (Is.List o s n) = refl
 set_in_lem is vs Is.Void = refl
 
-pub code_of_lem : (is : List ℕ) (vs : List ℤ) (v : Value) → code_of (kind_of (val_of is vs v)) ≡ code_of_value v
-code_of_lem is vs (Is.Bool b) = refl
-code_of_lem is vs (Is.Int z) = refl
-code_of_lem is vs (Is.Float x) = refl
-code_of_lem is vs (Is.List o s n) = refl
-code_of_lem is vs Is.Void = refl
-
-pub code_in : (is : List ℕ) (vs : List ℤ) (v : Value) → kind_at (code_of_value v) ≡ kind_of (val_of is vs v)
-code_in is vs (Is.Bool b) = refl
-code_in is vs (Is.Int z) = refl
-code_in is vs (Is.Float x) = refl
-code_in is vs (Is.List o s n) = refl
-code_in is vs Is.Void = refl
+pub kind_in_lem : (is : List ℕ) (vs : List ℤ) (v : Value) → kind_in v ≡ kind_of (val_of is vs v)
+kind_in_lem is vs (Is.Bool b) = refl
+kind_in_lem is vs (Is.Int z) = refl
+kind_in_lem is vs (Is.Float x) = refl
+kind_in_lem is vs (Is.List o s n) = refl
+kind_in_lem is vs Is.Void = refl
 
 -- n entries that stand whole in two lists: their values, and how many they are
 module _ (is : List ℕ) (vs : List ℤ) (s n : ℕ) (h : s + n ≤ length is) (k : s + n ≤ length vs) where
@@ -102,9 +96,9 @@ pub lends_few : (limit : ℕ) (is : List ℕ) (vs : List ℤ) (i n : ℕ) (v : V
 lends_few limit is vs i n v p q f =
     rw (lends is i n v p q) (omega (arith, length_part (start_of v) (len_of v) is f.items_in, few_in limit is vs v f))
 
-pub list_in : (is : List ℕ) (vs : List ℤ) (v : Value) → code_of_value v ≡ 3 → val_of is vs v ≡ list (set_in v) (held is vs v)
-list_in is vs (Is.Bool b) e = absurd (omega arith)
-list_in is vs (Is.Int z) e = absurd (omega arith)
-list_in is vs (Is.Float x) e = absurd (omega arith)
+pub list_in : (is : List ℕ) (vs : List ℤ) (v : Value) → kind_in v ≡ K.List → val_of is vs v ≡ list (set_in v) (held is vs v)
+list_in is vs (Is.Bool b) e = absurd (omega (arith, ap code_of e))
+list_in is vs (Is.Int z) e = absurd (omega (arith, ap code_of e))
+list_in is vs (Is.Float x) e = absurd (omega (arith, ap code_of e))
 list_in is vs (Is.List o s n) e = refl
-list_in is vs Is.Void e = absurd (omega arith)
+list_in is vs Is.Void e = absurd (omega (arith, ap code_of e))

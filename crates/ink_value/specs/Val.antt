@@ -1,6 +1,8 @@
 -- Values and their kinds. Assumes nothing.
 use Rattle.std.specs.Prelude.{Bool, true, false, cond, List, ℕ, eqb, ℤ, Float}
 use Rattle.ink_list.specs.Entries.{Entry}
+use Rattle.ink_value.specs.declared.Kind.{Kind}
+use Rattle.ink_value.specs.declared.Kind.TheVariants as K
 
 -- a List has its origin set and its entries
 pub data Val : Type 0 where
@@ -10,34 +12,31 @@ pub data Val : Type 0 where
   list : ℕ → List Entry → Val
   void : Val
 
-pub data Kind : Type 0 where
-  boolK intK floatK listK voidK : Kind
-
 abbrev pub kind_of : Val → Kind
-kind_of (bool b) = boolK
-kind_of (int z) = intK
-kind_of (float x) = floatK
-kind_of (list o es) = listK
-kind_of void = voidK
+kind_of (bool b) = K.Bool
+kind_of (int z) = K.Int
+kind_of (float x) = K.Float
+kind_of (list o es) = K.List
+kind_of void = K.Void
 
 abbrev pub is_list : Kind → Bool
-is_list boolK = false
-is_list intK = false
-is_list floatK = false
-is_list listK = true
-is_list voidK = false
+is_list K.Bool = false
+is_list K.Int = false
+is_list K.Float = false
+is_list K.List = true
+is_list K.Void = false
 
 -- "Kind codes: 0 Bool, 1 Int, 2 Float, 3 List, 4 Void."
 abbrev pub code_of : Kind → ℕ
-code_of boolK = 0
-code_of intK = 1
-code_of floatK = 2
-code_of listK = 3
-code_of voidK = 4
+code_of K.Bool = 0
+code_of K.Int = 1
+code_of K.Float = 2
+code_of K.List = 3
+code_of K.Void = 4
 
 abbrev pub kind_at : ℕ → Kind
 kind_at c =
-    cond (eqb c (code_of boolK)) boolK
-    (cond (eqb c (code_of intK)) intK
-    (cond (eqb c (code_of floatK)) floatK
-    (cond (eqb c (code_of listK)) listK voidK)))
+    cond (eqb c (code_of K.Bool)) K.Bool
+    (cond (eqb c (code_of K.Int)) K.Int
+    (cond (eqb c (code_of K.Float)) K.Float
+    (cond (eqb c (code_of K.List)) K.List K.Void)))

@@ -1,16 +1,16 @@
 -- The code's values read as values of the definitions, and what a call leaves in the slices lent for its result. Assumes nothing.
-use Rattle.std.specs.Prelude.{◌≡◌, Bool, true, cond, List, [], ◌∷◌, ℕ, ◌+◌, ◌≤◌, ltb, leb, eqb, ℤ, pos, Float, length, take}
+use Rattle.std.specs.Prelude.{◌≡◌, Bool, true, List, [], ◌∷◌, ℕ, ◌+◌, ◌≤◌, leb, eqb, ℤ, pos, Float, length, take}
 use Rattle.ink_number.specs.Answer.{Answer, gives, refuses}
 use Rattle.binary32.specs.Real.{of_int32}
 use Rattle.slices.specs.Every.{◌and◌}
 use Rattle.slices.specs.Filled.{part, over}
 use Rattle.ink_list.specs.Entries.{Entry, entries, items, values, Lent, Rising, formed}
-use Rattle.ink_value.specs.Val.{Val, bool, int, float, list, void, boolK, intK, floatK, listK, voidK, code_of}
+use Rattle.ink_value.specs.Val.{Val, bool, int, float, list, void}
+use Rattle.ink_value.specs.declared.Kind.{Kind}
+use Rattle.ink_value.specs.declared.Kind.TheVariants as K
 use Rattle.ink_value.specs.Convert.{bit_z, entries_of, origins_in}
 use Rattle.ink_value.specs.declared.Value.{Value}
 use Rattle.ink_value.specs.declared.Value.TheVariants as Is
-use Rattle.ink_value.specs.declared.Outcome.{Outcome}
-use Rattle.ink_value.specs.declared.Outcome.TheVariants as Out
 
 -- a value of the code, a List's entries in the two slices
 abbrev pub val_of : List ℕ → List ℤ → Value → Val
@@ -24,12 +24,12 @@ val_of is vs Is.Void = void
 abbrev pub first_of : List ℕ → List ℤ → ℕ → Value → Value → Value → List Val
 first_of is vs n a b c = take n (val_of is vs a ∷ val_of is vs b ∷ val_of is vs c ∷ [])
 
-abbrev pub code_of_value : Value → ℕ
-code_of_value (Is.Bool b) = code_of boolK
-code_of_value (Is.Int z) = code_of intK
-code_of_value (Is.Float x) = code_of floatK
-code_of_value (Is.List o s n) = code_of listK
-code_of_value Is.Void = code_of voidK
+abbrev pub kind_in : Value → Kind
+kind_in (Is.Bool b) = K.Bool
+kind_in (Is.Int z) = K.Int
+kind_in (Is.Float x) = K.Float
+kind_in (Is.List o s n) = K.List
+kind_in Is.Void = K.Void
 
 -- where a List's entries start, how many there are, and its origin set
 abbrev pub start_of : Value → ℕ
@@ -93,15 +93,21 @@ real_in (Is.Float x) = x
 real_in (Is.List o s n) = of_int32 (pos 0)
 real_in Is.Void = of_int32 (pos 0)
 
--- a number in parts: its kind code, the Int that a Bool or an Int holds, and what a Float holds. A Bool reads as that Int does
-abbrev pub number_of : ℕ → ℤ → Float → Val
-number_of k z x = cond (eqb k (code_of floatK)) (float x) (int z)
+-- a number in parts: its kind, the Int that a Bool or an Int holds, and what a Float holds. A Bool reads as that Int does
+abbrev pub number_of : Kind → ℤ → Float → Val
+number_of K.Bool z x = int z
+number_of K.Int z x = int z
+number_of K.Float z x = float x
+number_of K.List z x = int z
+number_of K.Void z x = int z
 
 -- a value in parts: the same, and where its entries start and how many they are. The origin set, which no part tells, is empty
-abbrev pub of_parts : List ℕ → List ℤ → ℕ → ℤ → Float → ℕ → ℕ → Val
-of_parts is vs k z x s n =
-    cond (ltb k (code_of listK)) (number_of k z x)
-    (cond (eqb k (code_of listK)) (list 0 (entries_at is vs s n)) void)
+abbrev pub of_parts : List ℕ → List ℤ → Kind → ℤ → Float → ℕ → ℕ → Val
+of_parts is vs K.Bool z x s n = int z
+of_parts is vs K.Int z x s n = int z
+of_parts is vs K.Float z x s n = float x
+of_parts is vs K.List z x s n = list 0 (entries_at is vs s n)
+of_parts is vs K.Void z x s n = void
 
 -- n entries from s on stand whole in two lists
 abbrev pub Stand : List ℕ → List ℤ → ℕ → ℕ → Type 0
@@ -131,14 +137,14 @@ placed_val (float x) = Is.Float x
 placed_val (list o es) = Is.List o 0 (length es)
 placed_val void = Is.Void
 
-abbrev pub placed : Answer Val → Outcome
-placed (gives v) = Out.Value (placed_val v)
-placed (refuses r) = Out.Refused r
+abbrev pub placed : Answer Val → Answer Value
+placed (gives v) = gives (placed_val v)
+placed (refuses r) = refuses r
 
--- the answer that an outcome stands for, a List's entries in the result slices
-abbrev pub outcome_of : List ℕ → List ℤ → Outcome → Answer Val
-outcome_of is vs (Out.Value v) = gives (val_of is vs v)
-outcome_of is vs (Out.Refused r) = refuses r
+-- the answer that a call's stands for, a List's entries in the result slices
+abbrev pub outcome_of : List ℕ → List ℤ → Answer Value → Answer Val
+outcome_of is vs (gives v) = gives (val_of is vs v)
+outcome_of is vs (refuses r) = refuses r
 
 -- the entries that an answer writes: "a List result fills them from the start"
 abbrev pub written : Answer Val → List Entry
@@ -146,7 +152,7 @@ written (gives v) = entries_of v
 written (refuses r) = []
 
 -- an answer is returned, and its entries are written from the start of the two result slices, which are else as they were
-pub record Gave (answer : Answer Val) (r : Outcome) (oi oi' : List ℕ) (ov ov' : List ℤ) : Type 0 where
+pub record Gave (answer : Answer Val) (r : Answer Value) (oi oi' : List ℕ) (ov ov' : List ℤ) : Type 0 where
   pub answered : r ≡ placed answer
   pub items_out : oi' ≡ over (items (written answer)) oi
   pub values_out : ov' ≡ over (values (written answer)) ov

@@ -1,22 +1,18 @@
--- The table of 775 answers is the rule, by one test computed of it whole, row by row. Assumes nothing.
-use mathlib.Core.Path.{◌≡◌, subst}
-use mathlib.Core.Bool.{Bool, true, false}
+-- The table of 775 answers is the rule: what one test of it whole says of an entry. Assumes nothing.
+use mathlib.Core.Path.{◌≡◌, refl, subst, ap, ◌∙◌}
+use mathlib.Core.Bool.{Bool, true, false, cond, ◌||◌}
 use mathlib.Core.List.{List, [], ◌∷◌}
 use Prim.Native.Nat.{ℕ, zero, suc, ◌+◌, ◌*◌, ◌/◌, ◌%◌, ◌<◌}
 use native.Mathlib.Omega.{arith}
+use borrow.Author.Tests.{eqb-true}
 use lib.ListN.{get_or}
-use Rattle.slices.specs.Every.{◌and◌}
 use Rattle.slices.proofs.Every.{and_left, and_right, not_both}
-use Rattle.ink_value.specs.Val.{kind_at}
-use Rattle.operator_kinds.specs.Kinds.{kind_entry, decoded}
-use Rattle.operator_kinds.proofs.Agreed.{same, same_eq}
-use Rattle.kind_table.specs.Table.{Table}
-
--- a list's first n members pass a test, each with its place, from place o on
-abbrev pub passes : {A : Type 0} → (ℕ → A → Bool) → ℕ → ℕ → List A → Bool
-passes t o zero xs = true
-passes t o (suc n) [] = false
-passes t o (suc n) (x ∷ xs) = t o x and passes t (suc o) n xs
+use Rattle.ink_number.specs.Answer.{Answer, gives, refuses}
+use Rattle.ink_value.specs.Val.{kind_at, code_of}
+use Rattle.ink_value.specs.declared.Kind.{Kind}
+use Rattle.ink_value.specs.declared.Kind.TheVariants as K
+use Rattle.operator_kinds.specs.Kinds.{kind_entry, known, unary, kind_unary, kind_binary, is_void, mixed, mixes, available, common, result_kind}
+use Rattle.kind_table.specs.Table.{encoded, passes, entry_right, row_right, all_right, is_listed, Listed}
 
 passes_at : {A : Type 0} (t : ℕ → A → Bool) (d : A) (o n : ℕ) (xs : List A) → passes t o n xs ≡ true
     → (i : ℕ) → i < n → t (o + i) (get_or xs i d) ≡ true
@@ -34,22 +30,51 @@ at_place t d n xs p i h =
     let e : 0 + i ≡ i = omega arith in
     subst (λ (k : ℕ). t k (get_or xs i d) ≡ true) e (passes_at t d 0 n xs p i h)
 
--- the test of an entry at place i of its operator's row, and of the row
-abbrev pub entry_right : ℕ → ℕ → ℕ → Bool
-entry_right o i e = same (decoded e) (kind_entry o (kind_at (i / 5)) (kind_at (i % 5)))
+code_few : (k : Kind) → code_of k < 5
+code_few K.Bool = omega arith
+code_few K.Int = omega arith
+code_few K.Float = omega arith
+code_few K.List = omega arith
+code_few K.Void = omega arith
 
-abbrev pub row_right : ℕ → List ℕ → Bool
-row_right o row = passes (entry_right o) 0 25 row
+code_kind : (k : Kind) → kind_at (code_of k) ≡ k
+code_kind K.Bool = refl
+code_kind K.Int = refl
+code_kind K.Float = refl
+code_kind K.List = refl
+code_kind K.Void = refl
 
--- a table whose rows pass has the answers
-pub is_table : (table : List (List ℕ)) → passes row_right 0 31 table ≡ true → Table table
-is_table table t = record { answers = λ o a b ho ha hb. at o a b ho ha hb }
-  where
-    at : (o a b : ℕ) → o < 31 → a < 5 → b < 5 → decoded (get_or (get_or table o []) (a * 5 + b) 0) ≡ kind_entry o (kind_at a) (kind_at b)
-    at o a b ho ha hb =
-        let row = get_or table o [] in
-        let left : (a * 5 + b) / 5 ≡ a = omega arith in
-        let right : (a * 5 + b) % 5 ≡ b = omega arith in
-        let passed = at_place (entry_right o) 0 25 row (at_place row_right [] 31 table t o ho) (a * 5 + b) (omega arith) in
-        same_eq _ _ (subst (λ (k : ℕ). same (decoded (get_or row (a * 5 + b) 0)) (kind_entry o (kind_at a) (kind_at k)) ≡ true) right
-        (subst (λ (k : ℕ). same (decoded (get_or row (a * 5 + b) 0)) (kind_entry o (kind_at k) (kind_at ((a * 5 + b) % 5))) ≡ true) left passed))
+-- an entry of the table is its operator's answer on the two kinds
+pub entry_is : (table : List (List ℕ)) (o : ℕ) (j k : Kind) → all_right table ≡ true → o < 31
+    → get_or (get_or table o []) (code_of j * 5 + code_of k) 0 ≡ encoded (kind_entry o j k)
+entry_is table o j k t h =
+    let a = code_of j in
+    let b = code_of k in
+    let few_j = code_few j in
+    let few_k = code_few k in
+    let left : (a * 5 + b) / 5 ≡ a = omega (arith, few_j, few_k) in
+    let right : (a * 5 + b) % 5 ≡ b = omega (arith, few_j, few_k) in
+    let row = get_or table o [] in
+    let passed = eqb-true _ _ (at_place (entry_right o) 0 25 row (at_place row_right [] 31 table t o h) (a * 5 + b) (omega (arith, few_j, few_k))) in
+    passed
+    ∙ ap (λ (x : Kind). encoded (kind_entry o x (kind_at ((a * 5 + b) % 5)))) (ap kind_at left ∙ code_kind j)
+    ∙ ap (λ (x : Kind). encoded (kind_entry o j x)) (ap kind_at right ∙ code_kind k)
+
+record Said (a : Answer Kind) : Type 0 where
+  listed : Listed a
+
+either : (t : Bool) (a b : Answer Kind) → Said a → Said b → Said (cond t a b)
+either true a b h k = h
+either false a b h k = k
+
+-- each answer of an operator is one that the table may have
+pub entry_listed : (o : ℕ) (j k : Kind) → Listed (kind_entry o j k)
+unfolding kind_entry kind_unary kind_binary
+entry_listed o j k =
+    let no : (r : ℕ) → is_listed r ≡ true → Said (refuses r) = λ r h. record { listed = h } in
+    let yes : (x : Kind) → Said (gives x) = λ x. record { listed = tt } in
+    (either (known o) _ _
+    (either (unary o) _ _ (either _ _ _ (no 11 refl) (either _ _ _ (yes _) (no 13 refl)))
+    (either (is_void j || is_void k) _ _ (no 11 refl)
+    (either (mixed j k) _ _ (either (mixes o j k) _ _ (yes (result_kind o K.List)) (no 12 refl))
+    (either (available o (common j k)) _ _ (yes (result_kind o (common j k))) (no 13 refl))))) (no 8 refl)).listed

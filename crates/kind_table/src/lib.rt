@@ -1,24 +1,31 @@
 // The table of 775 answers that vetting works from, and range beside it.
 #![tactic(auto)]
 
-ghost use Rattle.std.specs.Prelude.{◌≡◌, ◌<◌};
-ghost use Rattle.ink_value.specs.Val.{kind_at};
-ghost use Rattle.op.specs.Op.{op_range};
-ghost use Rattle.operator_kinds.specs.Kinds.{kind_entry, decoded, kind_range};
-ghost use Rattle.kind_table.specs.Table.{Table, kind_answer, Coded};
+ghost use Rattle.std.specs.Prelude.{◌≡◌, true, ◌<◌};
+ghost use Rattle.std.proofs.Math.Bool.{Bool-set};
+ghost use Rattle.ink_number.specs.Answer.{Answer};
+ghost use Rattle.ink_number.specs.Question.{answer};
+ghost use Rattle.ink_value.specs.declared.Kind.{Kind};
+ghost use Rattle.op.specs.Op.{op_number, op_range};
+ghost use Rattle.operator_kinds.specs.Kinds.{kind_entry};
+ghost use Rattle.kind_table.specs.Table.{all_right, encoded, Listed};
 
-// What an operator gives on kinds: the kind of its result, or a refusal.
-#[derive(Clone, Copy)]
-pub enum KindAnswer {
-    Kind(u8),
-    Refused(u8),
-}
+use ink_number::question::Question;
+use ink_value::Kind;
+use op::Op;
 
 // How many operators the table has.
-pub const OPERATORS: usize = 31;
+const OPERATORS: usize = 31;
 
 // How many pairs of kinds.
-pub const PAIRS: usize = 25;
+const PAIRS: usize = 25;
+
+// What the operators below range give on two kinds.
+#[derive(Clone, Copy)]
+pub struct KindTable {
+    rows: [[u8; PAIRS]; OPERATORS],
+    ghost right: { all_right rows ≡ true } by { Bool-set (all_right rows) true },
+}
 
 // The table of 775 answers, 31 operators by five left by five right kinds: a kind code, or a refusal's number. A line has an operator's 25, by
 // the left kind and then by the right.
@@ -56,36 +63,32 @@ const KINDS: [[u8; PAIRS]; OPERATORS] = [
     *b"\x0d\x0d\x0d\x0d\x0d\x0d\x0d\x0d\x0d\x0d\x0d\x0d\x0d\x0d\x0d\x03\x03\x03\x03\x03\x0b\x0b\x0b\x0b\x0b", // INVERT
 ];
 
-// The table, for a caller that looks up often: a constant array is stored anew where it is used.
-pub fn table() -> [[u8; PAIRS]; OPERATORS]
-    ensures { Table result }
+// What an entry of the table says.
+fn decoded(e: u8) -> Result<Kind, Question>
+    ensures { (a : Answer Kind) → Listed a → e ≡ encoded a → answer result ≡ a }
 {
-    KINDS
-}
-
-// What an answer of the table, or of range, says.
-fn decoded(e: u8) -> KindAnswer
-    ensures { (kind_answer result ≡ decoded e) × Coded result }
-{
-    if e < 5 {
-        KindAnswer::Kind(e)
-    } else {
-        KindAnswer::Refused(e)
+    match e {
+        0..5 => Ok(Kind::coded(e)),
+        8 => Err(Question::Operator),
+        11 => Err(Question::Void),
+        12 => Err(Question::Mixed),
+        _ => Err(Question::Kind),
     }
 }
 
-// The table's answer for an operator below range and two kind codes.
-pub fn kind_entry(table: &[[u8; PAIRS]; OPERATORS], op: u8, left: u8, right: u8) -> KindAnswer
-    requires { Table table.now × (op < op_range) × (left < 5) × (right < 5) }
-    ensures { (kind_answer result ≡ kind_entry op (kind_at left) (kind_at right)) × Coded result }
-{
-    decoded(table[op as usize][(left as usize) * 5 + right as usize])
-}
+impl KindTable {
+    // The table, for a caller that looks up often: a constant array is stored anew where it is used.
+    pub fn new() -> KindTable {
+        KindTable { rows: KINDS }
+    }
 
-// Range's answer, for three kind codes.
-pub fn kind_range(list: u8, lower: u8, upper: u8) -> KindAnswer
-    requires { (list < 5) × (lower < 5) × (upper < 5) }
-    ensures { (kind_answer result ≡ kind_range (kind_at list) (kind_at lower) (kind_at upper)) × Coded result }
-{
-    decoded(operator_kinds::range(list, lower, upper))
+    // The answer for an operator below range and two kinds.
+    pub fn entry(&self, op: Op, left: Kind, right: Kind) -> Result<Kind, Question>
+        requires { op_number op < op_range }
+        ensures { answer result ≡ kind_entry (op_number op) left right }
+    {
+        let left = left.code() as usize;
+        let right = right.code() as usize;
+        decoded(self.rows[op.number()][left * 5 + right])
+    }
 }

@@ -5,17 +5,20 @@
 pub mod read;
 
 ghost use Rattle.std.specs.Prelude.{◌≡◌, ◌<◌, length};
+ghost use Rattle.ink_list.specs.Lists.{places};
 
-use test_output::{decimal, entry, natural, text};
+use ink_list::entries_mut::EntriesMut;
+use std::fmt;
+use test_output::{bytes, print, println};
 
 pub const ITEM_LIMIT: usize = 256;
 
 const SHOWN: usize = 12;
 
 // What the places of the output slices hold before a call.
-pub const UNWRITTEN_ITEM: u16 = 9999;
+const UNWRITTEN_ITEM: u16 = 9999;
 
-pub const UNWRITTEN_VALUE: i32 = 9999;
+const UNWRITTEN_VALUE: i32 = 9999;
 
 // The sum of some item numbers, wrapping; each is below 65,536.
 fn item_sum(items: &[u16]) -> u64 {
@@ -29,125 +32,112 @@ fn value_sum(values: &[i32]) -> i32 {
     values.iter().fold(0i32, |sum, v| sum.wrapping_add(*v))
 }
 
-// The first and the last entry.
-fn ends(items: &[u16], values: &[i32])
+// A list as text: its entries, or none; of a long one how many, the first and the last, and the sums.
+#[derive(Clone, Copy, Drop)]
+struct Listed<'a> {
+    items: &'a [u16],
+    values: &'a [i32],
+}
+
+// A list by how many entries it has, its first and its last, and its sums.
+fn write_summary<W: fmt::Write>(
+    f: &mut fmt::Formatter<W>,
+    items: &[u16],
+    values: &[i32],
+) -> fmt::Result
     requires len { length items.now ≡ length values.now }
     requires nonzero { 0 < length items.now }
 {
     let last = items.len() - 1;
-    entry(items[0], values[0]);
-    text(b" to");
-    entry(items[last], values[last]);
+    write!(f, " {} entries", items.len())?;
+    write!(f, " {}={}", items[0], values[0])?;
+    write!(f, " to {}={}", items[last], values[last])?;
+    write!(f, ", sums {} {}", item_sum(items), value_sum(values))
 }
 
-fn sums(items: &[u16], values: &[i32]) {
-    text(b", sums ");
-    natural(item_sum(items));
-    text(b" ");
-    decimal(value_sum(values));
-}
-
-// A list by its length, ends and sums.
-fn summary(items: &[u16], values: &[i32])
-    requires len { length items.now ≡ length values.now }
-    requires nonzero { 0 < length items.now }
-{
-    text(b" ");
-    natural(items.len() as u64);
-    text(b" entries");
-    ends(items, values);
-    sums(items, values);
-}
-
-// The entries of a short list.
-fn entries(items: &[u16], values: &[i32]) {
-    for (item, value) in items.iter().zip(values) {
-        entry(*item, *value);
+impl fmt::Display for Listed<'_> {
+    fn fmt<W: fmt::Write>(&self, f: &mut fmt::Formatter<W>) -> fmt::Result {
+        let items = self.items;
+        let values = self.values;
+        let n = items.len();
+        if n != values.len() {
+            return f.write_str(" not parallel");
+        }
+        if n == 0 {
+            return f.write_str(" none");
+        }
+        if SHOWN < n {
+            return write_summary(f, items, values);
+        }
+        for (item, value) in items.iter().zip(values) {
+            write!(f, " {item}={value}")?;
+        }
+        Ok(())
     }
-}
-
-// The entries of a list, or none; of a long one its summary.
-fn list(items: &[u16], values: &[i32]) {
-    if items.len() != values.len() {
-        text(b" not parallel");
-        return;
-    }
-    if items.is_empty() {
-        text(b" none");
-        return;
-    }
-    if SHOWN < items.len() {
-        summary(items, values);
-        return;
-    }
-    entries(items, values);
 }
 
 pub fn operand(name: &[u8], items: &[u16], values: &[i32]) {
-    text(name);
-    list(items, values);
-    text(b"\n");
+    bytes(name);
+    println(Listed { items, values });
 }
 
-fn beyond_item(item: u16) {
-    if item != UNWRITTEN_ITEM {
-        text(b" and an item beyond");
-    }
-}
-
-fn beyond_value(value: i32) {
-    if value != UNWRITTEN_VALUE {
-        text(b" and a value beyond");
+// What is said of the place beyond, where it was changed.
+fn beyond(changed: bool, what: &str) {
+    if changed {
+        print(what);
     }
 }
 
 // The n entries of a list that was written, and a word where the place beyond was changed.
 fn written(n: usize, items: &[u16], values: &[i32]) {
     if items.len() <= n {
-        text(b" too long");
+        print(" too long");
         return;
     }
     if values.len() <= n {
-        text(b" too long");
+        print(" too long");
         return;
     }
-    list(&items[..n], &values[..n]);
-    beyond_item(items[n]);
-    beyond_value(values[n]);
+    print(Listed {
+        items: &items[..n],
+        values: &values[..n],
+    });
+    beyond(items[n] != UNWRITTEN_ITEM, " and an item beyond");
+    beyond(values[n] != UNWRITTEN_VALUE, " and a value beyond");
 }
 
 // The name of an answer.
 fn named(name: &[u8]) {
-    text(b"  ");
-    text(name);
+    print("  ");
+    bytes(name);
 }
 
 pub fn result(name: &[u8], n: usize, items: &[u16], values: &[i32]) {
     named(name);
     written(n, items, values);
-    text(b"\n");
+    println("");
 }
 
 pub fn test(name: &[u8], yes: bool) {
     named(name);
-    if yes {
-        text(b" yes\n");
-        return;
-    }
-    text(b" no\n");
+    println(if yes { " yes" } else { " no" });
 }
 
-pub fn number(name: &[u8], v: i32) {
+// A number, or a set of origins as one.
+pub fn number<N: fmt::Display + Drop>(name: &[u8], n: N) {
     named(name);
-    text(b" ");
-    decimal(v);
-    text(b"\n");
+    println(format_args!(" {n}"));
 }
 
-// A set of origins.
-pub fn set(name: &[u8], bits: u64) {
-    named(name);
-    text(b" ");
-    natural(bits);
-    text(b"\n");
+// An operator's answer, which it writes into 257 places that hold no entry.
+pub fn show<F: FnOnce(&mut EntriesMut<'_>) -> usize>(name: &[u8], operator: F)
+    requires { (out : _) → places out.now ≡ 257 → F.pre operator out }
+{
+    let mut items = [UNWRITTEN_ITEM; 257];
+    let mut values = [UNWRITTEN_VALUE; 257];
+    let n = operator(&mut EntriesMut {
+        items: &mut items,
+        values: &mut values,
+    });
+    result(name, n, &items, &values);
 }

@@ -3,12 +3,14 @@
 // the end is 0.
 ghost use Rattle.std.specs.Prelude.{◌<◌, ◌≤◌};
 
-// How many entries the pool has, where the cases start, and how many bytes a case takes.
-pub const POOL: usize = 1600;
+// How many bytes an entry takes, how many entries the pool has, where the cases start, and how many bytes a case takes.
+const ENTRY: usize = 6;
 
-pub const CASES: usize = 9600;
+const POOL: usize = 1600;
 
-pub const CASE: usize = 24;
+const CASES: usize = 9600;
+
+const CASE: usize = 24;
 
 // Where the parts of a case are: what it is, two lists and two numbers of four bytes.
 pub const WHAT: usize = 0;
@@ -24,36 +26,42 @@ pub const OTHER_NUMBER: usize = 18;
 // A case that is a line of text, from byte 2 on after its length.
 pub const TITLE: u8 = 255;
 
+// A byte, 0 past the end.
 pub fn byte(s: &[u8], at: usize) -> u8 {
     s.get(at).copied().unwrap_or(0)
 }
 
-fn number(s: &[u8], at: usize) -> usize
-    ensures { result < 256 }
+// A number of two bytes.
+fn short(s: &[u8], at: usize) -> u16
+    requires { at ≤ 65536 }
 {
-    usize::from(byte(s, at))
+    u16::from_le_bytes([byte(s, at), byte(s, at + 1)])
 }
 
-// A number of two bytes.
 pub fn place(s: &[u8], at: usize) -> usize
     requires { at ≤ 65536 }
     ensures { result < 65536 }
 {
-    number(s, at) + 256 * number(s, at + 1)
+    usize::from(short(s, at))
 }
 
 // A number of four bytes.
 pub fn value(s: &[u8], at: usize) -> i32
     requires { at ≤ 65530 }
 {
-    ((place(s, at) + 65536 * place(s, at + 2)) as u32).cast_signed()
+    i32::from_le_bytes([
+        byte(s, at),
+        byte(s, at + 1),
+        byte(s, at + 2),
+        byte(s, at + 3),
+    ])
 }
 
 // The pool, as far as the slices go.
 pub fn pool(s: &[u8], items: &mut [u16], values: &mut [i32]) {
-    for i in 0..POOL.min(items.len()).min(values.len()) {
-        items[i] = place(s, 6 * i) as u16;
-        values[i] = value(s, 6 * i + 2);
+    for ((entry, item), v) in s.chunks_exact(ENTRY).take(POOL).zip(items).zip(values) {
+        *item = short(entry, 0);
+        *v = value(entry, 2);
     }
 }
 
@@ -83,8 +91,26 @@ pub fn values_of<'a>(s: &[u8], at: usize, values: &'a [i32]) -> &'a [i32]
 }
 
 pub fn title(s: &[u8]) {
-    let end = 2 + number(s, 1);
+    let end = 2 + usize::from(byte(s, 1));
     if end <= s.len() {
-        test_output::line(&s[2..end]);
+        test_output::bytes(&s[2..end]);
+        test_output::println("");
+    }
+}
+
+// Hands each case of the standard input to `work`, with the items and the values of the pool.
+pub fn each_case<F: FnMut(&[u8], &[u16], &[i32])>(mut work: F)
+    requires { F.IsAlwaysCallable work }
+{
+    let mut buf = io::large_buffer();
+    let n = io::read_full(0, &mut buf);
+    if n < CASES {
+        return;
+    }
+    let mut items = [0u16; POOL];
+    let mut values = [0i32; POOL];
+    pool(&buf, &mut items, &mut values);
+    for case in buf[CASES..n].chunks_exact(CASE) {
+        work(case, &items, &values);
     }
 }

@@ -17,7 +17,7 @@ use Rattle.list_definitions.specs.Defs.{ListDefinitions, invert, retarget, raise
 use Rattle.list_pairs.specs.Pairs.{merge_l}
 use Rattle.list_operators.specs.Lists.{shift_l, unary_l, list_binary, entries_for, list_result}
 use Rattle.result_origins.specs.Origins.{origins_after}
-use Rattle.ink_value.specs.Value.{val_of, code_of_value, Gave, Wf, AllWf}
+use Rattle.ink_value.specs.Value.{val_of, kind_in, Gave, Wf, AllWf}
 use Rattle.ink_list.specs.Ops.{list_extreme, extreme, beats}
 use Rattle.ink_list.proofs.Laws.{rising_limit}
 use Rattle.ink_list.proofs.Output.{length_items}
@@ -25,8 +25,8 @@ use Rattle.list_definitions.proofs.DefLaws.{all_is}
 use Rattle.ink_list.proofs.Wrote.{read_items, union_rising, sift_rising, ascends_limit}
 use Rattle.list_definitions.proofs.AnswersFormed.{invert_rising, retarget_rising}
 use Rattle.op.specs.Op.{op_add, op_subtract, op_intersect, op_list_min, op_list_max, op_all, op_invert}
+use Rattle.ink_value.specs.declared.Kind.TheVariants as K
 use Rattle.ink_value.specs.declared.Value.TheVariants as Is
-use Rattle.ink_value.specs.declared.Outcome.TheVariants as Out
 
 -- ---- what the operators give rises below the limit
 
@@ -104,21 +104,21 @@ module _ (u : ListDefinitions) (within : length u.defined ≤ u.limit) (o : ℕ)
       rw (read_items (entries_for u o vs) n oi oi' ov ov' w)
       (ascends_limit 0 u.limit item_numbers (items (entries_for u o vs)) (omega arith) (entries_rise u u.limit within o vs wf))
 
-  pub makes : (r : Value) → r ≡ Is.List (origins_after u.ends o vs (take n oi')) 0 n → Gave (gives (list_result u o vs)) (Out.Value r) oi oi' ov ov'
+  pub makes : (r : Value) → r ≡ Is.List (origins_after u.ends o vs (take n oi')) 0 n → Gave (gives (list_result u o vs)) (gives r) oi oi' ov ov'
   makes r q =
-      gave_copy w (ap Out.Value (q ∙ ap (λ (l : List ℕ). Is.List (origins_after u.ends o vs l) 0 n) (read_items (entries_for u o vs) n oi oi' ov ov' w)))
+      gave_copy w (ap gives (q ∙ ap (λ (l : List ℕ). Is.List (origins_after u.ends o vs l) 0 n) (read_items (entries_for u o vs) n oi oi' ov ov' w)))
 
 -- the right operand of a list says which operator it is
-pub right_list : (u : ListDefinitions) (o : ℕ) (a : Val) (is : List ℕ) (vs : List ℤ) (b : Value) → code_of_value b ≡ 3
+pub right_list : (u : ListDefinitions) (o : ℕ) (a : Val) (is : List ℕ) (vs : List ℤ) (b : Value) → kind_in b ≡ K.List
     → list_binary u o a (val_of is vs b) ≡ merge_l u.limit o (entries_of a) (entries_of (val_of is vs b))
 unfolding list_binary
-right_list u o a is vs (Is.Bool b) e = absurd (omega arith)
-right_list u o a is vs (Is.Int z) e = absurd (omega arith)
-right_list u o a is vs (Is.Float x) e = absurd (omega arith)
+right_list u o a is vs (Is.Bool b) e = absurd cc
+right_list u o a is vs (Is.Int z) e = absurd cc
+right_list u o a is vs (Is.Float x) e = absurd cc
 right_list u o a is vs (Is.List s i n) e = refl
-right_list u o a is vs Is.Void e = absurd (omega arith)
+right_list u o a is vs Is.Void e = absurd cc
 
-pub right_int : (u : ListDefinitions) (o : ℕ) (a : Val) (is : List ℕ) (vs : List ℤ) (b : Value) → (code_of_value b ≡ 3 → ⊥)
+pub right_int : (u : ListDefinitions) (o : ℕ) (a : Val) (is : List ℕ) (vs : List ℤ) (b : Value) → (kind_in b ≡ K.List → ⊥)
     → list_binary u o a (val_of is vs b) ≡ shift_l u.ends u.defined o (origins_in a) (as_int (val_of is vs b)) (entries_of a)
 unfolding list_binary
 right_int u o a is vs (Is.Bool b) h = refl

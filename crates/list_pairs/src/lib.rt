@@ -6,43 +6,45 @@ ghost use Rattle.ink_list.specs.Entries.{item_numbers, Ascends, Rising};
 ghost use Rattle.ink_list.specs.Lists.{list_of, places, Fills};
 ghost use Rattle.ink_value.specs.Value.{Spans};
 ghost use Rattle.ink_value.specs.Slices.{entries_in};
+ghost use Rattle.op.specs.Op.{op_number};
 ghost use Rattle.list_pairs.specs.Pairs.{test_l, merge_l};
 
 use ink_list::entries::Entries;
 use ink_list::entries_mut::EntriesMut;
+use op::Op;
 
 // A test of two lists.
 #[tactic(auto, using(ink_list::proofs::Rests::items_entries, ink_list::proofs::Rests::values_entries), unfolding(crate::specs::Pairs::test_l))]
-pub fn test_entries(op: u8, a: Entries<'_>, b: Entries<'_>) -> bool
+pub fn test_entries(op: Op, a: Entries<'_>, b: Entries<'_>) -> bool
     requires rising_a { Ascends 0 item_numbers a.items.now }
     requires rising_b { Ascends 0 item_numbers b.items.now }
-    ensures { result ≡ test_l op (list_of a.entry) (list_of b.entry) }
+    ensures { result ≡ test_l (op_number op) (list_of a.entry) (list_of b.entry) }
 {
     match op {
-        op::EQUAL => list_equality::equal(a.items, b.items),
-        op::GREATER => list_comparisons::greater(a.values, b.values),
-        op::LESS => list_comparisons::less(a.values, b.values),
-        op::GREATER_THAN_OR_EQUALS => list_comparisons::greater_or_equals(a.values, b.values),
-        op::LESS_THAN_OR_EQUALS => list_comparisons::less_or_equals(a.values, b.values),
-        op::NOT_EQUALS => list_equality::not_equals(a.items, b.items),
-        op::HAS => list_has::has(a.items, b.items),
-        op::HASNT => list_has::hasnt(a.items, b.items),
+        Op::Equal => list_equality::equal(a.items, b.items),
+        Op::Greater => list_comparisons::greater(a.values, b.values),
+        Op::Less => list_comparisons::less(a.values, b.values),
+        Op::GreaterThanOrEquals => list_comparisons::greater_or_equals(a.values, b.values),
+        Op::LessThanOrEquals => list_comparisons::less_or_equals(a.values, b.values),
+        Op::NotEquals => list_equality::not_equals(a.items, b.items),
+        Op::Has => list_has::has(a.items, b.items),
+        Op::Hasnt => list_has::hasnt(a.items, b.items),
         _ => false,
     }
 }
 
 // A result that is a List.
 #[tactic(auto, using(ink_list::proofs::Rests::items_entries), unfolding(crate::specs::Pairs::merge_l))]
-pub fn merge(op: u8, a: Entries<'_>, b: Entries<'_>, out: &mut EntriesMut<'_>) -> usize
+pub fn merge(op: Op, a: Entries<'_>, b: Entries<'_>, out: &mut EntriesMut<'_>) -> usize
     requires rising_a { Ascends 0 (places out.old) a.items.now }
     requires rising_b { Ascends 0 (places out.old) b.items.now }
     ensures { (limit : ℕ) → Rising limit (list_of a.entry) → Rising limit (list_of b.entry)
-        → Fills (merge_l limit op (list_of a.entry) (list_of b.entry)) result out.old out.new }
+        → Fills (merge_l limit (op_number op) (list_of a.entry) (list_of b.entry)) result out.old out.new }
 {
     match op {
-        op::ADD => list_merge::union(a, b, out),
-        op::SUBTRACT => list_sift::without(a, b.items, out),
-        op::INTERSECT => list_sift::intersect(a, b.items, out),
+        Op::Add => list_merge::union(a, b, out),
+        Op::Subtract => list_sift::without(a, b.items, out),
+        Op::Intersect => list_sift::intersect(a, b.items, out),
         _ => 0,
     }
 }
@@ -50,7 +52,7 @@ pub fn merge(op: u8, a: Entries<'_>, b: Entries<'_>, out: &mut EntriesMut<'_>) -
 // ---- the same on entries that stand in lent slices: m from i on, and n from j on
 
 pub fn test_held(
-    op: u8,
+    op: Op,
     i: usize,
     m: usize,
     j: usize,
@@ -60,7 +62,7 @@ pub fn test_held(
 ) -> bool
     requires spans_a { Spans item_numbers items.now values.now i m }
     requires spans_b { Spans item_numbers items.now values.now j n }
-    ensures { result ≡ test_l op (entries_in items values i m) (entries_in items values j n) }
+    ensures { result ≡ test_l (op_number op) (entries_in items values i m) (entries_in items values j n) }
 {
     let e = i + m;
     let f = j + n;
@@ -76,7 +78,7 @@ pub fn test_held(
 }
 
 pub fn merge_held(
-    op: u8,
+    op: Op,
     i: usize,
     m: usize,
     j: usize,
@@ -89,7 +91,7 @@ pub fn merge_held(
     requires spans_b { Spans (places out.old) items.now values.now j n }
     ensures { (limit : ℕ) → Spans limit items.now values.now i m
         → Spans limit items.now values.now j n
-        → Fills (merge_l limit op (entries_in items values i m) (entries_in items values j n)) result out.old out.new }
+        → Fills (merge_l limit (op_number op) (entries_in items values i m) (entries_in items values j n)) result out.old out.new }
 {
     let e = i + m;
     let f = j + n;

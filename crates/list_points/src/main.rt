@@ -4,17 +4,15 @@
 
 ghost use Rattle.std.specs.Prelude.{◌≡◌, ◌≤◌, ℕ, length, IfSome};
 ghost use Rattle.ink_list.specs.Entries.{Ascends, item_numbers};
-ghost use Rattle.ink_list.specs.Lists.{places};
 
 use extreme_values::{lower_bound, upper_bound, value_of_list};
 use ink_list::entries::Entries;
-use ink_list::entries_mut::EntriesMut;
 use ink_list::well_formed::is_formed;
 use list_cases::read::{
-    CASE, CASES, FIRST, NUMBER, OTHER_NUMBER, POOL, SECOND, TITLE, WHAT, byte, items_of, pool,
-    title, value, values_of,
+    FIRST, NUMBER, OTHER_NUMBER, SECOND, TITLE, WHAT, byte, each_case, items_of, title, value,
+    values_of,
 };
-use list_cases::{ITEM_LIMIT, UNWRITTEN_ITEM, UNWRITTEN_VALUE, number, operand, result, test};
+use list_cases::{ITEM_LIMIT, number, operand, show, test};
 use list_comparisons::{greater, greater_or_equals, less, less_or_equals};
 use list_equality::{equal, not_equals};
 use list_extremes::{list_max, list_min};
@@ -22,7 +20,7 @@ use list_has::{has, hasnt};
 use list_merge::union;
 use list_range::range;
 use list_sift::{intersect, without};
-use test_output::line;
+use test_output::println;
 
 // A list, if it is well formed.
 fn formed<'a>(items: &'a [u16], values: &'a [i32]) -> Option<Entries<'a>>
@@ -34,20 +32,6 @@ fn formed<'a>(items: &'a [u16], values: &'a [i32]) -> Option<Entries<'a>>
     } else {
         None
     }
-}
-
-// An operator's answer, which it writes into 257 places.
-fn show<F: FnOnce(&mut EntriesMut<'_>) -> usize>(name: &[u8], operator: F)
-    requires { (out : _) → places out.now ≡ 257 → F.pre operator out }
-{
-    let mut items = [UNWRITTEN_ITEM; 257];
-    let mut values = [UNWRITTEN_VALUE; 257];
-    let mut out = EntriesMut {
-        items: &mut items,
-        values: &mut values,
-    };
-    let n = operator(&mut out);
-    result(name, n, &items, &values);
 }
 
 // The tests that go by items alone.
@@ -66,11 +50,11 @@ fn pair(ai: &[u16], av: &[i32], bi: &[u16], bv: &[i32]) {
     operand(b"a", ai, av);
     operand(b"b", bi, bv);
     let Some(a) = formed(ai, av) else {
-        line(b"  a is not well formed");
+        println("  a is not well formed");
         return;
     };
     let Some(b) = formed(bi, bv) else {
-        line(b"  b is not well formed");
+        println("  b is not well formed");
         return;
     };
     show(b"union", |out| union(a, b, out));
@@ -87,7 +71,7 @@ fn pair(ai: &[u16], av: &[i32], bi: &[u16], bv: &[i32]) {
 fn single(ai: &[u16], av: &[i32]) {
     operand(b"a", ai, av);
     let Some(a) = formed(ai, av) else {
-        line(b"  a is not well formed");
+        println("  a is not well formed");
         return;
     };
     show(b"list min", |out| list_min(a, out));
@@ -102,7 +86,7 @@ fn single(ai: &[u16], av: &[i32]) {
 fn ranged(ai: &[u16], av: &[i32], lower: i32, upper: i32) {
     operand(b"a", ai, av);
     let Some(a) = formed(ai, av) else {
-        line(b"  a is not well formed");
+        println("  a is not well formed");
         return;
     };
     number(b"lower", lower);
@@ -131,20 +115,7 @@ fn work(s: &[u8], items: &[u16], values: &[i32]) {
     }
 }
 
-fn work_all(s: &[u8], items: &[u16], values: &[i32]) {
-    for case in s.chunks_exact(CASE) {
-        work(case, items, values);
-    }
-}
-
+// The program's own work on each case; what such programs share stands in list_cases.
 fn main() {
-    let mut buf = io::large_buffer();
-    let n = io::read_full(0, &mut buf);
-    if n < CASES {
-        return;
-    }
-    let mut items = [0u16; POOL];
-    let mut values = [0i32; POOL];
-    pool(&buf, &mut items, &mut values);
-    work_all(&buf[CASES..n], &items, &values);
+    each_case(work);
 }

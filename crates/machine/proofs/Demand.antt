@@ -11,7 +11,8 @@ use lib.Dec.{ltb}
 use lib.ListN.{length, get_or, length-map, get_or-map}
 use Rattle.ink_number.specs.Answer.{Answer, gives, refuses, ask}
 use Rattle.ink_number.specs.Int.{divisor_question}
-use Rattle.ink_value.specs.Val.{Val, void, Kind, kind_of, code_of}
+use Rattle.ink_value.specs.Val.{Val, void, kind_of, code_of}
+use Rattle.ink_value.specs.declared.Kind.{Kind}
 use Rattle.operator_kinds.specs.Kinds.{known, arity, kind_apply}
 use Rattle.native_function_call.specs.Apply.{apply_op, Agree}
 use Rattle.list_definitions.specs.Defs.{ListDefinitions}

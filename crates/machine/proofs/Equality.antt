@@ -9,7 +9,9 @@ use Rattle.op.specs.Op.{op_equal, op_not_equals}
 use Rattle.ink_number.specs.Answer.{gives}
 use Rattle.ink_list.specs.Entries.{Entry, items}
 use Rattle.ink_list.specs.Ops.{equal}
-use Rattle.ink_value.specs.Val.{Val, bool, list, void, Kind, boolK, listK, voidK}
+use Rattle.ink_value.specs.Val.{Val, bool, list, void}
+use Rattle.ink_value.specs.declared.Kind.{Kind}
+use Rattle.ink_value.specs.declared.Kind.TheVariants as K
 use Rattle.operator_kinds.specs.Kinds.{known, unary, arity, kind_binary, kind_apply}
 use Rattle.native_function_call.proofs.Equality.{equals, not_equals_lem}
 use Rattle.pack.specs.Bodies.{Pack}
@@ -24,8 +26,8 @@ use Rattle.machine.proofs.Slots.{of_slots, slots_vetted, slots_run, one_opens}
 
 module _ (j k : ℕ) where
   -- "vetting forecasts Bool for them"
-  pub equal_vetted : (kinds : List Kind) → get_or kinds j voidK ≡ listK → get_or kinds k voidK ≡ listK
-      → ((vet (of_slots j k op_equal) kinds).end ≡ ended boolK) × ((vet (of_slots j k op_not_equals) kinds).end ≡ ended boolK)
+  pub equal_vetted : (kinds : List Kind) → get_or kinds j K.Void ≡ K.List → get_or kinds k K.Void ≡ K.List
+      → ((vet (of_slots j k op_equal) kinds).end ≡ ended K.Bool) × ((vet (of_slots j k op_not_equals) kinds).end ≡ ended K.Bool)
   unfolding known unary arity kind_binary kind_apply
   equal_vetted kinds left right =
       (slots_vetted op_equal refl refl j k kinds ∙ rw (left, right) refl, slots_vetted op_not_equals refl refl j k kinds ∙ rw (left, right) refl)

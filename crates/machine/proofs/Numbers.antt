@@ -8,7 +8,9 @@ use Prim.Native.Nat.{ℕ, ◌+◌}
 use lib.Dec.{eqb, ltb}
 use lib.ListN.{length}
 use Rattle.ink_number.specs.Answer.{Answer, gives, refuses, in_use, ask, and_then}
-use Rattle.ink_value.specs.Val.{Val, Kind, listK, kind_of, is_list}
+use Rattle.ink_value.specs.Val.{Val, kind_of, is_list}
+use Rattle.ink_value.specs.declared.Kind.{Kind}
+use Rattle.ink_value.specs.declared.Kind.TheVariants as K
 use Rattle.operator_kinds.specs.Kinds.{known, arity, is_void, common, available, result_kind, mixed, mixes, kind_unary, kind_binary, kind_range, kind_apply}
 use Rattle.list_definitions.specs.Defs.{ListDefinitions}
 use Rattle.native_function_call.specs.Apply.{apply_op, Agree}
@@ -51,13 +53,13 @@ unfolding kind_binary
 binary_numbered o a b =
     chosen (is_void a || is_void b) (refuses 11) _ refl
     (chosen (mixed a b) _ _
-    (chosen (mixes o a b) (gives (result_kind o listK)) (refuses 12) tt refl)
+    (chosen (mixes o a b) (gives (result_kind o K.List)) (refuses 12) tt refl)
     (chosen (available o (common a b)) (gives (result_kind o (common a b))) (refuses 13) tt refl))
 
 range_numbered : (a b c : Kind) → Numbered (kind_range a b c)
 unfolding kind_range
 range_numbered a b c =
-    chosen (is_void a || is_void b || is_void c) (refuses 11) _ refl (chosen (is_list a) (gives listK) (refuses 13) tt refl)
+    chosen (is_void a || is_void b || is_void c) (refuses 11) _ refl (chosen (is_list a) (gives K.List) (refuses 13) tt refl)
 
 apply_numbered : (o : ℕ) (ks : List Kind) → Numbered (kind_apply o ks)
 unfolding kind_apply

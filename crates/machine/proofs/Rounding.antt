@@ -12,7 +12,9 @@ use Rattle.binary32.specs.Binary32.{Binary32, Exactly}
 use Rattle.binary32.specs.Operations.{Floor, Ceiling}
 use Rattle.binary32.specs.Real.{floor_f, ceiling_f}
 use Rattle.binary32.proofs.Meets.{floor_meets, ceiling_meets}
-use Rattle.ink_value.specs.Val.{Val, float, void, Kind, boolK, intK, floatK, listK, voidK}
+use Rattle.ink_value.specs.Val.{Val, float, void}
+use Rattle.ink_value.specs.declared.Kind.{Kind}
+use Rattle.ink_value.specs.declared.Kind.TheVariants as K
 use Rattle.operator_kinds.specs.Kinds.{known, unary, arity, kind_unary, kind_apply}
 use Rattle.native_function_call.specs.Rounding.{rounded}
 use Rattle.native_function_call.proofs.Rounding.{floors, ceilings}
@@ -28,28 +30,28 @@ use Rattle.machine.proofs.Slots.{of_slot, end_at, slot_vetted, slot_run, one_ope
 
 -- the kind of what is rounded: a Float's is kept, and a Bool goes by its Int
 abbrev pub rounded_kind : Kind → Answer Kind
-rounded_kind boolK = gives intK
-rounded_kind intK = gives intK
-rounded_kind floatK = gives floatK
-rounded_kind listK = refuses 13
-rounded_kind voidK = refuses 11
+rounded_kind K.Bool = gives K.Int
+rounded_kind K.Int = gives K.Int
+rounded_kind K.Float = gives K.Float
+rounded_kind K.List = refuses 13
+rounded_kind K.Void = refuses 11
 
 of_kind : (k : Kind) → (kind_apply op_floor (k ∷ []) ≡ rounded_kind k) × (kind_apply op_ceiling (k ∷ []) ≡ rounded_kind k)
 unfolding unary arity kind_unary kind_apply
-of_kind boolK = (refl, refl)
-of_kind intK = (refl, refl)
-of_kind floatK = (refl, refl)
-of_kind listK = (refl, refl)
-of_kind voidK = (refl, refl)
+of_kind K.Bool = (refl, refl)
+of_kind K.Int = (refl, refl)
+of_kind K.Float = (refl, refl)
+of_kind K.List = (refl, refl)
+of_kind K.Void = (refl, refl)
 
 module _ (j : ℕ) where
   -- "vetting covers both operators as it covers the rest"
   pub rounding_vetted : (kinds : List Kind)
-      → ((vet (of_slot j op_floor) kinds).end ≡ end_at 1 (rounded_kind (get_or kinds j voidK)))
-      × ((vet (of_slot j op_ceiling) kinds).end ≡ end_at 1 (rounded_kind (get_or kinds j voidK)))
+      → ((vet (of_slot j op_floor) kinds).end ≡ end_at 1 (rounded_kind (get_or kinds j K.Void)))
+      × ((vet (of_slot j op_ceiling) kinds).end ≡ end_at 1 (rounded_kind (get_or kinds j K.Void)))
   unfolding known unary arity
   rounding_vetted kinds =
-      let e = of_kind (get_or kinds j voidK) in
+      let e = of_kind (get_or kinds j K.Void) in
       (slot_vetted op_floor refl refl j kinds ∙ rw e.0, slot_vetted op_ceiling refl refl j kinds ∙ rw e.1)
 
   -- a call for a run, of any pack that is opened

@@ -8,7 +8,9 @@ use Prim.Native.Nat.{ℕ, ◌≤◌}
 use native.Mathlib.Omega.{arith}
 use lib.ListN.{length, get_or}
 use Rattle.ink_number.specs.Answer.{Answer, gives, refuses}
-use Rattle.ink_value.specs.Val.{Val, void, Kind, voidK}
+use Rattle.ink_value.specs.Val.{Val, void}
+use Rattle.ink_value.specs.declared.Kind.{Kind}
+use Rattle.ink_value.specs.declared.Kind.TheVariants as K
 use Rattle.operator_kinds.specs.Kinds.{known, arity, kind_apply}
 use Rattle.native_function_call.specs.Apply.{apply_op}
 use Rattle.pack.specs.Bodies.{Pack, sheet}
@@ -52,11 +54,11 @@ module _ {X : Type 0} (value : Push → X) (apply : ℕ → List X → Answer X)
 
 module _ (o : ℕ) (is_Known : known o ≡ true) where
   -- what vetting says of it
-  pub slot_vetted : arity o ≡ 1 → (j : ℕ) (kinds : List Kind) → (vet (of_slot j o) kinds).end ≡ end_at 1 (kind_apply o (get_or kinds j voidK ∷ []))
+  pub slot_vetted : arity o ≡ 1 → (j : ℕ) (kinds : List Kind) → (vet (of_slot j o) kinds).end ≡ end_at 1 (kind_apply o (get_or kinds j K.Void ∷ []))
   slot_vetted one j kinds = one_operand (kind_pushed kinds) kind_apply o is_Known (push_slot j) one
 
   pub slots_vetted : arity o ≡ 2 → (j k : ℕ) (kinds : List Kind)
-      → (vet (of_slots j k o) kinds).end ≡ end_at 2 (kind_apply o (get_or kinds j voidK ∷ get_or kinds k voidK ∷ []))
+      → (vet (of_slots j k o) kinds).end ≡ end_at 2 (kind_apply o (get_or kinds j K.Void ∷ get_or kinds k K.Void ∷ []))
   slots_vetted two j k kinds = two_operands (kind_pushed kinds) kind_apply o is_Known (push_slot j) (push_slot k) two
 
   -- a call for a run, of any pack that is opened

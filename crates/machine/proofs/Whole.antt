@@ -9,7 +9,8 @@ use lib.Dec.{ltb}
 use lib.ListN.{length}
 use borrow.Author.Tests.{le-ltb, lt-ltb}
 use Rattle.ink_number.specs.Answer.{Answer, gives, refuses, ask, and_then}
-use Rattle.ink_value.specs.Val.{Val, Kind, kind_of}
+use Rattle.ink_value.specs.Val.{Val, kind_of}
+use Rattle.ink_value.specs.declared.Kind.{Kind}
 use Rattle.pack.specs.Bodies.{Pack}
 use Rattle.pack.specs.Judge.{judge}
 use Rattle.pack.specs.Read.{definitions_of, literal_of, sheet_of}

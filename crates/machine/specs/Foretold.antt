@@ -1,7 +1,8 @@
 -- Demand 3: what vetting's answer and forecast say of every run. Assumes nothing.
 use Rattle.std.specs.Prelude.{◌≡◌, ◌⊎◌, List, [], ◌∷◌, map, ℕ, ◌+◌, ◌*◌, ◌-◌, ◌<◌, length, get_or}
 use Rattle.ink_number.specs.Int.{divisor_question}
-use Rattle.ink_value.specs.Val.{Val, kind_of, Kind, code_of}
+use Rattle.ink_value.specs.Val.{Val, kind_of, code_of}
+use Rattle.ink_value.specs.declared.Kind.{Kind}
 use Rattle.machine.specs.Machine.{End, ended, stopped, Run}
 
 -- vetting's answer: passed, or turned back with a number at an index

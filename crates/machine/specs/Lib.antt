@@ -3,3 +3,4 @@ pub mod Machine
 pub mod Stack
 pub mod Whole
 pub mod Foretold
+pub mod Ended

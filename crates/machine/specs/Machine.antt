@@ -3,7 +3,9 @@ use Rattle.std.specs.Prelude.{List, [], ◌∷◌, ℕ, zero, suc, ◌+◌, ltb,
 use Rattle.std.proofs.Math.Option.{Option, none, some}
 use Rattle.ink_number.specs.Answer.{Answer, gives, refuses, ask}
 use Rattle.binary32.specs.Real.{of_bits32}
-use Rattle.ink_value.specs.Val.{Val, bool, int, float, list, void, Kind, boolK, intK, floatK, listK, voidK}
+use Rattle.ink_value.specs.Val.{Val, bool, int, float, list, void}
+use Rattle.ink_value.specs.declared.Kind.{Kind}
+use Rattle.ink_value.specs.declared.Kind.TheVariants as K
 use Rattle.operator_kinds.specs.Kinds.{known, arity, kind_apply}
 use Rattle.list_definitions.specs.Defs.{ListDefinitions}
 use Rattle.native_function_call.specs.Apply.{apply_op}
@@ -84,12 +86,12 @@ value_pushed literals slots push_void = void
 
 -- "a stack of kinds alone, a slot's being its code"
 abbrev pub kind_pushed : List Kind → Push → Kind
-kind_pushed kinds (push_bool b) = boolK
-kind_pushed kinds (push_int z) = intK
-kind_pushed kinds (push_float n) = floatK
-kind_pushed kinds (push_list l) = listK
-kind_pushed kinds (push_slot s) = get_or kinds s voidK
-kind_pushed kinds push_void = voidK
+kind_pushed kinds (push_bool b) = K.Bool
+kind_pushed kinds (push_int z) = K.Int
+kind_pushed kinds (push_float n) = K.Float
+kind_pushed kinds (push_list l) = K.List
+kind_pushed kinds (push_slot s) = get_or kinds s K.Void
+kind_pushed kinds push_void = K.Void
 
 -- a program's run: "Its state is a stack of values, empty at the start."
 abbrev pub run : ListDefinitions → List Instr → (ℕ → Literal) → List Val → Run Val

@@ -1,7 +1,8 @@
 -- A call on the bytes of a pack: questions 1 to 7, and then the machine. Assumes nothing.
 use Rattle.std.specs.Prelude.{◌≡◌, Bool, true, List, [], ℕ, ltb, length}
 use Rattle.ink_number.specs.Answer.{Answer, gives, refuses, ask, and_then}
-use Rattle.ink_value.specs.Val.{Val, Kind}
+use Rattle.ink_value.specs.Val.{Val}
+use Rattle.ink_value.specs.declared.Kind.{Kind}
 use Rattle.pack.specs.Bodies.{Pack}
 use Rattle.pack.specs.Judge.{judge}
 use Rattle.pack.specs.Read.{definitions_of, literal_of, sheet_of}
@@ -33,7 +34,7 @@ started (refuses r) f = record { stacks = []; end = stopped r 0 }
 abbrev pub sheet_run : Format → List ℕ → ℕ → (Pack → Bool) → List Val → Run Val
 sheet_run F p s memory slots = started (opened F p s memory) (λ d. run (definitions_of d F) (sheet_of d s) (literal_of d) slots)
 
--- vetting gets 16 kind codes for the slots
+-- vetting gets 16 kinds for the slots
 abbrev pub sheet_vet : Format → List ℕ → ℕ → (Pack → Bool) → List Kind → Run Kind
 sheet_vet F p s memory kinds = started (opened F p s memory) (λ d. vet (sheet_of d s) kinds)
 

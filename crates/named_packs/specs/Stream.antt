@@ -1,6 +1,6 @@
 -- A stream of named packs: each pack comes after its name, the name after its length of one byte, the pack after its length of three,
 -- little-endian. A position past the end reads as 0. Assumes nothing.
-use Rattle.std.specs.Prelude.{◌≡◌, List, ℕ, ◌+◌, ◌*◌, ◌≤◌, ◌<◌, Option, Some, None, length, get_or, slice_range}
+use Rattle.std.specs.Prelude.{◌≡◌, List, ℕ, ◌+◌, ◌*◌, ◌≤◌, ◌<◌, Option, Some, None, [], length, drop, get_or, slice_range}
 use Rattle.named_packs.specs.declared.NamedPack.{NamedPack}
 
 -- the number of three bytes at a position
@@ -20,3 +20,14 @@ Stands s at (Some named) =
     (named.name.now ≡ slice_range s (at + 1) (name_end s at)) × (named.pack.now ≡ slice_range s (name_end s at + 3) (pack_end s at))
     × (named.end ≡ pack_end s at) × (pack_end s at ≤ length s)
 Stands s at None = length s < pack_end s at
+
+-- how many bytes a pack that stands at the start takes with its name
+abbrev pub end_of : Option NamedPack → ℕ
+end_of (Some named) = named.end
+end_of None = 0
+
+-- the pack that stands at the start is next, and what stands after it is left
+pub record Yields (rest : List ℕ) (named : Option NamedPack) (left : List ℕ) : Type 0 where
+  pub first : 0 < length rest → Stands rest 0 named
+  pub none : rest ≡ [] → named ≡ None
+  pub after : left ≡ drop (end_of named) rest

@@ -2,7 +2,8 @@
 #![tactic(auto)]
 
 ghost use Rattle.std.specs.Prelude.{◌≡◌, ◌+◌, ◌<◌, length};
-ghost use Rattle.named_packs.specs.Stream.{size_at, Stands};
+ghost use Rattle.std.specs.Iterator.{at_most};
+ghost use Rattle.named_packs.specs.Stream.{size_at, Stands, Yields};
 
 // A pack and its name, and the position after both.
 #[derive(Clone, Copy)]
@@ -12,6 +13,7 @@ pub struct NamedPack<'a> {
     pub end: usize,
 }
 
+// Three bytes: the library reads numbers of two and of four.
 fn size_at(s: &[u8], at: usize) -> usize
     requires { at + 2 < length s.now }
     ensures { (result ≡ size_at s.now at) × (result < 16777216) }
@@ -41,4 +43,28 @@ pub fn read(s: &[u8], at: usize) -> Option<NamedPack<'_>>
         pack: &s[start..end],
         end,
     })
+}
+
+// What is left of a stream, pack by pack.
+#[derive(Clone, Copy)]
+pub struct NamedPacks<'a> {
+    pub rest: &'a [u8],
+}
+
+impl<'a> Iterator for NamedPacks<'a> {
+    type Item = NamedPack<'a>;
+
+    ghost next_gives = { λ before named after. Yields before.rest.now named after.rest.now };
+
+    ghost remaining = { λ packs. at_most (length packs.rest.now) };
+
+    // The next pack, None at the end and where the stream is cut short.
+    fn next(&mut self) -> Option<NamedPack<'a>> {
+        if self.rest.is_empty() {
+            return None;
+        }
+        let named = read(self.rest, 0)?;
+        self.rest = &self.rest[named.end..];
+        Some(named)
+    }
 }

@@ -5,7 +5,9 @@ use mathlib.Core.List.{List, [], ◌∷◌, map}
 use Prim.Native.Nat.{ℕ}
 use lib.Dec.{eqb}
 use lib.IntN.{ℤ}
-use Rattle.ink_value.specs.Val.{Val, Kind, boolK, intK, floatK, listK, voidK, kind_of}
+use Rattle.ink_value.specs.Val.{Val, kind_of}
+use Rattle.ink_value.specs.declared.Kind.{Kind}
+use Rattle.ink_value.specs.declared.Kind.TheVariants as K
 use Rattle.ink_number.specs.Answer.{Answer, gives, refuses}
 use Rattle.operator_kinds.specs.Kinds.{kind_apply}
 use Rattle.ink_value.specs.Convert.{as_int}
@@ -33,23 +35,23 @@ arith_fifteen o x y =
     (both_ways (eqb o op_multiply) _ _ tt
     (both_ways (eqb o op_mod) _ _ (both_ways (can_divide x y) _ _ tt refl) (both_ways (eqb o op_min) _ _ tt (both_ways (eqb o op_max) _ _ tt tt))))))
 
-int_agrees : (a : Answer ℤ) → Fifteen a → Agree (gives intK) (of_int a)
+int_agrees : (a : Answer ℤ) → Fifteen a → Agree (gives K.Int) (of_int a)
 int_agrees (gives z) h = refl
 int_agrees (refuses r) h = h
 
-whole_agrees : (o : ℕ) (vs : List Val) → Agree (gives intK) (whole o vs)
+whole_agrees : (o : ℕ) (vs : List Val) → Agree (gives K.Int) (whole o vs)
 whole_agrees o [] = refl
 whole_agrees o (a ∷ []) = refl
 whole_agrees o (a ∷ b ∷ []) = int_agrees (arith_z o (as_int a) (as_int b)) (arith_fifteen o (as_int a) (as_int b))
 whole_agrees o (a ∷ b ∷ c ∷ vs) = refl
 
-compute_agrees : (u : ListDefinitions) (o : ℕ) (vs : List Val) (k : Kind) → Agree (gives k) (compute u o vs k)
+pub compute_agrees : (u : ListDefinitions) (o : ℕ) (vs : List Val) (k : Kind) → Agree (gives k) (compute u o vs k)
 unfolding compute
-compute_agrees u o vs boolK = refl
-compute_agrees u o vs intK = whole_agrees o vs
-compute_agrees u o vs floatK = refl
-compute_agrees u o vs listK = refl
-compute_agrees u o vs voidK = refl
+compute_agrees u o vs K.Bool = refl
+compute_agrees u o vs K.Int = whole_agrees o vs
+compute_agrees u o vs K.Float = refl
+compute_agrees u o vs K.List = refl
+compute_agrees u o vs K.Void = refl
 
 guarded_agrees : (u : ListDefinitions) (o : ℕ) (vs : List Val) (q : Answer Kind) → Agree q (guarded q (compute u o vs))
 guarded_agrees u o vs (gives k) = compute_agrees u o vs k

@@ -11,7 +11,8 @@ use Rattle.ink_list.specs.Ops.{without, intersect}
 use Rattle.ink_list.proofs.SiftLaws.{without_self}
 use Rattle.list_definitions.specs.Defs.{ListDefinitions, origins_of, all, decrement}
 use Rattle.list_definitions.proofs.DefLaws.{all_is}
-use Rattle.ink_value.specs.Val.{Val, int, list, listK}
+use Rattle.ink_value.specs.Val.{Val, int, list}
+use Rattle.ink_value.specs.declared.Kind.TheVariants as K
 use Rattle.list_operators.specs.Lists.{list_binary, unary_l, shift_l}
 use Rattle.list_pairs.specs.Pairs.{merge_l}
 use Rattle.operator_kinds.specs.Kinds.{unary, arity, kind_unary, kind_binary, kind_apply}
@@ -35,7 +36,7 @@ module _ (u : ListDefinitions) (p : ℕ) (a : List Entry) where
 
     subtracts : apply_op u op_subtract lists ≡ result op_subtract lists (without u.limit a (items b))
     unfolding compute unary arity kind_binary kind_apply list_binary merge_l
-    subtracts = apply_gives u op_subtract lists listK refl
+    subtracts = apply_gives u op_subtract lists K.List refl
 
     -- "Subtract on two Lists with an empty result now keeps the left operand's origin set."
     pub subtract_none : without u.limit a (items b) ≡ [] → apply_op u op_subtract lists ≡ gives (list p [])
@@ -52,7 +53,7 @@ module _ (u : ListDefinitions) (p : ℕ) (a : List Entry) where
     unfolding compute unary arity kind_binary kind_apply list_binary merge_l
     intersects =
         let es = intersect u.limit a (items b) in
-        apply_gives u op_intersect lists listK refl
+        apply_gives u op_intersect lists K.List refl
         ∙ ap (λ (o : ℕ). gives (list o es)) (other_operator u.ends op_intersect lists (items es) (λ e. omega arith))
 
   -- and Subtract of a List and an Int
@@ -60,7 +61,7 @@ module _ (u : ListDefinitions) (p : ℕ) (a : List Entry) where
   unfolding compute unary arity kind_binary kind_apply list_binary shift_l
   subtracts_int n =
       let es = decrement u.ends u.defined p n a in
-      apply_gives u op_subtract (list p a ∷ int n ∷ []) listK refl
+      apply_gives u op_subtract (list p a ∷ int n ∷ []) K.List refl
       ∙ ap (λ (o : ℕ). gives (list o es)) (other_right u.ends op_subtract (list p a) (int n) (items es) refl)
 
   -- a List less itself
@@ -72,13 +73,13 @@ module _ (u : ListDefinitions) (p : ℕ) (a : List Entry) where
   unfolding compute unary arity kind_unary kind_apply unary_l
   alls =
       let es = all u.ends u.defined p in
-      apply_gives u op_all (list p a ∷ []) listK refl
+      apply_gives u op_all (list p a ∷ []) K.List refl
       ∙ ap (λ (o : ℕ). gives (list o es)) (other_operator u.ends op_all (list p a ∷ []) (items es) (λ e. omega arith))
 
   pub inverts_none : apply_op u op_invert (list p [] ∷ []) ≡ gives (listed (all u.ends u.defined p))
   unfolding compute unary arity kind_unary kind_apply unary_l
   inverts_none =
       let es = all u.ends u.defined p in
-      apply_gives u op_invert (list p [] ∷ []) listK refl
+      apply_gives u op_invert (list p [] ∷ []) K.List refl
       ∙ ap (result op_invert (list p [] ∷ [])) (all_is u.ends u.defined p)
       ∙ ap (λ (o : ℕ). gives (list o es)) (other_operator u.ends op_invert (list p [] ∷ []) (items es) (λ e. omega arith))

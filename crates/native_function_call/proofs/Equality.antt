@@ -11,7 +11,8 @@ use Rattle.ink_list.specs.Ops.{equal}
 use Rattle.ink_list.specs.ByFile.{eq_in_file}
 use Rattle.ink_list.proofs.EqualLaws.{equal_as_file}
 use Rattle.list_definitions.specs.Defs.{ListDefinitions}
-use Rattle.ink_value.specs.Val.{Val, bool, list, boolK}
+use Rattle.ink_value.specs.Val.{Val, bool, list}
+use Rattle.ink_value.specs.declared.Kind.TheVariants as K
 use Rattle.list_pairs.specs.Pairs.{test_l}
 use Rattle.operator_kinds.specs.Kinds.{unary, arity, kind_binary, kind_apply}
 use Rattle.native_function_call.specs.Apply.{apply_op, compute, test_lists}
@@ -24,11 +25,11 @@ module _ (u : ListDefinitions) (p q : ℕ) (a b : List Entry) where
   -- "The handbook's meaning is the same items on both sides"
   pub equals : apply_op u op_equal lists ≡ gives (bool (equal (items a) (items b)))
   unfolding compute unary arity kind_binary kind_apply test_lists test_l
-  equals = apply_gives u op_equal lists boolK refl
+  equals = apply_gives u op_equal lists K.Bool refl
 
   pub not_equals_lem : apply_op u op_not_equals lists ≡ gives (bool (not (equal (items a) (items b))))
   unfolding compute unary arity kind_binary kind_apply test_lists test_l
-  not_equals_lem = apply_gives u op_not_equals lists boolK refl
+  not_equals_lem = apply_gives u op_not_equals lists K.Bool refl
 
   -- "as the equality in ink_list.rs answers": as many items, and each of the left among the right's
   module _ (limit : ℕ) (ra : Rising limit a) (rb : Rising limit b) where

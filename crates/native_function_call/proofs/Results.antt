@@ -12,7 +12,9 @@ use lib.ListN.{length}
 use Rattle.slices.proofs.Every.{and_right}
 use Rattle.ink_list.specs.Entries.{items}
 use Rattle.ink_list.proofs.Formed.{formed_both}
-use Rattle.ink_value.specs.Val.{Val, Kind, bool, int, float, void, boolK, intK, floatK, listK, voidK, kind_of}
+use Rattle.ink_value.specs.Val.{Val, bool, int, float, void, kind_of}
+use Rattle.ink_value.specs.declared.Kind.{Kind}
+use Rattle.ink_value.specs.declared.Kind.TheVariants as K
 use Rattle.ink_value.specs.Convert.{as_int}
 use Rattle.ink_number.specs.Answer.{Answer, gives, refuses, ask}
 use Rattle.operator_kinds.specs.Kinds.{kind_apply}
@@ -54,11 +56,11 @@ module _ (u : ListDefinitions) where
 
   compute_formed : (o : ℕ) (vs : List Val) (k : Kind) → AllInPack total count vs → GivesInPack total count (compute u o vs k)
   unfolding compute
-  compute_formed o vs boolK h = plain_in_pack total count (bool (test o vs)) refl refl
-  compute_formed o vs intK h = whole_formed o vs
-  compute_formed o vs floatK h = plain_in_pack total count (float (real o vs)) refl refl
-  compute_formed o vs listK h = list_formed o vs h
-  compute_formed o vs voidK h = plain_in_pack total count void refl refl
+  compute_formed o vs K.Bool h = plain_in_pack total count (bool (test o vs)) refl refl
+  compute_formed o vs K.Int h = whole_formed o vs
+  compute_formed o vs K.Float h = plain_in_pack total count (float (real o vs)) refl refl
+  compute_formed o vs K.List h = list_formed o vs h
+  compute_formed o vs K.Void h = plain_in_pack total count void refl refl
 
   guarded_formed : (o : ℕ) (vs : List Val) (q : Answer Kind) → AllInPack total count vs → GivesInPack total count (guarded q (compute u o vs))
   guarded_formed o vs (gives k) h = compute_formed o vs k h

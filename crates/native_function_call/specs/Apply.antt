@@ -5,7 +5,9 @@ use Rattle.operator_kinds.specs.Kinds.{known, arity, kind_apply, common}
 use Rattle.ink_number.specs.Answer.{Answer, gives, refuses, ask}
 use Rattle.ink_number.specs.Int.{divisor_question}
 use Rattle.binary32.specs.Real.{of_int32}
-use Rattle.ink_value.specs.Val.{Val, bool, int, float, void, Kind, boolK, intK, floatK, listK, voidK, kind_of, is_list}
+use Rattle.ink_value.specs.Val.{Val, bool, int, float, void, kind_of, is_list}
+use Rattle.ink_value.specs.declared.Kind.{Kind}
+use Rattle.ink_value.specs.declared.Kind.TheVariants as K
 use Rattle.ink_value.specs.Convert.{as_int, as_float, truthy, entries_of}
 use Rattle.list_definitions.specs.Defs.{ListDefinitions}
 use Rattle.number_operators.specs.Numbers.{arith_z, arith_f, test_numbers, whole_unary, real_unary}
@@ -57,11 +59,11 @@ real o (a ∷ b ∷ c ∷ vs) = of_int32 (pos 0)
 
 -- the result, by its kind, where questions 8 to 13 say yes (no operator gives Void)
 unfoldable pub compute : ListDefinitions → ℕ → List Val → Kind → Answer Val
-compute u o vs boolK = gives (bool (test o vs))
-compute u o vs intK = whole o vs
-compute u o vs floatK = gives (float (real o vs))
-compute u o vs listK = gives (list_result u o vs)
-compute u o vs voidK = gives void
+compute u o vs K.Bool = gives (bool (test o vs))
+compute u o vs K.Int = whole o vs
+compute u o vs K.Float = gives (float (real o vs))
+compute u o vs K.List = gives (list_result u o vs)
+compute u o vs K.Void = gives void
 
 abbrev pub guarded : Answer Kind → (Kind → Answer Val) → Answer Val
 guarded (gives k) f = f k

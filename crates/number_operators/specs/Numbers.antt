@@ -7,7 +7,9 @@ use Rattle.operator_kinds.specs.Kinds.{common}
 use Rattle.ink_number.specs.Answer.{Answer, gives}
 use Rattle.ink_number.specs.Int.{wrap, quotient, remainder, min_z, max_z, eq_z, truthy_z}
 use Rattle.binary32.specs.Real.{add_f, sub_f, mul_f, div_f, rem_f, neg_f, floor_f, ceiling_f, min_f, max_f, eq_f, ne_f, lt_f, le_f, truthy_f, of_int32}
-use Rattle.ink_value.specs.Val.{Val, Kind, boolK, intK, floatK, listK, voidK, kind_of}
+use Rattle.ink_value.specs.Val.{Val, kind_of}
+use Rattle.ink_value.specs.declared.Kind.{Kind}
+use Rattle.ink_value.specs.declared.Kind.TheVariants as K
 use Rattle.ink_value.specs.Convert.{bit_z, as_int, as_float, truthy, entries_of}
 
 -- ---- two operands, of one kind
@@ -64,11 +66,11 @@ test_f o x y =
 
 -- two numbers, coerced to their common kind
 abbrev pub test_numbers : Kind → ℕ → Val → Val → Bool
-test_numbers boolK o a b = false
-test_numbers intK o a b = test_z o (as_int a) (as_int b)
-test_numbers floatK o a b = test_f o (as_float a) (as_float b)
-test_numbers listK o a b = false
-test_numbers voidK o a b = false
+test_numbers K.Bool o a b = false
+test_numbers K.Int o a b = test_z o (as_int a) (as_int b)
+test_numbers K.Float o a b = test_f o (as_float a) (as_float b)
+test_numbers K.List o a b = false
+test_numbers K.Void o a b = false
 
 -- two numbers, by their kinds
 abbrev pub test_two : ℕ → Val → Val → Bool

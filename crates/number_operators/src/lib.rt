@@ -3,7 +3,9 @@
 
 ghost use Rattle.std.specs.Prelude.{◌≡◌, not, ◌&&◌, ◌||◌, eqb};
 ghost use Rattle.ink_number.specs.Question.{answer};
-ghost use Rattle.ink_value.specs.Val.{code_of, floatK};
+ghost use Rattle.op.specs.Op.{op_number};
+ghost use Rattle.ink_value.specs.Val.{code_of};
+ghost use Rattle.ink_value.specs.declared.Kind.TheVariants as K;
 ghost use Rattle.ink_value.specs.Convert.{as_int, as_float, truthy};
 ghost use Rattle.ink_value.specs.Value.{number_of};
 ghost use Rattle.number_operators.specs.Numbers.{arith_z, arith_f, unary_f, test_z, test_f, test_two, whole_unary, real_unary};
@@ -11,75 +13,80 @@ ghost use Rattle.number_operators.specs.Numbers.{arith_z, arith_f, unary_f, test
 use crate::number::Number;
 use ink_number::int;
 use ink_number::question::Question;
-use ink_value::kind_code;
+use ink_value::Kind;
+use op::Op;
 
 pub mod number;
 
 // The arithmetic of two numbers of one kind.
-pub fn arith<N: Number>(op: u8, x: N, y: N) -> N::Outcome
-    ensures { N.says result ≡ N.arith op x y }
+pub fn arith<N: Number>(op: Op, x: N, y: N) -> N::Outcome
+    ensures { N.says result ≡ N.arith (op_number op) x y }
 {
     match op {
-        op::ADD => x.add(y),
-        op::SUBTRACT => x.subtract(y),
-        op::DIVIDE => x.divide(y),
-        op::MULTIPLY => x.multiply(y),
-        op::MOD => x.remainder(y),
-        op::MIN => x.smaller(y),
-        op::MAX => x.greater(y),
+        Op::Add => x.add(y),
+        Op::Subtract => x.subtract(y),
+        Op::Divide => x.divide(y),
+        Op::Multiply => x.multiply(y),
+        Op::Mod => x.remainder(y),
+        Op::Min => x.smaller(y),
+        Op::Max => x.greater(y),
         _ => N::zero(),
     }
 }
 
 #[tactic(auto, unfolding(crate::specs::Numbers::unary_f))]
-pub fn unary_float(op: u8, x: f32) -> f32
-    ensures { result ≡ unary_f op x }
+pub fn unary_float(op: Op, x: f32) -> f32
+    ensures { result ≡ unary_f (op_number op) x }
 {
     match op {
-        op::NEGATE => ink_float::neg(x),
-        op::FLOOR => integral_float::floor(x),
-        op::CEILING => integral_float::ceiling(x),
-        op::FLOAT => x,
+        Op::Negate => ink_float::neg(x),
+        Op::Floor => integral_float::floor(x),
+        Op::Ceiling => integral_float::ceiling(x),
+        Op::Float => x,
         _ => float_conversions::int_to_float(0),
     }
 }
 
 // The tests on two numbers of one kind.
-pub fn test<N: Number>(op: u8, x: N, y: N) -> bool
-    ensures { result ≡ N.test op x y }
+pub fn test<N: Number>(op: Op, x: N, y: N) -> bool
+    ensures { result ≡ N.test (op_number op) x y }
 {
     match op {
-        op::EQUAL => x.eq(y),
-        op::GREATER => x.gt(y),
-        op::LESS => x.lt(y),
-        op::GREATER_THAN_OR_EQUALS => x.ge(y),
-        op::LESS_THAN_OR_EQUALS => x.le(y),
-        op::NOT_EQUALS => x.ne(y),
+        Op::Equal => x.eq(y),
+        Op::Greater => x.gt(y),
+        Op::Less => x.lt(y),
+        Op::GreaterThanOrEquals => x.ge(y),
+        Op::LessThanOrEquals => x.le(y),
+        Op::NotEquals => x.ne(y),
         // `&` and `|` have no branch.
-        op::AND => x.truthy() & y.truthy(),
-        op::OR => x.truthy() | y.truthy(),
+        Op::And => x.truthy() & y.truthy(),
+        Op::Or => x.truthy() | y.truthy(),
         _ => false,
     }
 }
 
-// ---- numbers in parts: kind code k, and the number z or x that a value of that kind holds
+// ---- numbers in parts: kind k, and the number z or x that a value of that kind holds
 
 // A result that is a Bool, of one number and of two.
-pub fn number_test1(ka: u8, za: i32, xa: f32) -> bool
+pub fn number_test1(ka: Kind, za: i32, xa: f32) -> bool
     ensures { result ≡ not (truthy (number_of ka za xa)) }
 {
     !ink_value::number_truth(ka, za, xa)
 }
 
-// Is one of two numbers a Float, by their kind codes.
-fn any_float(left: u8, right: u8) -> bool
-    ensures { result ≡ eqb left (code_of floatK) || eqb right (code_of floatK) }
+// Is one of two numbers a Float, by their kinds.
+fn any_float(left: Kind, right: Kind) -> bool
+    ensures { result ≡ eqb (code_of left) (code_of K.Float) || eqb (code_of right) (code_of K.Float) }
 {
-    left == kind_code::FLOAT || right == kind_code::FLOAT
+    match (left, right) {
+        (Kind::Float, _) => true,
+        (_, Kind::Float) => true,
+        _ => false,
+    }
 }
 
-pub fn number_test2(op: u8, ka: u8, za: i32, xa: f32, kb: u8, zb: i32, xb: f32) -> bool
-    ensures { result ≡ test_two op (number_of ka za xa) (number_of kb zb xb) }
+pub fn number_test2(op: Op, ka: Kind, za: i32, xa: f32, kb: Kind, zb: i32, xb: f32) -> bool
+    ensures { result ≡ test_two (op_number op) (number_of ka za xa) (number_of kb zb xb) }
 {
     if any_float(ka, kb) {
         return test(
@@ -97,30 +104,27 @@ pub fn number_test2(op: u8, ka: u8, za: i32, xa: f32, kb: u8, zb: i32, xb: f32) 
 
 // A result that is an Int.
 #[tactic(auto, unfolding(crate::specs::Numbers::whole_unary))]
-pub fn number_whole1(op: u8, ka: u8, za: i32, xa: f32) -> i32
-    ensures { result ≡ whole_unary op (number_of ka za xa) }
+pub fn number_whole1(op: Op, ka: Kind, za: i32, xa: f32) -> i32
+    ensures { result ≡ whole_unary (op_number op) (number_of ka za xa) }
 {
     match op {
-        op::NEGATE => int::wrapping_neg(ink_value::number_int(ka, za, xa)),
-        op::NOT => ink_value::bit(!ink_value::number_truth(ka, za, xa)),
-        op::FLOOR => ink_value::number_int(ka, za, xa),
-        op::CEILING => ink_value::number_int(ka, za, xa),
-        op::INT => ink_value::number_int(ka, za, xa),
-        op::VALUE_OF_LIST => ink_value::number_int(ka, za, xa),
+        Op::Negate => int::wrapping_neg(ink_value::number_int(ka, za, xa)),
+        Op::Not => ink_value::bit(!ink_value::number_truth(ka, za, xa)),
+        Op::Floor | Op::Ceiling | Op::Int | Op::ValueOfList => ink_value::number_int(ka, za, xa),
         _ => 0,
     }
 }
 
 pub fn number_whole2(
-    op: u8,
-    ka: u8,
+    op: Op,
+    ka: Kind,
     za: i32,
     xa: f32,
-    kb: u8,
+    kb: Kind,
     zb: i32,
     xb: f32,
 ) -> Result<i32, Question>
-    ensures { answer result ≡ arith_z op (as_int (number_of ka za xa)) (as_int (number_of kb zb xb)) }
+    ensures { answer result ≡ arith_z (op_number op) (as_int (number_of ka za xa)) (as_int (number_of kb zb xb)) }
 {
     arith(
         op,
@@ -131,14 +135,14 @@ pub fn number_whole2(
 
 // A result that is a Float.
 #[tactic(auto, unfolding(crate::specs::Numbers::real_unary))]
-pub fn number_real1(op: u8, ka: u8, za: i32, xa: f32) -> f32
-    ensures { result ≡ real_unary op (number_of ka za xa) }
+pub fn number_real1(op: Op, ka: Kind, za: i32, xa: f32) -> f32
+    ensures { result ≡ real_unary (op_number op) (number_of ka za xa) }
 {
     unary_float(op, ink_value::number_float(ka, za, xa))
 }
 
-pub fn number_real2(op: u8, ka: u8, za: i32, xa: f32, kb: u8, zb: i32, xb: f32) -> f32
-    ensures { result ≡ arith_f op (as_float (number_of ka za xa)) (as_float (number_of kb zb xb)) }
+pub fn number_real2(op: Op, ka: Kind, za: i32, xa: f32, kb: Kind, zb: i32, xb: f32) -> f32
+    ensures { result ≡ arith_f (op_number op) (as_float (number_of ka za xa)) (as_float (number_of kb zb xb)) }
 {
     arith(
         op,

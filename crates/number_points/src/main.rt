@@ -6,7 +6,8 @@
 use ink_number::int;
 use ink_number::question::Question;
 use number_operators::number::Number;
-use test_output::{decimal, line, natural, pattern, text};
+use op::Op;
+use test_output::{print, println};
 
 // What a row shows: an Int, two Ints, a pattern, two Floats.
 #[derive(Clone, Copy)]
@@ -102,13 +103,11 @@ const PATTERNS: [u32; 16] = [
 ];
 
 fn print_int(n: i32) {
-    text(b" ");
-    decimal(n);
+    print(format_args!(" {n}"));
 }
 
 fn print_pattern(b: u32) {
-    text(b" ");
-    pattern(b);
+    print(format_args!(" {b:08x}"));
 }
 
 fn print_float(x: f32) {
@@ -116,24 +115,23 @@ fn print_float(x: f32) {
 }
 
 fn print_bool(b: bool) {
-    text(if b { b" 1" } else { b" 0" });
+    let digit = u8::from(b);
+    print(format_args!(" {digit}"));
 }
 
 fn print_divided(d: Result<i32, Question>) {
     match d {
         Ok(z) => print_int(z),
         Err(question) => {
-            text(b" R ");
-            natural(u64::from(question.number()));
+            let number = question.number();
+            print(format_args!(" R {number}"));
         }
     }
 }
 
 // The pattern of an Int, what is opposite, its truth and its Float.
 fn int_value(a: i32) {
-    text(b"int");
-    print_int(a);
-    text(b":");
+    print(format_args!("int {a}:"));
     print_pattern(int::pattern(a));
     print_int(int::wrapping_neg(a));
     print_bool(int_comparisons::truthy(a));
@@ -145,13 +143,13 @@ fn arithmetic<N: Number, F: Fn(N::Outcome)>(x: N, y: N, show: F)
     requires { F.IsAlwaysCallable show }
 {
     for op in [
-        op::ADD,
-        op::SUBTRACT,
-        op::MULTIPLY,
-        op::DIVIDE,
-        op::MOD,
-        op::MIN,
-        op::MAX,
+        Op::Add,
+        Op::Subtract,
+        Op::Multiply,
+        Op::Divide,
+        Op::Mod,
+        Op::Min,
+        Op::Max,
     ] {
         show(number_operators::arith(op, x, y));
     }
@@ -160,22 +158,19 @@ fn arithmetic<N: Number, F: Fn(N::Outcome)>(x: N, y: N, show: F)
 // The tests on two numbers of one kind.
 fn tests<N: Number>(x: N, y: N) {
     for op in [
-        op::EQUAL,
-        op::NOT_EQUALS,
-        op::LESS,
-        op::LESS_THAN_OR_EQUALS,
-        op::GREATER,
-        op::GREATER_THAN_OR_EQUALS,
+        Op::Equal,
+        Op::NotEquals,
+        Op::Less,
+        Op::LessThanOrEquals,
+        Op::Greater,
+        Op::GreaterThanOrEquals,
     ] {
         print_bool(number_operators::test(op, x, y));
     }
 }
 
 fn int_pair(a: i32, b: i32) {
-    text(b"int");
-    print_int(a);
-    print_int(b);
-    text(b":");
+    print(format_args!("int {a} {b}:"));
     arithmetic(a, b, print_divided);
     tests(a, b);
     print_bool(int::can_divide(a, b));
@@ -192,18 +187,16 @@ fn float_forms(x: f32) {
 }
 
 fn pattern_value(b: u32) {
-    text(b"pattern");
-    print_pattern(b);
-    text(b":");
+    print(format_args!("pattern {b:08x}:"));
     print_int(int::signed_of(b));
     float_forms(float_conversions::float_from_bits(b));
 }
 
 fn float_pair(x: f32, y: f32) {
-    text(b"float");
+    print("float");
     print_float(x);
     print_float(y);
-    text(b":");
+    print(":");
     arithmetic(x, y, print_float);
     tests(x, y);
 }
@@ -218,7 +211,7 @@ fn print_row(what: Row, a: u32, b: u32) {
             float_conversions::float_from_bits(b),
         ),
     }
-    text(b"\n");
+    println("");
 }
 
 // A row of each pattern, beside a where the row is of two.
@@ -235,49 +228,47 @@ fn pairs(what: Row, patterns: &[u32]) {
     }
 }
 
-fn divided_point(name: &[u8], d: Result<i32, Question>) {
-    text(b"point ");
-    text(name);
+fn divided_point(name: &str, d: Result<i32, Question>) {
+    print(format_args!("point {name}"));
     print_divided(d);
-    text(b"\n");
+    println("");
 }
 
-fn float_point(name: &[u8], n: i32) {
-    text(b"point ");
-    text(name);
+fn float_point(name: &str, n: i32) {
+    print(format_args!("point {name}"));
     print_float(float_conversions::int_to_float(n));
-    text(b"\n");
+    println("");
 }
 
 fn division_points() {
-    divided_point(b"-7 / 2:", int::divide(-7, 2));
-    divided_point(b"-7 % 2:", int::remainder_of(-7, 2));
-    divided_point(b"-2147483648 / -1:", int::divide(i32::MIN, -1));
+    divided_point("-7 / 2:", int::divide(-7, 2));
+    divided_point("-7 % 2:", int::remainder_of(-7, 2));
+    divided_point("-2147483648 / -1:", int::divide(i32::MIN, -1));
 }
 
 fn conversion_points() {
-    float_point(b"16777216 to Float:", 16777216);
-    float_point(b"16777217 to Float:", 16777217);
-    float_point(b"16777219 to Float:", 16777219);
+    float_point("16777216 to Float:", 16777216);
+    float_point("16777217 to Float:", 16777217);
+    float_point("16777219 to Float:", 16777219);
     divided_point(
-        b"Int of 2147483648.0:",
+        "Int of 2147483648.0:",
         Ok(float_conversions::float_to_int(2147483648.0)),
     );
 }
 
 fn ints() {
-    line(b"# int a: pattern, -a, truthy, as Float");
+    println("# int a: pattern, -a, truthy, as Float");
     rows(Row::Int, 0, &INTS);
     rows(Row::Int, 0, &ROUNDED);
-    line(b"# int a b: + - * / % min max == != < <= > >= can_divide");
+    println("# int a b: + - * / % min max == != < <= > >= can_divide");
     pairs(Row::Ints, &INTS);
 }
 
 fn floats() {
-    line(b"# pattern b: as Int; the Float x, -x, floor, ceiling, truthy, x to Int");
+    println("# pattern b: as Int; the Float x, -x, floor, ceiling, truthy, x to Int");
     rows(Row::Pattern, 0, &FLOATS);
     rows(Row::Pattern, 0, &PATTERNS);
-    line(b"# float x y: + - * / % min max == != < <= > >=");
+    println("# float x y: + - * / % min max == != < <= > >=");
     pairs(Row::Floats, &FLOATS);
 }
 

@@ -1,5 +1,7 @@
 -- The operators' numbers: "Bytes 0 to 30 are the cases of `Op` in source order", and 31 is range. Assumes nothing.
-use Rattle.std.specs.Prelude.{ℕ}
+use Rattle.std.specs.Prelude.{ℕ, ◌+◌}
+use Rattle.op.specs.declared.Op.{Op}
+use Rattle.op.specs.declared.Op.TheVariants as Is
 
 abbrev pub op_add : ℕ
 op_add = 0
@@ -96,3 +98,39 @@ op_invert = 30
 
 abbrev pub op_range : ℕ
 op_range = 31
+
+-- an operator's number; no operator has those from 32 on
+abbrev pub op_number : Op → ℕ
+op_number Is.Add = op_add
+op_number Is.Subtract = op_subtract
+op_number Is.Divide = op_divide
+op_number Is.Multiply = op_multiply
+op_number Is.Mod = op_mod
+op_number Is.Negate = op_negate
+op_number Is.Equal = op_equal
+op_number Is.Greater = op_greater
+op_number Is.Less = op_less
+op_number Is.GreaterThanOrEquals = op_greater_than_or_equals
+op_number Is.LessThanOrEquals = op_less_than_or_equals
+op_number Is.NotEquals = op_not_equals
+op_number Is.Not = op_not
+op_number Is.And = op_and
+op_number Is.Or = op_or
+op_number Is.Min = op_min
+op_number Is.Max = op_max
+op_number Is.Pow = op_pow
+op_number Is.Floor = op_floor
+op_number Is.Ceiling = op_ceiling
+op_number Is.Int = op_int
+op_number Is.Float = op_float
+op_number Is.Has = op_has
+op_number Is.Hasnt = op_hasnt
+op_number Is.Intersect = op_intersect
+op_number Is.ListMin = op_list_min
+op_number Is.ListMax = op_list_max
+op_number Is.All = op_all
+op_number Is.Count = op_count
+op_number Is.ValueOfList = op_value_of_list
+op_number Is.Invert = op_invert
+op_number Is.Range = op_range
+op_number (Is.Other n) = 32 + n

@@ -1,66 +1,126 @@
-// The operators' numbers: the cases of `Op` in the order of Ink's source, and range.
+// The operators: the cases of `Op` in Ink's source, and range.
 #![tactic(auto)]
 
-pub const ADD: u8 = 0;
+ghost use Rattle.std.specs.Prelude.{◌≡◌};
+ghost use Rattle.op.specs.Op.{op_number};
 
-pub const SUBTRACT: u8 = 1;
+// The operators in the order of their numbers; `Other` is a number that none has, from 32 on.
+#[derive(Clone, Copy, Debug, PartialEq, Eq)]
+pub enum Op {
+    Add,
+    Subtract,
+    Divide,
+    Multiply,
+    Mod,
+    Negate,
+    Equal,
+    Greater,
+    Less,
+    GreaterThanOrEquals,
+    LessThanOrEquals,
+    NotEquals,
+    Not,
+    And,
+    Or,
+    Min,
+    Max,
+    Pow,
+    Floor,
+    Ceiling,
+    Int,
+    Float,
+    Has,
+    Hasnt,
+    Intersect,
+    ListMin,
+    ListMax,
+    All,
+    Count,
+    ValueOfList,
+    Invert,
+    Range,
+    Other(u8),
+}
 
-pub const DIVIDE: u8 = 2;
-
-pub const MULTIPLY: u8 = 3;
-
-pub const MOD: u8 = 4;
-
-pub const NEGATE: u8 = 5;
-
-pub const EQUAL: u8 = 6;
-
-pub const GREATER: u8 = 7;
-
-pub const LESS: u8 = 8;
-
-pub const GREATER_THAN_OR_EQUALS: u8 = 9;
-
-pub const LESS_THAN_OR_EQUALS: u8 = 10;
-
-pub const NOT_EQUALS: u8 = 11;
-
-pub const NOT: u8 = 12;
-
-pub const AND: u8 = 13;
-
-pub const OR: u8 = 14;
-
-pub const MIN: u8 = 15;
-
-pub const MAX: u8 = 16;
-
-pub const POW: u8 = 17;
-
-pub const FLOOR: u8 = 18;
-
-pub const CEILING: u8 = 19;
-
-pub const INT: u8 = 20;
-
-pub const FLOAT: u8 = 21;
-
-pub const HAS: u8 = 22;
-
-pub const HASNT: u8 = 23;
-
-pub const INTERSECT: u8 = 24;
-
-pub const LIST_MIN: u8 = 25;
-
-pub const LIST_MAX: u8 = 26;
-
-pub const ALL: u8 = 27;
-
-pub const COUNT: u8 = 28;
-
-pub const VALUE_OF_LIST: u8 = 29;
-
-pub const INVERT: u8 = 30;
-
-pub const RANGE: u8 = 31;
+impl Op {
+    // The operator with this number.
+    pub fn numbered(n: u8) -> Op
+        ensures { op_number result ≡ n }
+    {
+        match n {
+            0 => Op::Add,
+            1 => Op::Subtract,
+            2 => Op::Divide,
+            3 => Op::Multiply,
+            4 => Op::Mod,
+            5 => Op::Negate,
+            6 => Op::Equal,
+            7 => Op::Greater,
+            8 => Op::Less,
+            9 => Op::GreaterThanOrEquals,
+            10 => Op::LessThanOrEquals,
+            11 => Op::NotEquals,
+            12 => Op::Not,
+            13 => Op::And,
+            14 => Op::Or,
+            15 => Op::Min,
+            16 => Op::Max,
+            17 => Op::Pow,
+            18 => Op::Floor,
+            19 => Op::Ceiling,
+            20 => Op::Int,
+            21 => Op::Float,
+            22 => Op::Has,
+            23 => Op::Hasnt,
+            24 => Op::Intersect,
+            25 => Op::ListMin,
+            26 => Op::ListMax,
+            27 => Op::All,
+            28 => Op::Count,
+            29 => Op::ValueOfList,
+            30 => Op::Invert,
+            31 => Op::Range,
+            _ => Op::Other(n - 32),
+        }
+    }
+    // Its number; no operator has one from 32 on.
+    pub fn number(self) -> usize
+        ensures { result ≡ op_number self }
+    {
+        match self {
+            Op::Add => 0,
+            Op::Subtract => 1,
+            Op::Divide => 2,
+            Op::Multiply => 3,
+            Op::Mod => 4,
+            Op::Negate => 5,
+            Op::Equal => 6,
+            Op::Greater => 7,
+            Op::Less => 8,
+            Op::GreaterThanOrEquals => 9,
+            Op::LessThanOrEquals => 10,
+            Op::NotEquals => 11,
+            Op::Not => 12,
+            Op::And => 13,
+            Op::Or => 14,
+            Op::Min => 15,
+            Op::Max => 16,
+            Op::Pow => 17,
+            Op::Floor => 18,
+            Op::Ceiling => 19,
+            Op::Int => 20,
+            Op::Float => 21,
+            Op::Has => 22,
+            Op::Hasnt => 23,
+            Op::Intersect => 24,
+            Op::ListMin => 25,
+            Op::ListMax => 26,
+            Op::All => 27,
+            Op::Count => 28,
+            Op::ValueOfList => 29,
+            Op::Invert => 30,
+            Op::Range => 31,
+            Op::Other(n) => 32 + n as usize,
+        }
+    }
+}

@@ -1,30 +1,35 @@
 -- Values put at a place of two slices: what each leaves is what the definitions say. Assumes nothing.
 use mathlib.Core.Path.{◌≡◌, refl, sym, ap, ◌∙◌, subst}
-use mathlib.Core.List.{List, []}
+use mathlib.Core.List.{List, [], ◌∷◌}
 use Prim.Native.Nat.{ℕ, suc, ◌+◌, ◌*◌, ◌≤◌, ◌<◌}
 use native.Mathlib.Omega.{arith}
 use native.Mathlib.Nat.{suc-mul, mul-le-mul_right}
 use lib.IntN.{ℤ}
-use lib.ListN.{length}
-use Rattle.ink_number.specs.Answer.{Answer, gives}
+use lib.ListN.{length, take}
+use Rattle.ink_number.specs.Answer.{Answer, gives, refuses}
 use Rattle.ink_list.specs.Entries.{Entry, items, values, Rising, Stored}
 use Rattle.slices.specs.Filled.{fill}
 use Rattle.slices.proofs.Filled.{fill_nothing}
-use Rattle.ink_value.specs.Val.{Val, bool, int, float, void}
+use Rattle.ink_value.specs.Val.{Val, bool, int, float, list, void}
 use Rattle.ink_value.specs.Convert.{entries_of}
-use Rattle.ink_value.specs.Value.{val_of, code_of_value, held, len_of, set_in, placed_val, Formed, FirstFormed, Gave, first_of}
+use Rattle.ink_value.specs.declared.Kind.{Kind}
+use Rattle.ink_value.specs.declared.Kind.TheVariants as K
+use Rattle.ink_value.specs.Value.{val_of, placed, held, placed_val, Formed, FirstFormed, Gave, first_of}
 use Rattle.ink_value.specs.declared.Value.{Value}
 use Rattle.ink_value.specs.declared.Value.TheVariants as Is
-use Rattle.ink_value.specs.declared.Outcome.TheVariants as Out
-use Rattle.ink_value.proofs.Reading.{list_in, len_in, entries_in_lem, rising_in}
+use Rattle.ink_value.proofs.Reading.{len_in, entries_in_lem, rising_in}
 use Rattle.ink_value.proofs.ReadBack.{read_back, formed_back, first_wf}
 use Rattle.list_operators.specs.Lists.{definitions, entries_for, list_result}
 use Rattle.list_operators.proofs.Listing.{entries_rise}
+use Rattle.list_definitions.specs.Defs.{ListDefinitions}
+use Rattle.native_function_call.specs.Apply.{compute, Agree}
+use Rattle.native_function_call.proofs.Agree.{compute_agrees}
+use Rattle.native_function_call.proofs.Calling.{two_of}
 use Rattle.pack.specs.Read.{PackLists}
 use Rattle.pack.specs.declared.format.Format.{Format}
 use Rattle.machine.specs.Machine.{stack_limit}
-use Rattle.operating.specs.Stacked.{work_limit, placed_at, Put, start_at, Answered}
-use Rattle.operating.specs.declared.Step.TheVariants as St
+use Rattle.operating.specs.Stacked.{work_limit, placed_at, Put, start_at, Answered, Bare}
+use Rattle.machine.specs.declared.Top.{Top}
 
 -- a place of the stack has room for a list
 pub place_fits : (F : Format) (place n : ℕ) → place < stack_limit → n ≤ F.limit → start_at F place + n ≤ work_limit F
@@ -44,32 +49,31 @@ put_none {F} x at r oi ov e q =
       rising = subst (Rising F.limit) (sym e) tt;
     }
 
-pub put_plain : {F : Format} (at : ℕ) (is : List ℕ) (vs : List ℤ) (v : Value) (oi : List ℕ) (ov : List ℤ) → (code_of_value v ≡ 3 → ⊥) → Put F (val_of is vs v) at v oi oi ov ov
+pub put_plain : {F : Format} (at : ℕ) (is : List ℕ) (vs : List ℤ) (v : Value) (oi : List ℕ) (ov : List ℤ)
+    → ((o s n : ℕ) → v ≡ Is.List o s n → ⊥) → Put F (val_of is vs v) at v oi oi ov ov
 put_plain at is vs (Is.Bool b) oi ov h = put_none (bool b) at (Is.Bool b) oi ov refl refl
 put_plain at is vs (Is.Int z) oi ov h = put_none (int z) at (Is.Int z) oi ov refl refl
 put_plain at is vs (Is.Float x) oi ov h = put_none (float x) at (Is.Float x) oi ov refl refl
-put_plain at is vs (Is.List o s n) oi ov h = absurd (h refl)
+put_plain at is vs (Is.List o s n) oi ov h = absurd (h o s n refl)
 put_plain at is vs Is.Void oi ov h = put_none void at Is.Void oi ov refl refl
 
 -- a list that is copied from its slices
-module _ (F : Format) (is : List ℕ) (vs : List ℤ) (v : Value) (f : Formed F.limit is vs v) (to : ℕ)
-    (m : ℕ) {oi ois : List ℕ} {ov ovs : List ℤ} (w : Stored to (held is vs v) m oi ois ov ovs) where
-  pub put_copied : (o n : ℕ) {r : Value} → o ≡ set_in v → n ≡ len_of v → code_of_value v ≡ 3 → r ≡ Is.List o to n
-      → {oi' : List ℕ} → {ov' : List ℤ} → oi' ≡ ois → ov' ≡ ovs → Put F (val_of is vs v) to r oi oi' ov ov'
-  put_copied o n {r} s q k e {oi'} {ov'} ei ev =
+module _ (F : Format) (is : List ℕ) (vs : List ℤ) (o s n : ℕ) (f : Formed F.limit is vs (Is.List o s n)) (to : ℕ)
+    (m : ℕ) {oi ois : List ℕ} {ov ovs : List ℤ} (w : Stored to (held is vs (Is.List o s n)) m oi ois ov ovs) where
+  pub put_copied : {oi' : List ℕ} → {ov' : List ℤ} → oi' ≡ ois → ov' ≡ ovs → Put F (val_of is vs (Is.List o s n)) to (Is.List o to n) oi oi' ov ov'
+  put_copied ei ev =
       record {
-        value_is = e ∙ ap (λ (x : ℕ). Is.List x to n) s ∙ ap (Is.List (set_in v) to) (q ∙ sym (len_in F.limit is vs v f))
-            ∙ ap (placed_at to) (sym (list_in is vs v k));
-        items_in = ei ∙ w.items_in ∙ ap (λ (es : List Entry). fill to (items es) oi) (sym (entries_in_lem is vs v));
-        values_in = ev ∙ w.values_in ∙ ap (λ (es : List Entry). fill to (values es) ov) (sym (entries_in_lem is vs v));
-        rising = rising_in F.limit is vs v f;
+        value_is = ap (Is.List o to) (sym (len_in F.limit is vs (Is.List o s n) f));
+        items_in = ei ∙ w.items_in ∙ ap (λ (es : List Entry). fill to (items es) oi) (sym (entries_in_lem is vs (Is.List o s n)));
+        values_in = ev ∙ w.values_in ∙ ap (λ (es : List Entry). fill to (values es) ov) (sym (entries_in_lem is vs (Is.List o s n)));
+        rising = rising_in F.limit is vs (Is.List o s n) f;
       }
 
 -- ---- results
 
 -- a List that its operator made in lent slices stands there well formed
 pub made_formed : (F : Format) (ends : List ℕ) (defined : List ℤ) (o n : ℕ) (a b c v : Value) (wi : List ℕ) (wv : List ℤ) (oi ois : List ℕ) (ov ovs : List ℤ)
-    → Gave (gives (list_result (definitions ends defined F.limit) o (first_of wi wv n a b c))) (Out.Value v) oi ois ov ovs
+    → Gave (gives (list_result (definitions ends defined F.limit) o (first_of wi wv n a b c))) (gives v) oi ois ov ovs
     → PackLists F.limit ends defined → FirstFormed F.limit wi wv n a b c → F.limit ≤ length oi → F.limit ≤ length ov
     → {oi' : List ℕ} → {ov' : List ℤ} → oi' ≡ ois → ov' ≡ ovs → Formed F.limit oi' ov' v
 made_formed F ends defined o n a b c v wi wv oi ois ov ovs g t f hi hv ei ev =
@@ -77,22 +81,48 @@ made_formed F ends defined o n a b c v wi wv oi ois ov ovs g t f hi hv ei ev =
     let vs = first_of wi wv n a b c in
     let up = entries_rise u F.limit t.within o vs (first_wf F.limit wi wv n a b c f) in
     let s : v ≡ placed_val (list_result u o vs) = cc in
-    rw (ei, ev) (subst (Formed F.limit ois ovs) (sym s) (formed_back F.limit _ (entries_for u o vs) (Out.Value v) oi ois ov ovs g up hi hv))
+    rw (ei, ev) (subst (Formed F.limit ois ovs) (sym s) (formed_back F.limit _ (entries_for u o vs) (gives v) oi ois ov ovs g up hi hv))
 
 -- a value that was made there is the one that is put from there
-pub made_put : {F : Format} {x : Val} {v r : Value} {at : ℕ} {oi ois oi' wi wi' : List ℕ} {ov ovs ov' wv wv' : List ℤ} → Gave (gives x) (Out.Value v) oi ois ov ovs
+pub made_put : {F : Format} {x : Val} {v r : Value} {at : ℕ} {oi ois oi' wi wi' : List ℕ} {ov ovs ov' wv wv' : List ℤ} → Gave (gives x) (gives v) oi ois ov ovs
     → Put F (val_of oi' ov' v) at r wi wi' wv wv' → oi' ≡ ois → ov' ≡ ovs → Put F x at r wi wi' wv wv'
 made_put {F} {x} {v} {r} {at} {oi} {ois} {oi'} {wi} {wi'} {ov} {ovs} {ov'} {wv} {wv'} g w ei ev =
-    let b = read_back (gives x) (Out.Value v) oi ois ov ovs g in
+    let b = read_back (gives x) (gives v) oi ois ov ovs g in
     let e : val_of oi' ov' v ≡ x = cc in
     subst (λ (y : Val). Put F y at r wi wi' wv wv') e w
 
 pub result_put : {F : Format} (a : Answer Val) (x : Val) (place : ℕ) (v : Value) (wi wi' : List ℕ) (wv wv' : List ℤ) → place < stack_limit → a ≡ gives x
-    → Put F x (start_at F place) v wi wi' wv wv' → Answered F a place (St.Put place v) wi wi' wv wv'
+    → Put F x (start_at F place) v wi wi' wv wv' → Answered F a place (gives (record { place = place; value = v })) wi wi' wv wv'
 result_put a x place v wi wi' wv wv' h e w = record { by = record { value = x; given = e; at_place = refl; depth = h; put = w } }
 
 -- ---- a result that is no List
 
-pub scalar_put : {F : Format} (a : Answer Val) (place : ℕ) (v : Value) (wi : List ℕ) (wv : List ℤ) → place < stack_limit → (code_of_value v ≡ 3 → ⊥) → a ≡ gives (val_of wi wv v)
-    → Answered F a place (St.Put place v) wi wi wv wv
-scalar_put {F} a place v wi wv h ne e = result_put a (val_of wi wv v) place v wi wi wv wv h e (put_plain (start_at F place) wi wv v wi wv ne)
+-- an answer at a place of the stack
+abbrev pub topped_at : ℕ → Answer Value → Answer (Top Value)
+topped_at place (gives v) = gives (record { place = place; value = v })
+topped_at place (refuses q) = refuses q
+
+module _ (place : ℕ) (h : place < stack_limit) (k : Kind) (ne : k ≡ K.List → ⊥) where
+  value_bare : (x : Val) → entries_of x ≡ [] → ((at : ℕ) → placed_val x ≡ placed_at at x) → (r : Answer Value) → r ≡ placed (gives x) → Bare (gives x) place (topped_at place r)
+  value_bare x none same r e F wi wv =
+      subst (λ (a : Answer Value). Answered F (gives x) place (topped_at place a) wi wi wv wv) (sym e)
+      (result_put (gives x) x place (placed_val x) wi wi wv wv h refl (put_none x (start_at F place) (placed_val x) wi wv none (same (start_at F place))))
+
+  -- a value of a kind that is no List, or a no
+  scalar_bare : (a : Answer Val) → Agree (gives k) a → (r : Answer Value) → r ≡ placed a → Bare a place (topped_at place r)
+  scalar_bare (gives (bool b)) g r e = value_bare (bool b) refl (λ at. refl) r e
+  scalar_bare (gives (int z)) g r e = value_bare (int z) refl (λ at. refl) r e
+  scalar_bare (gives (float x)) g r e = value_bare (float x) refl (λ at. refl) r e
+  scalar_bare (gives (list o es)) g r e = absurd (ne (sym g))
+  scalar_bare (gives void) g r e = value_bare void refl (λ at. refl) r e
+  scalar_bare (refuses q) g r e = λ F wi wv.
+      subst (λ (a : Answer Value). Answered F (refuses q) place (topped_at place a) wi wi wv wv) (sym e)
+      (record { by = record { refused = refl; items_same = refl; values_same = refl } })
+
+-- of one operand or two, the third does not matter
+module _ (o n : ℕ) (a b x : Val) (k : Kind) (place : ℕ) (r : Answer Value) (ne : k ≡ K.List → ⊥) (l : 1 ≤ n) (m : n ≤ 2) (h : place < stack_limit) where
+  pub scalar_at : ((u : ListDefinitions) → r ≡ placed (compute u o (take n (a ∷ b ∷ [])) k)) → (u : ListDefinitions)
+      → Bare (compute u o (take n (a ∷ b ∷ x ∷ [])) k) place (topped_at place r)
+  scalar_at e u =
+      subst (λ (vs : List Val). Bare (compute u o vs k) place (topped_at place r)) (two_of n a b x l m)
+      (scalar_bare place h k ne (compute u o (take n (a ∷ b ∷ [])) k) (compute_agrees u o (take n (a ∷ b ∷ [])) k) r (e u))

@@ -1,6 +1,6 @@
 -- The words of the contracts: work slices, a value put at a place of two slices, and an operator's answer put at a place of the stack.
 -- Assumes nothing.
--- For inner steps: no entry point's contract cites it, but for `workLimit`.
+-- For inner steps: no entry point's contract cites it, but for `work_limit`.
 use Rattle.std.specs.Prelude.{◌≡◌, List, ℕ, ◌*◌, ◌≤◌, ◌<◌, ℤ, length}
 use Rattle.ink_number.specs.Answer.{Answer, gives, refuses}
 use Rattle.ink_list.specs.Entries.{items, values, Rising}
@@ -12,8 +12,7 @@ use Rattle.ink_value.specs.declared.Value.TheVariants as Is
 use Rattle.pack.specs.Format.{Runnable}
 use Rattle.pack.specs.declared.format.Format.{Format}
 use Rattle.machine.specs.Machine.{stack_limit}
-use Rattle.operating.specs.declared.Step.{Step}
-use Rattle.operating.specs.declared.Step.TheVariants as St
+use Rattle.machine.specs.declared.Top.{Top}
 
 -- ---- the work slices
 
@@ -64,14 +63,14 @@ pub record PutAt (F : Format) (a : Answer Val) (place p : ℕ) (v : Value) (wi w
   pub depth : place < stack_limit
   pub put : Put F value (start_at F place) v wi wi' wv wv'
 
-abbrev pub AnswerCase : Format → Answer Val → ℕ → Step → List ℕ → List ℕ → List ℤ → List ℤ → Type 0
-AnswerCase F a place (St.Put p v) wi wi' wv wv' = PutAt F a place p v wi wi' wv wv'
-AnswerCase F a place (St.No q) wi wi' wv wv' = Refuses a q wi wi' wv wv'
+abbrev pub AnswerCase : Format → Answer Val → ℕ → Answer (Top Value) → List ℕ → List ℕ → List ℤ → List ℤ → Type 0
+AnswerCase F a place (gives t) wi wi' wv wv' = PutAt F a place t.place t.value wi wi' wv wv'
+AnswerCase F a place (refuses q) wi wi' wv wv' = Refuses a q wi wi' wv wv'
 
 -- an operator's answer: its value is put at the place, or it is a no
-pub record Answered (F : Format) (a : Answer Val) (place : ℕ) (r : Step) (wi wi' : List ℕ) (wv wv' : List ℤ) : Type 0 where
+pub record Answered (F : Format) (a : Answer Val) (place : ℕ) (r : Answer (Top Value)) (wi wi' : List ℕ) (wv wv' : List ℤ) : Type 0 where
   pub by : AnswerCase F a place r wi wi' wv wv'
 
 -- the same of an answer that is no List: nothing is written, whatever the format is and the work slices hold
-abbrev pub Bare : Answer Val → ℕ → Step → Type 0
+abbrev pub Bare : Answer Val → ℕ → Answer (Top Value) → Type 0
 Bare a place r = (F : Format) (wi : List ℕ) (wv : List ℤ) → Answered F a place r wi wi wv wv

@@ -5,10 +5,11 @@
 ghost use Rattle.std.specs.Prelude.{◌≡◌, ◌<◌, ◌≤◌, ◌+◌, length};
 ghost use Rattle.ink_number.specs.Question.{answer};
 ghost use Rattle.ink_list.specs.Entries.{item_numbers};
-ghost use Rattle.ink_value.specs.Val.{kind_at};
+ghost use Rattle.op.specs.Op.{op_number};
+ghost use Rattle.ink_value.specs.declared.Kind.TheVariants as K;
 ghost use Rattle.ink_value.specs.Value.{len_of, first_of, Formed, FirstFormed};
 ghost use Rattle.operator_kinds.specs.Kinds.{operand_count};
-ghost use Rattle.native_function_call.specs.Apply.{of_int, call, compute};
+ghost use Rattle.native_function_call.specs.Apply.{call, compute};
 ghost use Rattle.list_definitions.specs.Defs.{ListDefinitions};
 ghost use Rattle.list_operators.specs.Lists.{list_result, definitions_in};
 ghost use Rattle.machine.specs.Machine.{stack_limit};
@@ -19,17 +20,11 @@ ghost use Rattle.operating.specs.Slices.{StoredIn, PutIn, AnsweredIn};
 
 use ink_list::entries_mut::EntriesMut;
 use ink_number::question::Question;
-use ink_value::{Value, kind_code};
+use ink_value::{Kind, Value};
 use list_definitions::definitions::Definitions;
-use native_function_call::{real, test, whole};
+use machine::Top;
+use op::Op;
 use pack::format::Format;
-
-// What an instruction does to the stack: a value is put at a place, which is then the top; or a question says no.
-#[derive(Clone, Copy)]
-pub enum Step {
-    Put { place: usize, value: Value },
-    No(u8),
-}
 
 // The most entries of a list, in any format that can be run; and where only small slices are made for a list.
 const SCRATCH_LIMIT: usize = 1024;
@@ -49,90 +44,47 @@ pub fn store(
     requires v_in_bounds { (to + len_of v ≤ length oi.old) × (to + len_of v ≤ length ov.old) }
     ensures { StoredIn items values v to result oi ov }
 {
-    if ink_value::kind(v) != kind_code::LIST {
-        return v;
-    }
-    let list = ink_value::entries_of(v, items, values);
-    let mut out = EntriesMut {
-        items: oi,
-        values: ov,
-    };
-    out.append(to, list);
-    Value::List {
-        origins: ink_value::origins_in(v),
-        start: to,
-        len: ink_value::len_of(v),
-    }
-}
-
-// A result that is an Int, at a place of the stack, or question 15.
-fn whole_result(d: Result<i32, Question>, place: usize) -> Step
-    requires { place < stack_limit }
-    ensures { Bare (of_int (answer d)) place result }
-{
-    match d {
-        Ok(z) => Step::Put {
-            place,
-            value: Value::Int(z),
-        },
-        Err(question) => Step::No(question.number()),
+    match v {
+        Value::List { origins, len, .. } => {
+            let list = v.entries_of(items, values);
+            let mut out = EntriesMut {
+                items: oi,
+                values: ov,
+            };
+            out.append(to, list);
+            Value::List {
+                origins,
+                start: to,
+                len,
+            }
+        }
+        _ => v,
     }
 }
 
-// A result that is no List, of n operands, at a place of the stack: the operands are handed on in parts.
+// A result that is no List, of n operands, at a place of the stack: nothing is written.
 fn scalar_result(
-    op: u8,
-    kind: u8,
+    op: Op,
+    kind: Kind,
     n: usize,
     a: Value,
     b: Value,
     items: &[u16],
     values: &[i32],
     place: usize,
-) -> Step
-    requires fact { (kind ≡ 3 → ⊥) × (1 ≤ n) × (n ≤ 2) × (place < stack_limit) }
+) -> Result<Top<Value>, Question>
+    requires fact { (kind ≡ K.List → ⊥) × (1 ≤ n) × (n ≤ 2) × (place < stack_limit) }
     requires formed { Formed item_numbers items.now values.now a × (n ≡ 2 → Formed item_numbers items.now values.now b) }
-    ensures { (u : ListDefinitions) (c : Value) → Bare (compute u op (first_in items values n a b c) (kind_at kind)) place result }
+    ensures { (u : ListDefinitions) (c : Value)
+        → Bare (compute u (op_number op) (first_in items values n a b c) kind) place (answer result) }
 {
-    let ka = ink_value::kind(a);
-    let za = ink_value::whole_in(a);
-    let xa = ink_value::real_in(a);
-    let sa = ink_value::start_of(a);
-    let na = ink_value::len_of(a);
-    let kb = ink_value::kind(b);
-    let zb = ink_value::whole_in(b);
-    let xb = ink_value::real_in(b);
-    let sb = ink_value::start_of(b);
-    let nb = ink_value::len_of(b);
-    match kind {
-        kind_code::BOOL => {
-            let t = test(op, n, ka, za, xa, sa, na, kb, zb, xb, sb, nb, items, values);
-            Step::Put {
-                place,
-                value: Value::Bool(t),
-            }
-        }
-        kind_code::INT => whole_result(
-            whole(op, n, ka, za, xa, sa, na, kb, zb, xb, sb, nb, values),
-            place,
-        ),
-        kind_code::FLOAT => {
-            let x = real(op, n, ka, za, xa, sa, na, kb, zb, xb, sb, nb, values);
-            Step::Put {
-                place,
-                value: Value::Float(x),
-            }
-        }
-        _ => Step::Put {
-            place,
-            value: Value::Void,
-        },
-    }
+    let value = native_function_call::scalar(op, kind, n, a, b, items, values)?;
+    Ok(Top { place, value })
 }
 
 // A result that is a List, made in lent slices, its entries copied to its place in the work slices.
 fn list_through(
-    op: u8,
+    op: Op,
     count: usize,
     a: Value,
     b: Value,
@@ -150,7 +102,7 @@ fn list_through(
         × (1 ≤ count) × (count ≤ 3) × (place < stack_limit) }
     requires first_formed { FirstFormed format.limit work_items.old work_values.old count a b c }
     requires limit_in_bounds { (format.limit ≤ length items.old) × (format.limit ≤ length values.old) }
-    ensures { PutIn format (list_result (definitions_in ends defined format.limit) op
+    ensures { PutIn format (list_result (definitions_in ends defined format.limit) (op_number op)
         (first_of work_items.old work_values.old count a b c)) place result work_items work_values }
 {
     let definitions = Definitions { ends, defined };
@@ -176,7 +128,7 @@ fn list_through(
 
 // The same, made in slices of its own: small ones where the format's lists are short.
 fn list_result(
-    op: u8,
+    op: Op,
     count: usize,
     a: Value,
     b: Value,
@@ -191,7 +143,7 @@ fn list_result(
     requires pack_lists { PackLists format.limit ends.now defined.now × Roomy format work_items.old work_values.old
         × (1 ≤ count) × (count ≤ 3) × (place < stack_limit) }
     requires first_formed { FirstFormed format.limit work_items.old work_values.old count a b c }
-    ensures { PutIn format (list_result (definitions_in ends defined format.limit) op
+    ensures { PutIn format (list_result (definitions_in ends defined format.limit) (op_number op)
         (first_of work_items.old work_values.old count a b c)) place result work_items work_values }
 {
     if format.limit <= SHORT_LIMIT {
@@ -234,7 +186,7 @@ fn list_result(
 
 // An operator on as many of three operands as it takes: questions 11 to 13 and 15, and its result at a place of the stack.
 pub fn operate(
-    op: u8,
+    op: Op,
     count: usize,
     a: Value,
     b: Value,
@@ -245,47 +197,40 @@ pub fn operate(
     format: Format,
     work_items: &mut [u16],
     work_values: &mut [i32],
-) -> Step
+) -> Result<Top<Value>, Question>
     requires pack_lists { PackLists format.limit ends.now defined.now × Roomy format work_items.old work_values.old
-        × (place < stack_limit) × (op < 32) × (count ≡ operand_count op) × (1 ≤ count) }
+        × (place < stack_limit) × (count ≡ operand_count (op_number op)) × (1 ≤ count) }
     requires first_formed { FirstFormed format.limit work_items.old work_values.old count a b c }
-    ensures { AnsweredIn format (call (definitions_in ends defined format.limit) op count
+    ensures { AnsweredIn format (call (definitions_in ends defined format.limit) (op_number op) count
         (first_of work_items.old work_values.old count a b c)) place result work_items work_values }
 {
-    let kind = operator_kinds::answer(
-        op,
-        count,
-        ink_value::kind(a),
-        ink_value::kind(b),
-        ink_value::kind(c),
-    );
-    if kind_code::VOID < kind {
-        return Step::No(kind);
-    }
-    if kind == kind_code::LIST {
-        let value = list_result(
+    let kind = operator_kinds::answer(op, count, a.kind(), b.kind(), c.kind())?;
+    match kind {
+        Kind::List => {
+            let value = list_result(
+                op,
+                count,
+                a,
+                b,
+                c,
+                ends,
+                defined,
+                place,
+                format,
+                work_items,
+                work_values,
+            );
+            Ok(Top { place, value })
+        }
+        _ => scalar_result(
             op,
+            kind,
             count,
             a,
             b,
-            c,
-            ends,
-            defined,
+            &work_items[..],
+            &work_values[..],
             place,
-            format,
-            work_items,
-            work_values,
-        );
-        return Step::Put { place, value };
+        ),
     }
-    scalar_result(
-        op,
-        kind,
-        count,
-        a,
-        b,
-        &work_items[..],
-        &work_values[..],
-        place,
-    )
 }

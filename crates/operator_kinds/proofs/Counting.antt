@@ -1,18 +1,19 @@
 -- Questions 8 and 10 of an operator, and what its operand count says of its answer on kinds. Assumes nothing.
 use mathlib.Core.Path.{◌≡◌, refl, sym, ap, ◌∙◌}
 use mathlib.Core.Logic.{◌⊎◌, inl, inr, ⊎_elim}
-use mathlib.Core.Bool.{Bool, true, false, cond, ◌||◌}
+use mathlib.Core.Bool.{Bool, true, false, cond, ◌||◌, ◌&&◌, not}
 use mathlib.Core.List.{List, [], ◌∷◌}
-use Prim.Native.Nat.{ℕ, zero, suc, ◌≤◌, ◌<◌}
+use Prim.Native.Nat.{ℕ, ◌≤◌, ◌<◌, ◌+◌}
 use native.Mathlib.Omega.{arith}
-use lib.Dec.{eqb}
+use lib.Dec.{eqb, leb}
 use lib.ListN.{take}
-use borrow.Author.Tests.{eq-eqb, ne_eqb, eqb-true, eqb-false, lt-leb, lt-ltb, le-ltb}
-use Rattle.slices.specs.Every.{every}
-use Rattle.slices.proofs.Every.{every_at}
-use Rattle.ink_number.specs.Answer.{gives, refuses}
-use Rattle.ink_value.specs.Val.{Kind, boolK, intK, floatK, listK, voidK, is_list, kind_at, code_of}
-use Rattle.operator_kinds.specs.Kinds.{is_void, known, unary, arity, operand_count, kind_apply, kind_call, kind_range, kind_entry, kind_unary, kind_binary, KindsGiven, decoded, bits_of}
+use borrow.Author.Tests.{leb-true, eq-eqb, ne_eqb, eqb-true, eqb-false, lt-leb}
+use Rattle.slices.proofs.Every.{not_both}
+use Rattle.ink_number.specs.Answer.{Answer, gives, refuses}
+use Rattle.ink_value.specs.Val.{is_list}
+use Rattle.ink_value.specs.declared.Kind.{Kind}
+use Rattle.ink_value.specs.declared.Kind.TheVariants as K
+use Rattle.operator_kinds.specs.Kinds.{is_void, known, unary, arity, operand_count, kind_apply, kind_call, kind_range, kind_entry, kind_unary, kind_binary, KindsGiven}
 
 -- what an operand count says of an operator
 pub record Takes (o n : ℕ) : Type 0 where
@@ -54,22 +55,15 @@ entry_one o k j e =
 one_kind : (o : ℕ) (k i j : Kind) → operand_count o ≡ 1 → kind_entry o k i ≡ kind_entry o k j
 one_kind o k i j e = sym (entry_one o k i e) ∙ entry_one o k j e
 
-module _ (n a b : ℕ) where
-  pub second_below : a < 5 → b < 5 → cond (eqb n 1) a b < 5
-  second_below h k = go (eqb n 1)
-    where
-      go : (t : Bool) → cond t a b < 5
-      go true = h
-      go false = k
-
+module _ (n : ℕ) (a b : Kind) where
   pub second_alike : n ≡ 1 → a ≡ cond (eqb n 1) a b
   second_alike e = rw (eq-eqb n 1 e) refl
 
-  pub second_entry : (o : ℕ) → operand_count o ≡ n → kind_entry o (kind_at a) (kind_at (cond (eqb n 1) a b)) ≡ kind_entry o (kind_at a) (kind_at b)
+  pub second_entry : (o : ℕ) → operand_count o ≡ n → kind_entry o a (cond (eqb n 1) a b) ≡ kind_entry o a b
   second_entry o e = go (eqb n 1) refl
     where
-      go : (t : Bool) → eqb n 1 ≡ t → kind_entry o (kind_at a) (kind_at (cond t a b)) ≡ kind_entry o (kind_at a) (kind_at b)
-      go true w = one_kind o (kind_at a) (kind_at a) (kind_at b) (e ∙ eqb-true n 1 w)
+      go : (t : Bool) → eqb n 1 ≡ t → kind_entry o a (cond t a b) ≡ kind_entry o a b
+      go true w = one_kind o a a b (e ∙ eqb-true n 1 w)
       go false w = refl
 
 pub entry_two : (o : ℕ) (j k : Kind) → operand_count o ≡ 2 → kind_apply o (j ∷ k ∷ []) ≡ kind_entry o j k
@@ -83,18 +77,40 @@ unfolding kind_apply arity unary
 entry_range i j k = refl
 
 -- range gives lists only
-pub range_kind : (a b c k : Kind) → kind_range a b c ≡ gives k → k ≡ listK
+pub range_kind : (a b c k : Kind) → kind_range a b c ≡ gives k → k ≡ K.List
 unfolding kind_range
 range_kind a b c k e = go (is_void a || is_void b || is_void c) (is_list a) e
   where
-    go : (s t : Bool) → cond s (refuses 11) (cond t (gives listK) (refuses 13)) ≡ gives k → k ≡ listK
+    go : (s t : Bool) → cond s (refuses 11) (cond t (gives K.List) (refuses 13)) ≡ gives k → k ≡ K.List
     go true t q = let z : ◌≡◌ {A = ℕ} 0 1 = cc in absurd (omega arith)
     go false true q = cc
     go false false q = let z : ◌≡◌ {A = ℕ} 0 1 = cc in absurd (omega arith)
 
--- a code above the kinds of results
-pub kind_other : (k : ℕ) → (k ≡ 0 → ⊥) → (k ≡ 1 → ⊥) → (k ≡ 2 → ⊥) → (k ≡ 3 → ⊥) → kind_at k ≡ voidK
-kind_other k n0 n1 n2 n3 = rw (ne_eqb k 0 n0, ne_eqb k 1 n1, ne_eqb k 2 n2, ne_eqb k 3 n3)
+-- ---- Void
+
+module _ (o : ℕ) (some : 1 ≤ operand_count o) where
+  pub void_left : (k : Kind) → refuses 11 ≡ kind_entry o K.Void k
+  unfolding kind_entry kind_unary kind_binary
+  void_left k = let t = takes o (operand_count o) some refl in rw t.is_known (go (unary o))
+    where
+      go : (t : Bool) → ◌≡◌ {A = Answer Kind} (refuses 11) (cond t (refuses 11) (refuses 11))
+      go true = refl
+      go false = refl
+
+  pub void_right : (j : Kind) → (operand_count o ≡ 1 → j ≡ K.Void) → refuses 11 ≡ kind_entry o j K.Void
+  unfolding kind_entry kind_unary kind_binary arity
+  void_right j h = let t = takes o (operand_count o) some refl in rw t.is_known (go (unary o) refl)
+    where
+      right : (j : Kind) → ◌≡◌ {A = Answer Kind} (refuses 11) (kind_binary o j K.Void)
+      right K.Bool = refl
+      right K.Int = refl
+      right K.Float = refl
+      right K.List = refl
+      right K.Void = refl
+
+      go : (t : Bool) → unary o ≡ t → ◌≡◌ {A = Answer Kind} (refuses 11) (cond t (kind_unary o j) (kind_binary o j K.Void))
+      go true w = rw (h (sym (takes o (operand_count o) some refl).arity_is ∙ ap (λ (s : Bool). cond {A = ℕ} s 1 (cond (eqb o 31) 3 2)) w)) refl
+      go false w = right j
 
 -- three operands: range; else an operator below it
 pub is_range : (o : ℕ) → operand_count o ≡ 3 → o ≡ 31
@@ -110,12 +126,16 @@ pub range_three : operand_count 31 ≡ 3
 unfolding operand_count known arity unary
 range_three = refl
 
-pub below_range : (o m : ℕ) → operand_count o ≡ m → (m ≡ 3 → ⊥) → o < 32 → o < 31
-below_range o m e ne l = go (eqb o 31) refl
+-- an operator that takes operands, and not three, stands below range
+pub below_range : (o m : ℕ) → operand_count o ≡ m → 1 ≤ m → (m ≡ 3 → ⊥) → o < 31
+unfolding known
+below_range o m e h ne = go (eqb o 17) (leb o 31) refl (eqb o 31) refl (takes o m h e).is_known
   where
-    go : (t : Bool) → eqb o 31 ≡ t → o < 31
-    go true w = let q = eqb-true o 31 w in absurd (ne (sym e ∙ (ap operand_count q ∙ range_three)))
-    go false w = let q = eqb-false o 31 w in omega arith
+    go : (s t : Bool) → leb o 31 ≡ t → (r : Bool) → eqb o 31 ≡ r → not s && t ≡ true → o < 31
+    go s t q true w k = let z = eqb-true o 31 w in absurd (ne (sym e ∙ (ap operand_count z ∙ range_three)))
+    go s true q false w k = let z = eqb-false o 31 w in omega (arith, leb-true o 31 q, z)
+    go true false q false w k = absurd (not_both k)
+    go false false q false w k = absurd (not_both k)
 
 pub count_three : (o m : ℕ) → operand_count o ≡ m → 1 ≤ m → (m ≡ 1 → ⊥) → (m ≡ 2 → ⊥) → m ≡ 3
 unfolding arity
@@ -126,29 +146,23 @@ count_three o m e h n1 n2 = let t = takes o m h e in go (unary o) (eqb o 31) t.a
     go false true q = sym q
     go false false q = absurd (n2 (sym q))
 
--- a word has the counts, by a test computed of all
-pub counted : (w o : ℕ) → every 32 (λ o. eqb (bits_of w o) (operand_count o)) ≡ true → o < 32 → bits_of w o ≡ operand_count o
-counted w o t l = eqb-true (bits_of w o) (operand_count o) (every_at (λ o. eqb (bits_of w o) (operand_count o)) 32 o t l)
-
 -- ---- question 8
+
+-- no operator has a number from 32 on
+unknown : (n : ℕ) → known (32 + n) ≡ false
+unfolding known
+unknown n = rw (ne_eqb (32 + n) 17 (λ e. omega arith), lt-leb (32 + n) 31 (omega arith)) refl
+
+pub no_such : (n : ℕ) → 0 ≡ operand_count (32 + n)
+unfolding operand_count
+no_such n = rw (unknown n) refl
 
 no_operator : (o n : ℕ) (ks : List Kind) → known o ≡ false → kind_call o n ks ≡ refuses 8
 unfolding kind_call
 no_operator o n ks e = rw e
 
--- the code of a kind, and that of a refusal
-pub decoded_kind : (e : ℕ) → e < 5 → decoded e ≡ gives (kind_at e)
-decoded_kind e h = rw (lt-ltb e 5 h)
-
-pub decoded_no : (e : ℕ) → 4 < e → decoded e ≡ refuses e
-decoded_no e h = rw (le-ltb e 5 (omega arith))
-
-refused : {o n : ℕ} {ks : List Kind} (q : ℕ) → 4 < q → kind_call o n ks ≡ refuses q → KindsGiven o n ks q
-refused q h e = record { answered = decoded_no q h ∙ sym e; counted = λ k. absurd (omega arith) }
-
-pub above_all : (o n : ℕ) (ks : List Kind) → 32 ≤ o → KindsGiven o n ks 8
-unfolding known
-above_all o n ks h = refused 8 (omega arith) (no_operator o n ks (rw (ne_eqb o 17 (λ e. omega arith), lt-leb o 31 (omega arith)) refl))
+refused : {o n : ℕ} {ks : List Kind} (q : ℕ) → kind_call o n ks ≡ refuses q → KindsGiven o n ks (refuses q)
+refused q e = record { answered = sym e; counted = λ k d. let z : ◌≡◌ {A = ℕ} 0 1 = cc in absurd (omega arith) }
 
 arity_some : (o : ℕ) → (arity o ≡ 1) ⊎ ((arity o ≡ 2) ⊎ (arity o ≡ 3))
 unfolding arity
@@ -159,9 +173,9 @@ arity_some o = go (unary o) (eqb o 31)
     go false true = inr (inr refl)
     go false false = inr (inl refl)
 
-pub none_taken : (o n : ℕ) (ks : List Kind) → operand_count o ≡ 0 → KindsGiven o n ks 8
+pub none_taken : (o n : ℕ) (ks : List Kind) → operand_count o ≡ 0 → KindsGiven o n ks (refuses 8)
 unfolding operand_count
-none_taken o n ks e = refused 8 (omega arith) (no_operator o n ks (go (known o) e))
+none_taken o n ks e = refused 8 (no_operator o n ks (go (known o) e))
   where
     go : (t : Bool) → cond t (arity o) 0 ≡ 0 → t ≡ false
     go true q = absurd (⊎_elim (λ h. omega arith) (λ h. ⊎_elim (λ h. omega arith) (λ h. omega arith) h) (arity_some o))
@@ -169,25 +183,17 @@ none_taken o n ks e = refused 8 (omega arith) (no_operator o n ks (go (known o) 
 
 -- ---- question 10
 
-pub miscounted : (o m n : ℕ) (ks : List Kind) → operand_count o ≡ m → (m ≡ 0 → ⊥) → (m ≡ n → ⊥) → KindsGiven o n ks 10
+pub miscounted : (o m n : ℕ) (ks : List Kind) → operand_count o ≡ m → (m ≡ 0 → ⊥) → (m ≡ n → ⊥) → KindsGiven o n ks (refuses 10)
 unfolding kind_call
 miscounted o m n ks e some ne =
     let t = takes o m (omega arith) e in
-    refused 10 (omega arith) (rw (t.is_known, t.arity_is, ne_eqb n m (λ q. ne (sym q))))
+    refused 10 (rw (t.is_known, t.arity_is, ne_eqb n m (λ q. ne (sym q))))
 
 counted_call : (o n : ℕ) (ks : List Kind) → 1 ≤ n → operand_count o ≡ n → kind_call o n ks ≡ kind_apply o ks
 unfolding kind_call
 counted_call o n ks h e =
     let t = takes o n h e in
     rw (t.is_known, t.arity_is, eq-eqb n n refl)
-
-pub code_at_lem : (k : ℕ) → k < 5 → code_of (kind_at k) ≡ k
-code_at_lem zero h = refl
-code_at_lem (suc zero) h = refl
-code_at_lem (suc (suc zero)) h = refl
-code_at_lem (suc (suc (suc zero))) h = refl
-code_at_lem (suc (suc (suc (suc zero)))) h = refl
-code_at_lem (suc (suc (suc (suc (suc k))))) h = absurd (omega arith)
 
 -- ---- one and two operands, by the table; three, by range
 
@@ -211,27 +217,25 @@ module _ (o : ℕ) (a b c : Kind) where
       let q : operand_count o ≡ 2 = e ∙ h in
       ap (λ (m : ℕ). kind_call o m (take m (a ∷ b ∷ c ∷ []))) h ∙ counted_call o 2 (a ∷ b ∷ []) (omega arith) q ∙ entry_two o a b q
 
-  few : (n e : ℕ) → (n ≡ 1) ⊎ (n ≡ 2) → (n ≡ 3 → ⊥) → (1 ≤ n) × (n ≤ 3) × (n ≡ 3 → e ≡ 3)
-  few n e h ne = (⊎_elim (λ q. omega arith) (λ q. omega arith) h, ⊎_elim (λ q. omega arith) (λ q. omega arith) h, λ q. absurd (ne q))
+  few : (n : ℕ) (k : Kind) → (n ≡ 1) ⊎ (n ≡ 2) → (n ≡ 3 → ⊥) → (1 ≤ n) × (n ≤ 3) × (n ≡ 3 → k ≡ K.List)
+  few n k h ne = (⊎_elim (λ q. omega arith) (λ q. omega arith) h, ⊎_elim (λ q. omega arith) (λ q. omega arith) h, λ q. absurd (ne q))
 
-  pub entry_given : (n r : ℕ) → operand_count o ≡ n → 1 ≤ n → (n ≡ 3 → ⊥) → decoded r ≡ kind_entry o a b → KindsGiven o n (take n (a ∷ b ∷ c ∷ [])) r
+  pub entry_given : (n : ℕ) (r : Answer Kind) → operand_count o ≡ n → 1 ≤ n → (n ≡ 3 → ⊥) → r ≡ kind_entry o a b
+      → KindsGiven o n (take n (a ∷ b ∷ c ∷ [])) r
   entry_given n r e h ne q =
       let w = below_three o n h e ne in
-      record { answered = q ∙ sym (by_entry n e w); counted = λ d. few n r w ne }
+      record { answered = q ∙ sym (by_entry n e w); counted = λ k d. few n k w ne }
 
   -- an answer that is a kind comes from an operator of one operand or two
-  pub entry_count_lem : (n r : ℕ) → operand_count o ≡ n → o < 31 → r < 5 → decoded r ≡ kind_entry o a b → (1 ≤ n) × (n ≡ 3 → ⊥)
+  pub entry_count_lem : (n : ℕ) (k : Kind) → operand_count o ≡ n → o < 31 → gives k ≡ kind_entry o a b → (1 ≤ n) × (n ≡ 3 → ⊥)
   unfolding operand_count kind_entry
-  entry_count_lem n r e l d q = (go (known o) e (sym (decoded_kind r d) ∙ q), λ t. let w = is_range o (e ∙ t) in omega arith)
+  entry_count_lem n k e l q = (go (known o) e q, λ t. let w = is_range o (e ∙ t) in omega arith)
     where
-      go : (t : Bool) → cond t (arity o) 0 ≡ n → gives (kind_at r) ≡ cond t (cond (unary o) (kind_unary o a) (kind_binary o a b)) (refuses 8) → 1 ≤ n
+      go : (t : Bool) → cond t (arity o) 0 ≡ n → gives k ≡ cond t (cond (unary o) (kind_unary o a) (kind_binary o a b)) (refuses 8) → 1 ≤ n
       go true p w = ⊎_elim (λ h. omega arith) (λ h. ⊎_elim (λ h. omega arith) (λ h. omega arith) h) (arity_some o)
       go false p w = let z : ◌≡◌ {A = ℕ} 0 1 = cc in absurd (omega arith)
 
-  range_list : (r : ℕ) → decoded r ≡ kind_range a b c → r < 5 → r ≡ 3
-  range_list r q d = sym (code_at_lem r d) ∙ ap code_of (range_kind a b c (kind_at r) (sym q ∙ decoded_kind r d))
-
-  pub range_given : (n r : ℕ) → operand_count o ≡ n → n ≡ 3 → decoded r ≡ kind_range a b c → KindsGiven o n (take n (a ∷ b ∷ c ∷ [])) r
+  pub range_given : (n : ℕ) (r : Answer Kind) → operand_count o ≡ n → n ≡ 3 → r ≡ kind_range a b c → KindsGiven o n (take n (a ∷ b ∷ c ∷ [])) r
   range_given n r e h q =
       let c3 : operand_count o ≡ 3 = e ∙ h in
       let o31 : o ≡ 31 = is_range o c3 in
@@ -240,14 +244,5 @@ module _ (o : ℕ) (a b c : Kind) where
             ∙ counted_call o 3 (a ∷ b ∷ c ∷ []) (omega arith) c3
             ∙ ap (λ (p : ℕ). kind_apply p (a ∷ b ∷ c ∷ [])) o31
             ∙ entry_range a b c);
-        counted = λ d. (omega (arith, h), omega (arith, h), λ t. range_list r q d);
+        counted = λ k d. (omega (arith, h), omega (arith, h), λ t. range_kind a b c k (sym q ∙ d));
       }
-
-pub other_kind : (k : ℕ) → (k ≡ 3 → ⊥) → is_list (kind_at k) ≡ false
-other_kind k h = rw (ne_eqb k 3 h) (go (eqb k 0) (eqb k 1) (eqb k 2))
-  where
-    go : (r s t : Bool) → is_list (cond r boolK (cond s intK (cond t floatK voidK))) ≡ false
-    go true s t = refl
-    go false true t = refl
-    go false false true = refl
-    go false false false = refl

@@ -1,165 +1,154 @@
 // The operators on kinds: what each answers, worked out, with range beside them, and how many operands an operator takes.
 #![tactic(auto)]
 
-ghost use Rattle.std.specs.Prelude.{◌≡◌, [], ◌∷◌, cond, ◌<◌, ◌≤◌, max, eqb, take};
-ghost use Rattle.ink_value.specs.Val.{kind_at, intK, listK, code_of};
-ghost use Rattle.op.specs.Op.{op_range};
-ghost use Rattle.operator_kinds.specs.Kinds.{kind_entry, decoded, operand_count, kind_range, bits_of, KindsGiven};
+ghost use Rattle.std.specs.Prelude.{◌≡◌, true, [], ◌∷◌, cond, ◌<◌, ◌≤◌, eqb, take};
+ghost use Rattle.ink_number.specs.Question.{answer as answer_of};
+ghost use Rattle.ink_value.specs.Val.{code_of};
+ghost use Rattle.ink_value.specs.declared.Kind.TheVariants as K;
+ghost use Rattle.op.specs.Op.{op_number, op_range};
+ghost use Rattle.operator_kinds.specs.Kinds.{common, mixed, kind_entry, operand_count, kind_range, KindsGiven};
 
-use ink_value::kind_code;
+use ink_number::question::Question;
+use ink_value::Kind;
+use op::Op;
 
-// The higher of two kind codes.
-fn higher(left: u8, right: u8) -> u8
-    ensures { result ≡ max left right }
+// The common kind: the highest kind present, at least Int.
+#[tactic(auto, unfolding(crate::specs::Kinds::common))]
+pub fn common(left: Kind, right: Kind) -> Kind
+    ensures { result ≡ common left right }
 {
-    if left < right { right } else { left }
-}
-
-// The code of the common kind: the highest code present, at least Int's.
-pub fn common(left: u8, right: u8) -> u8
-    ensures { result ≡ max (code_of intK) (max left right) }
-{
-    higher(kind_code::INT, higher(left, right))
+    match (left, right) {
+        (Kind::Void, _) => Kind::Void,
+        (_, Kind::Void) => Kind::Void,
+        (Kind::List, _) => Kind::List,
+        (_, Kind::List) => Kind::List,
+        (Kind::Float, _) => Kind::Float,
+        (_, Kind::Float) => Kind::Float,
+        _ => Kind::Int,
+    }
 }
 
 // The answer for an operator below range on numbers, of which it may take one, the left.
-pub fn number_entry(op: u8, left: u8, right: u8) -> u8
-    requires { (op < op_range) × (left < code_of listK) × (right < 5) × (operand_count op ≡ 2 → right < code_of listK) }
-    ensures { decoded result ≡ kind_entry op (kind_at left) (kind_at right) }
+#[tactic(auto, unfolding(crate::specs::Kinds::kind_entry, crate::specs::Kinds::known, crate::specs::Kinds::unary, crate::specs::Kinds::arity, crate::specs::Kinds::kind_unary, crate::specs::Kinds::kind_binary, crate::specs::Kinds::operand_count))]
+pub fn number_entry(op: Op, left: Kind, right: Kind) -> Result<Kind, Question>
+    requires { (op_number op < op_range) × (code_of left < code_of K.List)
+        × (operand_count (op_number op) ≡ 2 → code_of right < code_of K.List) }
+    ensures { answer_of result ≡ kind_entry (op_number op) left right }
 {
-    if op < op::MIN {
-        if op < op::NEGATE {
-            return common(left, right);
-        }
-        if op == op::NEGATE {
-            return common(left, left);
-        }
-        return kind_code::BOOL;
+    match op {
+        Op::Add | Op::Subtract | Op::Divide | Op::Multiply | Op::Mod => Ok(common(left, right)),
+        Op::Min | Op::Max => Ok(common(left, right)),
+        Op::Negate | Op::Floor | Op::Ceiling => Ok(common(left, left)),
+        Op::Equal
+        | Op::Greater
+        | Op::Less
+        | Op::GreaterThanOrEquals
+        | Op::LessThanOrEquals
+        | Op::NotEquals
+        | Op::Not
+        | Op::And
+        | Op::Or => Ok(Kind::Bool),
+        Op::Pow => Err(Question::Operator),
+        Op::Int => Ok(Kind::Int),
+        Op::Float => Ok(Kind::Float),
+        _ => Err(Question::Kind),
     }
-    if op < op::POW {
-        return common(left, right);
-    }
-    if op::FLOAT < op {
-        return 13;
-    }
-    if op < op::INT {
-        if op == op::POW {
-            return 8;
-        }
-        return common(left, left);
-    }
-    if op == op::INT {
-        return kind_code::INT;
-    }
-    kind_code::FLOAT
 }
-
-// The two bits of an operator in a word, from Add's in the lowest on.
-fn bits_of(word: u64, op: u8) -> u8
-    requires { op < 32 }
-    ensures { result ≡ bits_of word op }
-{
-    ((word >> (2 * op)) % 4) as u8
-}
-
-// The kind that each operator gives on Lists, two bits for each from Invert down to Add; Float's code where question 13 says no.
-const ON_LISTS: u64 = 0b11_0101_111111_11_0000_10101010101010_0000_01_000000000000_10101010_1111;
 
 // The answer for an operator below range on Lists.
-fn lists(op: u8) -> u8
-    requires { (op < op_range) × (1 ≤ operand_count op) }
-    ensures { decoded result ≡ kind_entry op listK listK }
+#[tactic(auto, unfolding(crate::specs::Kinds::kind_entry, crate::specs::Kinds::known, crate::specs::Kinds::unary, crate::specs::Kinds::arity, crate::specs::Kinds::kind_unary, crate::specs::Kinds::kind_binary, crate::specs::Kinds::operand_count))]
+fn lists(op: Op) -> Result<Kind, Question>
+    requires { (op_number op < op_range) × (1 ≤ operand_count (op_number op)) }
+    ensures { answer_of result ≡ kind_entry (op_number op) K.List K.List }
 {
-    let kind = bits_of(ON_LISTS, op);
-    if kind == kind_code::FLOAT {
-        return 13;
+    match op {
+        Op::Add | Op::Subtract | Op::Intersect => Ok(Kind::List),
+        Op::ListMin | Op::ListMax | Op::All | Op::Invert => Ok(Kind::List),
+        Op::Equal | Op::NotEquals | Op::Has | Op::Hasnt => Ok(Kind::Bool),
+        Op::Greater | Op::Less | Op::GreaterThanOrEquals | Op::LessThanOrEquals => Ok(Kind::Bool),
+        Op::And | Op::Or => Ok(Kind::Bool),
+        Op::Not | Op::Count | Op::ValueOfList => Ok(Kind::Int),
+        _ => Err(Question::Kind),
     }
-    kind
 }
 
 // The answer for an operator of two operands, a List and a number or a number and a List.
-#[tactic(auto, using(crate::proofs::Agreed::list_and_int, crate::proofs::Agreed::list_and_other))]
-fn mixed(op: u8, left: u8, right: u8) -> u8
-    requires { (op < op_range) × (operand_count op ≡ 2) × (left ≡ right → ⊥) × (max left right ≡ code_of listK) }
-    ensures { decoded result ≡ kind_entry op (kind_at left) (kind_at right) }
+#[tactic(auto, unfolding(crate::specs::Kinds::kind_entry, crate::specs::Kinds::known, crate::specs::Kinds::unary, crate::specs::Kinds::arity, crate::specs::Kinds::kind_unary, crate::specs::Kinds::kind_binary, crate::specs::Kinds::operand_count))]
+fn mixed(op: Op, left: Kind, right: Kind) -> Result<Kind, Question>
+    requires { (op_number op < op_range) × (operand_count (op_number op) ≡ 2) × (mixed left right ≡ true)
+        × (code_of left < code_of K.Void) × (code_of right < code_of K.Void) }
+    ensures { answer_of result ≡ kind_entry (op_number op) left right }
 {
-    if op < op::DIVIDE {
-        if right == kind_code::INT {
-            return kind_code::LIST;
-        }
-        return 12;
-    }
-    if op < op::AND {
-        return 12;
-    }
-    if op < op::MIN {
-        return kind_code::BOOL;
-    }
-    12
-}
-
-// The answer for an operator below range and two kind codes, or one twice where it takes one operand.
-#[tactic(auto, using(crate::proofs::Agreed::has_void))]
-pub fn entry(op: u8, left: u8, right: u8) -> u8
-    requires { (op < op_range) × (left < 5) × (right < 5) × (1 ≤ operand_count op) × (operand_count op ≡ 1 → left ≡ right) }
-    ensures { decoded result ≡ kind_entry op (kind_at left) (kind_at right) }
-{
-    let highest = higher(left, right);
-    if highest < kind_code::LIST {
-        return number_entry(op, left, right);
-    }
-    if highest == kind_code::VOID {
-        return 11;
-    }
-    if left == right {
-        return lists(op);
-    }
-    mixed(op, left, right)
-}
-
-// Range's answer for three kind codes.
-pub fn range(list: u8, lower: u8, upper: u8) -> u8
-    requires { (list < 5) × (lower < 5) × (upper < 5) }
-    ensures { decoded result ≡ kind_range (kind_at list) (kind_at lower) (kind_at upper) }
-{
-    if list == kind_code::VOID {
-        return 11;
-    }
-    if lower == kind_code::VOID {
-        return 11;
-    }
-    if upper == kind_code::VOID {
-        return 11;
-    }
-    if list == kind_code::LIST {
-        kind_code::LIST
-    } else {
-        13
+    match op {
+        Op::Add | Op::Subtract => match right {
+            Kind::Int => Ok(Kind::List),
+            _ => Err(Question::Mixed),
+        },
+        Op::And | Op::Or => Ok(Kind::Bool),
+        _ => Err(Question::Mixed),
     }
 }
 
-// How many operands each operator takes, two bits for each from range down to Add.
-const TAKEN: u64 = 0b11_010101010101_101010_01010101_00_10101010_01_101010101010_01_1010101010;
+// The answer for an operator below range and two kinds, or one twice where it takes one operand.
+#[tactic(auto, using(crate::proofs::Counting::void_left, crate::proofs::Counting::void_right, crate::proofs::Counting::two_taken))]
+pub fn entry(op: Op, left: Kind, right: Kind) -> Result<Kind, Question>
+    requires { (op_number op < op_range) × (1 ≤ operand_count (op_number op)) × (operand_count (op_number op) ≡ 1 → left ≡ right) }
+    ensures { answer_of result ≡ kind_entry (op_number op) left right }
+{
+    match left {
+        Kind::Void => Err(Question::Void),
+        Kind::List => match right {
+            Kind::Void => Err(Question::Void),
+            Kind::List => lists(op),
+            Kind::Bool | Kind::Int | Kind::Float => mixed(op, left, right),
+        },
+        Kind::Bool | Kind::Int | Kind::Float => match right {
+            Kind::Void => Err(Question::Void),
+            Kind::List => mixed(op, left, right),
+            Kind::Bool | Kind::Int | Kind::Float => number_entry(op, left, right),
+        },
+    }
+}
+
+// Range's answer for three kinds.
+#[tactic(auto, unfolding(crate::specs::Kinds::kind_range))]
+pub fn range(list: Kind, lower: Kind, upper: Kind) -> Result<Kind, Question>
+    ensures { answer_of result ≡ kind_range list lower upper }
+{
+    match (list, lower, upper) {
+        (Kind::Void, _, _) => Err(Question::Void),
+        (_, Kind::Void, _) => Err(Question::Void),
+        (_, _, Kind::Void) => Err(Question::Void),
+        (Kind::List, _, _) => Ok(Kind::List),
+        _ => Err(Question::Kind),
+    }
+}
 
 // How many operands an operator takes, 0 where there is no such operator.
-pub fn operands(op: u8) -> usize
-    requires { op < 32 }
-    ensures { result ≡ operand_count op }
+#[tactic(auto, unfolding(crate::specs::Kinds::operand_count, crate::specs::Kinds::known, crate::specs::Kinds::unary, crate::specs::Kinds::arity), using(crate::proofs::Counting::no_such))]
+pub fn operands(op: Op) -> usize
+    ensures { result ≡ operand_count (op_number op) }
 {
-    bits_of(TAKEN, op) as usize
+    match op {
+        Op::Negate | Op::Not | Op::Floor | Op::Ceiling | Op::Int | Op::Float => 1,
+        Op::ListMin | Op::ListMax | Op::All | Op::Count | Op::ValueOfList | Op::Invert => 1,
+        Op::Range => 3,
+        Op::Pow | Op::Other(_) => 0,
+        _ => 2,
+    }
 }
 
 // The second of an operator's kinds, the first again where it takes one operand.
-fn second(count: usize, left: u8, middle: u8) -> u8
+fn second(count: usize, left: Kind, middle: Kind) -> Kind
     ensures { result ≡ cond (eqb count 1) left middle }
 {
     if count == 1 { left } else { middle }
 }
 
-// Questions 11 to 13 of an operator and as many kind codes as it takes, of three: the code of the answer.
-pub fn answer(op: u8, count: usize, left: u8, middle: u8, right: u8) -> u8
-    requires { (op < 32) × (count ≡ operand_count op) × (1 ≤ count) × (left < 5) × (middle < 5) × (right < 5) }
-    ensures { KindsGiven op count (take count (kind_at left ∷ kind_at middle ∷ kind_at right ∷ [])) result }
+// Questions 11 to 13 of an operator and as many kinds as it takes, of three: the answer.
+pub fn answer(op: Op, count: usize, left: Kind, middle: Kind, right: Kind) -> Result<Kind, Question>
+    requires { (count ≡ operand_count (op_number op)) × (1 ≤ count) }
+    ensures { KindsGiven (op_number op) count (take count (left ∷ middle ∷ right ∷ [])) (answer_of result) }
 {
     if count == 3 {
         return range(left, middle, right);
@@ -168,20 +157,16 @@ pub fn answer(op: u8, count: usize, left: u8, middle: u8, right: u8) -> u8
 }
 
 // The same of any operator and count, after questions 8 and 10.
-#[tactic(auto, using(crate::proofs::Counting::above_all, crate::proofs::Counting::none_taken, crate::proofs::Counting::miscounted))]
-pub fn kinds(op: u8, count: usize, left: u8, middle: u8, right: u8) -> u8
-    requires { (left < 5) × (middle < 5) × (right < 5) }
-    ensures { KindsGiven op count (take count (kind_at left ∷ kind_at middle ∷ kind_at right ∷ [])) result }
+#[tactic(auto, using(crate::proofs::Counting::none_taken, crate::proofs::Counting::miscounted))]
+pub fn kinds(op: Op, count: usize, left: Kind, middle: Kind, right: Kind) -> Result<Kind, Question>
+    ensures { KindsGiven (op_number op) count (take count (left ∷ middle ∷ right ∷ [])) (answer_of result) }
 {
-    if op::RANGE < op {
-        return 8;
-    }
     let n = operands(op);
     if n == 0 {
-        return 8;
+        return Err(Question::Operator);
     }
     if n != count {
-        return 10;
+        return Err(Question::Operands);
     }
     answer(op, count, left, middle, right)
 }

@@ -1,85 +1,111 @@
 // Text for the standard output: it gathers in a lent buffer, which is written when it is full and at the end.
 #![tactic(auto)]
 
-ghost use Rattle.std.specs.Prelude.{◌≡◌, true, [], ◌∷◌};
-ghost use Rattle.output_buffer.specs.Text.{Adds};
+ghost use Rattle.std.specs.Prelude.{◌≡◌, ◌↔◌, ◌+◌, ◌≤◌, [], length, IsOk, IfOk, IsSome, Some, ◌++◌};
+ghost use Rattle.std.specs.Option.{option_map};
+ghost use Rattle.output_buffer.specs.Text.{Adds, Gathered, text_of};
+
+use std::fmt;
+use std::marker::Model;
 
 const STDOUT: i32 = 1;
 
-// How many bytes of the buffer wait to be written, and whether a write has failed: after that nothing is written.
-#[derive(Clone, Copy)]
-pub struct Output {
-    pub at: usize,
-    pub failed: bool,
+// A lent buffer, and how many bytes at its start wait to be written. After a failed write none wait, and no more are written.
+#[derive(Drop)]
+pub struct Output<'a> {
+    buffer: &'a mut [u8],
+    waiting: Result<usize, fmt::Error>,
 }
 
-impl Output {
-    pub fn new() -> Output {
+impl<'a> Model for Output<'a> {
+    ghost use Rattle.std.specs.Prelude.{◌≤◌, length, IfOk};
+    ghost use Rattle.output_buffer.specs.Text.{Gathered, gathered};
+
+    ghost Value = { Gathered };
+
+    ghost view = { λ o. gathered o.buffer.now o.waiting };
+
+    ghost invariant = { λ o. IfOk o.waiting (λ n. n ≤ length o.buffer.now) };
+}
+
+// Writes bytes. After that nothing waits.
+fn hand_over(bytes: &[u8]) -> Result<usize, fmt::Error>
+    ensures { IfOk result (λ n. n ≡ 0) }
+{
+    if io::write_all(STDOUT, bytes) {
+        Ok(0)
+    } else {
+        Err(fmt::Error)
+    }
+}
+
+impl<'a> Output<'a> {
+    pub fn new(buffer: &'a mut [u8]) -> Output<'a>
+        ensures { result ≡ record { text = Some []; room = length buffer.old } }
+    {
         Output {
-            at: 0,
-            failed: false,
+            buffer,
+            waiting: Ok(0),
         }
     }
 
     // Writes what waits.
-    pub fn flush(self, out: &[u8]) -> Output
-        ensures at_value { result.at ≡ 0 }
-        ensures failed_value { self.failed ≡ true → result.failed ≡ true }
+    pub fn flush(&mut self) -> fmt::Result
+        ensures emptied { text_of self.new ≡ [] }
+        ensures told { IsOk result ↔ IsSome self.new.text }
+        ensures failed { IsSome self.new.text → IsSome self.old.text }
+        ensures room { self.new.room ≡ self.old.room }
     {
-        let at = self.at;
-        if self.failed {
-            return Output {
-                at: 0,
-                failed: true,
-            };
-        }
-        if out.len() < at {
-            return Output {
-                at: 0,
-                failed: true,
-            };
-        }
-        let written = io::write_all(STDOUT, &out[..at]);
-        Output {
-            at: 0,
-            failed: !written,
-        }
+        let end = self.waiting?;
+        self.waiting = hand_over(&self.buffer[..end]);
+        self.waiting?;
+        Ok(())
     }
 
-    fn byte(self, out: &mut [u8], b: u8) -> Output
-        ensures { Adds (b ∷ []) out.old self out.new result }
+    // Adds bytes at the end, where there is room.
+    fn append(&mut self, bytes: &[u8]) -> fmt::Result
+        requires { length (text_of self.old) + length bytes.now ≤ self.old.room }
+        ensures added { self.new.text ≡ option_map (λ xs. xs ++ bytes.now) self.old.text }
+        ensures told { IsOk result ↔ IsSome self.new.text }
+        ensures room { self.new.room ≡ self.old.room }
     {
-        let at = self.at;
-        if at < out.len() {
-            out[at] = b;
-            return Output {
-                at: at + 1,
-                failed: self.failed,
-            };
-        }
-        let o = self.flush(out);
-        if out.len() == 0 {
-            return Output {
-                at: 0,
-                failed: true,
-            };
-        }
-        out[0] = b;
-        Output {
-            at: 1,
-            failed: o.failed,
-        }
+        let len = self.waiting?;
+        let end = len + bytes.len();
+        self.buffer[len..end].copy_from_slice(bytes);
+        self.waiting = Ok(end);
+        Ok(())
     }
 
-    pub fn text(self, out: &mut [u8], s: &[u8]) -> Output
-        ensures { Adds s.now out.old self out.new result }
+    // Adds bytes, writing before what waits where there is no room for both, and the bytes themselves where there is none for them.
+    #[tactic(auto, using(crate::proofs::Adding::joined, crate::proofs::Adding::all_left, crate::proofs::Adding::anew))]
+    pub fn write_bytes(&mut self, bytes: &[u8]) -> fmt::Result
+        ensures adds { Adds self.old bytes.now self.new }
+        ensures told { IsOk result ↔ IsSome self.new.text }
     {
-        let mut o = self;
-        let mut i = 0;
-        while i < s.len() {
-            o = o.byte(out, s[i]);
-            i += 1;
+        if bytes.len() <= self.room_left() {
+            return self.append(bytes);
         }
-        o
+        self.flush()?;
+        if self.buffer.len() < bytes.len() {
+            self.waiting = hand_over(bytes);
+            self.waiting?;
+            return Ok(());
+        }
+        self.append(bytes)
+    }
+
+    // How many bytes can be added before what waits has to be written.
+    fn room_left(&self) -> usize
+        ensures { result + length (text_of self.now) ≡ self.now.room }
+    {
+        self.buffer.len() - self.waiting.unwrap_or(0)
+    }
+}
+
+impl fmt::Write for Output<'_> {
+    ghost write_str_gives = { Adds };
+
+    fn write_str(&mut self, s: &str) -> fmt::Result {
+        self.write_bytes(s.as_bytes())
     }
 }

@@ -5,6 +5,7 @@ use mathlib.Core
 use Rattle.std.proofs.Math.Option.{Option, some, none}
 use Rattle.pack.specs.Bytes.{byte, u32, i32}
 use Rattle.pack.specs.Format.{slot_limit}
+use Rattle.op.specs.Op.{op_number}
 use Rattle.pack.specs.declared.instruction.Instruction.{Instruction}
 use Rattle.pack.specs.declared.instruction.Instruction.TheVariants.{Op, Bool, Int, Float, List, Slot, Void}
 
@@ -24,7 +25,7 @@ pub data Instr : Type 0 where
 
 -- the instruction that a case of the code's enum is
 abbrev pub instr_of : Instruction → Instr
-instr_of (Op n) = op n
+instr_of (Op o) = op (op_number o)
 instr_of (Bool b) = push (push_bool b)
 instr_of (Int z) = push (push_int z)
 instr_of (Float n) = push (push_float n)

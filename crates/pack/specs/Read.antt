@@ -73,7 +73,7 @@ pub record EntriesRead (es : List Entry) (from count : ℕ) (oi oi' : List ℕ) 
 -- ---- instructions by position
 
 module _ (p : List ℕ) where
-  -- the instructions of sheet s, whatever the format: `sheetOf` of the decoded pack
+  -- the instructions of sheet s, whatever the format: `sheet_of` of the decoded pack
   abbrev pub program : ℕ → List Instr
   program s = get_or (table (sheet_count p) (λ k. or_none (sheet p (sheet_body p k)))) s []
 

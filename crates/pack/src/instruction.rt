@@ -4,11 +4,12 @@ ghost use Rattle.pack.specs.Instruction.{instr_of, width};
 ghost use Rattle.pack.specs.Read.{Whole, Reads};
 
 use super::bytes::{i32_at, u32_at};
+use op::Op;
 
-// An operator by its byte, or a push: a Float by its bits, a List by its literal's number.
+// An operator, or a push: a Float by its bits, a List by its literal's number.
 #[derive(Clone, Copy)]
 pub enum Instruction {
-    Op(u8),
+    Op(Op),
     Bool(bool),
     Int(i32),
     Float(u32),
@@ -17,7 +18,7 @@ pub enum Instruction {
     Void,
 }
 
-// The codes of the pushes. Those below are operators.
+// The codes of the pushes, as bytes of the format; what they stand for is `Instruction`. Those below are operators.
 pub const BOOL: u8 = 32;
 
 pub const INT: u8 = 33;
@@ -49,7 +50,7 @@ pub fn read_instruction(p: &[u8], at: usize) -> Instruction
         LIST => Instruction::List(p[at + 1]),
         SLOT => Instruction::Slot(p[at + 1]),
         VOID => Instruction::Void,
-        code => Instruction::Op(code),
+        code => Instruction::Op(Op::numbered(code)),
     }
 }
 

@@ -40,6 +40,7 @@ fn question2(p: &[u8]) -> bool
 {
     let n = body_count(p);
     let mut at = 4 + 4 * n;
+    // A body has a number and no slice: its offset and size are read by the number.
     for b in 0..n {
         if offset(p, b) != at {
             return false;

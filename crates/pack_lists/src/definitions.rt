@@ -50,6 +50,7 @@ pub fn question3(p: &[u8], format: Format) -> bool
 {
     let n = byte_at(p, 1);
     let mut items = 0;
+    // One pass asks and counts, since a definition's items are counted only where it is well formed: `all` and `sum` would be two passes.
     for d in 0..n {
         if !definition_ok(p, d, format) {
             return false;
@@ -60,17 +61,11 @@ pub fn question3(p: &[u8], format: Format) -> bool
 }
 
 // The items of all definitions.
-#[tactic(auto, using(pack::proofs::Values::items_more), unfolding(pack::specs::Bodies::items_below))]
 pub fn total_items(p: &[u8], format: Format) -> usize
     requires narrow { Narrow format }
     requires placed { Placed p.now }
     requires p_value { question3 format p.now ≡ true }
     ensures { (result ≡ item_count format p.now) × (result < 65536) }
 {
-    let n = byte_at(p, 1);
-    let mut items = 0;
-    for d in 0..n {
-        items += item_count(p, d, format);
-    }
-    items
+    (0..byte_at(p, 1)).map(|d| item_count(p, d, format)).sum()
 }

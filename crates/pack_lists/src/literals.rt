@@ -21,10 +21,12 @@ fn items_ok(p: &[u8], b: usize, n: usize, total: usize, format: Format) -> bool
     requires b_value { size p.now b ≡ 8 + (format.wide + 4) * n }
     ensures { result ≡ ascends 0 total (table n (item format p.now b)) }
 {
+    let stride = format.wide + 4;
     let first = offset(p, b) + 8;
+    let entries = &p[first..first + stride * n];
     let mut least = 0;
-    for k in 0..n {
-        let item = number_at(p, first + (format.wide + 4) * k, format.wide);
+    for entry in entries.chunks_exact(stride) {
+        let item = number_at(entry, 0, format.wide);
         if item < least || total <= item {
             return false;
         }
@@ -58,7 +60,6 @@ fn literal_ok(p: &[u8], b: usize, total: usize, format: Format) -> bool
 }
 
 // Is each literal well formed, items in the pack, origin bits below D?
-#[tactic(auto, using(slices::proofs::Every::every_more, slices::proofs::Every::every_fails), unfolding(slices::specs::Every::every, pack::specs::Judge::question4))]
 pub fn question4(p: &[u8], format: Format) -> bool
     requires narrow { Narrow format }
     requires placed { Placed p.now }
@@ -67,11 +68,5 @@ pub fn question4(p: &[u8], format: Format) -> bool
 {
     let total = total_items(p, format);
     let d = byte_at(p, 1);
-    let n = byte_at(p, 2);
-    for l in 0..n {
-        if !literal_ok(p, d + l, total, format) {
-            return false;
-        }
-    }
-    true
+    (0..byte_at(p, 2)).all(|l| literal_ok(p, d + l, total, format))
 }

@@ -58,6 +58,7 @@ fn copy_each(
     requires n_in_bounds_3 { from + n ≤ length values.old }
     ensures { Copies wide n p at from items values }
 {
+    // By index: tried with `iter_mut().zip(..)`, and the proof did not close, since all that is known after such a loop is the length.
     for k in 0..n {
         let e = at + (wide + 4) * k;
         items[from + k] = number_at(p, e, wide) as u16;

@@ -1,2 +1,3 @@
 -- What is known of a pack that is shown.
 pub mod Passed
+pub mod Left

@@ -23,6 +23,7 @@ fn copy_values(p: &[u8], at: usize, n: usize, out: &mut [i32], from: usize)
     requires n_in_bounds_2 { from + n ≤ length out.old }
     ensures { out.new ≡ fill from (table n (λ k. i32 p.now (at + 4 * k))) out.old }
 {
+    // By index: tried with `iter_mut().zip(..)`, and the proof did not close, since all that is known after such a loop is the length.
     for k in 0..n {
         out[from + k] = i32_at(p, at + 4 * k);
     }
@@ -45,6 +46,7 @@ pub fn read_definitions(p: &[u8], ends: &mut [u16], defined: &mut [i32], format:
 {
     let n = byte_at(p, 1);
     let mut items = 0;
+    // By index: a body has a number and no slice, and `iter_mut().enumerate()` would leave of `ends` only the length, as in `copy_values`.
     for d in 0..n {
         let at = offset(p, d) + format.wide;
         let k = item_count(p, d, format);

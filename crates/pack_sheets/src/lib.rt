@@ -66,6 +66,7 @@ fn sheet_ok(p: &[u8], b: usize) -> bool
     let literals = byte_at(p, 2);
     let mut at = offset(p, b);
     let end = at + size(p, b);
+    // No index: the position goes on by each instruction's width, and the limit is the number of turns.
     for _ in 0..INSTRUCTION_LIMIT {
         if at == end {
             return true;
@@ -85,11 +86,5 @@ pub fn question5(p: &[u8]) -> bool
     ensures { result ≡ question5 p.now }
 {
     let first = byte_at(p, 1) + byte_at(p, 2);
-    let n = byte_at(p, 3);
-    for s in 0..n {
-        if !sheet_ok(p, first + s) {
-            return false;
-        }
-    }
-    true
+    (0..byte_at(p, 3)).all(|s| sheet_ok(p, first + s))
 }

@@ -4,9 +4,8 @@ use mathlib.Core.Bool.{Bool, true, false, cond, ◌&&◌}
 use mathlib.Core.List.{List, [], ◌∷◌}
 use Prim.Native.Nat.{ℕ, zero, suc, ◌^◌, ◌<◌}
 use native.Mathlib.Omega.{arith}
-use borrow.Author.Tests.{eq-eqb, ne_eqb}
+use borrow.Author.Tests.{ne_eqb}
 use lib.Dec.{eqb}
-use lib.IntN.{ℤ}
 use lib.ListN.{length, take}
 use lib.Pow.{pow_pos}
 use Rattle.op.specs.Op.{op_subtract}
@@ -14,12 +13,9 @@ use Rattle.ink_list.specs.Entries.{Entry, items}
 use Rattle.ink_list.proofs.Formed.{formed_bits}
 use Rattle.list_definitions.specs.Defs.{origins_of}
 use Rattle.list_definitions.proofs.OriginLaws.{origins_below, origins_none}
-use Rattle.ink_value.specs.Val.{Val, list, kind_of, is_list, listK, code_of}
+use Rattle.ink_value.specs.Val.{Val, list, kind_of, is_list}
 use Rattle.ink_value.specs.Convert.{entries_of, origins_in}
-use Rattle.ink_value.specs.Value.{val_of, code_of_value, set_in, AllInPack}
-use Rattle.ink_value.specs.declared.Value.{Value}
-use Rattle.ink_value.specs.declared.Value.TheVariants as Is
-use Rattle.ink_value.proofs.Reading.{set_in_lem, list_in}
+use Rattle.ink_value.specs.Value.{AllInPack}
 use Rattle.result_origins.specs.Origins.{origins_kept, origins_after}
 
 -- ---- which set
@@ -63,25 +59,7 @@ right_none o a b e = go (eqb o op_subtract)
 pub other_right : (ends : List ℕ) (o : ℕ) (a b : Val) (is : List ℕ) → is_list (kind_of b) ≡ false → origins_after ends o (a ∷ b ∷ []) is ≡ origins_of ends is
 other_right ends o a b is e = none_kept ends o (a ∷ b ∷ []) is (right_none o a b e)
 
--- ---- the same of the code's values
-
-module _ (is : List ℕ) (vs : List ℤ) (o : ℕ) (a b : Value) where
-  pub kept_left : o ≡ op_subtract → code_of_value b ≡ code_of listK → origins_kept o (val_of is vs a ∷ val_of is vs b ∷ []) ≡ set_in a
-  unfolding origins_kept
-  kept_left e k = rw (eq-eqb o op_subtract e, list_in is vs b k) (set_in_lem is vs a)
-
-  pub kept_right : (code_of_value b ≡ code_of listK → ⊥) → origins_kept o (val_of is vs a ∷ val_of is vs b ∷ []) ≡ 0
-  kept_right k = right_none o (val_of is vs a) (val_of is vs b) (no b k)
-    where
-      no : (v : Value) → (code_of_value v ≡ code_of listK → ⊥) → is_list (kind_of (val_of is vs v)) ≡ false
-      no (Is.Bool t) h = refl
-      no (Is.Int z) h = refl
-      no (Is.Float x) h = refl
-      no (Is.List p s n) h = absurd (h refl)
-      no Is.Void h = refl
-
-  pub kept_other : (o ≡ op_subtract → ⊥) → origins_kept o (val_of is vs a ∷ val_of is vs b ∷ []) ≡ 0
-  kept_other h = kept_none o (val_of is vs a ∷ val_of is vs b ∷ []) h
+-- ---- the cases of the code
 
 -- the first n of three, where n is not two
 pub not_two : (o n : ℕ) (a b c : Val) → (n ≡ 2 → ⊥) → origins_kept o (take n (a ∷ b ∷ c ∷ [])) ≡ 0

@@ -6,11 +6,12 @@ ghost use Rattle.pack.specs.Format.{format1, Runnable};
 ghost use Rattle.pack.specs.Judge.{Sound};
 ghost use Rattle.running.specs.Slices.{RunsSix, RunsAny};
 
+use ink_number::question::Question;
 use ink_value::Value;
+use machine::Stop;
 use pack::format::Format;
 use pack_check::format::{DEFINITION_LIMIT, FORMAT1};
 use run_sheet::run_sheet;
-use running::Ran;
 
 // Question 6, and on, with a pack that has passed. Its definitions' values are read into a slice that is lent for it.
 fn run_passed(
@@ -25,16 +26,13 @@ fn run_passed(
     work_values: &mut [i32],
     result_items: &mut [u16],
     result_values: &mut [i32],
-) -> Ran
+) -> Result<Value, Stop>
     requires { Sound format pack.now × Runnable format × (format.limit ≤ length defined.old) }
     ensures { RunsSix format pack sheet slots slot_items slot_values result
         work_items work_values result_items result_values }
 {
     if pack_read::sheet_count(pack) <= sheet {
-        return Ran::Stopped {
-            number: 6,
-            index: 0,
-        };
+        return Err(Stop::from(Question::Sheet));
     }
     let mut ends = [0u16; DEFINITION_LIMIT];
     let read = pack_read::read_definitions(pack, &mut ends, defined, format);
@@ -67,30 +65,23 @@ pub fn run(
     work_values: &mut [i32],
     result_items: &mut [u16],
     result_values: &mut [i32],
-) -> Ran
+) -> Result<Value, Stop>
     ensures { RunsAny format1 pack sheet slots slot_items slot_values result
         work_items work_values result_items result_values }
 {
-    match pack_check::check(pack) {
-        Ok(()) => {
-            let mut defined = [0i32; FORMAT1.limit];
-            run_passed(
-                pack,
-                sheet,
-                slots,
-                slot_items,
-                slot_values,
-                FORMAT1,
-                &mut defined,
-                work_items,
-                work_values,
-                result_items,
-                result_values,
-            )
-        }
-        Err(question) => Ran::Stopped {
-            number: question.number(),
-            index: 0,
-        },
-    }
+    pack_check::check(pack)?;
+    let mut defined = [0i32; FORMAT1.limit];
+    run_passed(
+        pack,
+        sheet,
+        slots,
+        slot_items,
+        slot_values,
+        FORMAT1,
+        &mut defined,
+        work_items,
+        work_values,
+        result_items,
+        result_values,
+    )
 }

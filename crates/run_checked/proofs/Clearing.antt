@@ -1,15 +1,17 @@
 -- The used places, cleared: the work slices are as they were, where they were zero. Assumes nothing.
-use mathlib.Core.Path.{◌≡◌, refl, sym, ap, ◌∙◌, subst}
+use mathlib.Core.Path.{◌≡◌, refl, sym, ap, ap₂, ◌∙◌, subst}
 use mathlib.Core.Logic.{inl, inr, ⊎_elim}
-use mathlib.Core.List.{List}
+use mathlib.Core.List.{List, ◌++◌}
 use Prim.Native.Nat.{ℕ, zero, suc, ◌+◌, ◌-◌, ◌≤◌, ◌<◌}
 use native.Mathlib.Numerals.{add-one}
 use native.Mathlib.Omega.{arith}
 use native.Mathlib.Decide.{ℕ_discrete}
-use lib.ListN.{length, get_or, replicate, length-replicate, get_or-replicate}
-use lib.Seq.{ext_get_or}
+use lib.ListN.{length, get_or, take, drop, replicate, length-replicate, length-drop, get_or-replicate}
+use lib.Seq.{ext_get_or, drop-drop, length-take-le}
+use borrow.Rule.Slice.PartMut.{put_mid}
+use Rattle.std.proofs.lemmas.List.{append_assoc}
 use Rattle.slices.specs.Filled.{fill, Outside}
-use Rattle.slices.proofs.Filled.{length_fill, get_d_outside, get_d_inside}
+use Rattle.slices.proofs.Filled.{length_fill, fill_over, get_d_outside, get_d_inside}
 use Rattle.ink_list.proofs.Laws.{lt_or_le}
 use Rattle.pack.specs.declared.format.Format.{Format}
 use Rattle.running.specs.Work.{Touched}
@@ -17,6 +19,24 @@ use Rattle.machine.specs.Machine.{stack_limit}
 use Rattle.operating.specs.Stacked.{work_limit, start_at}
 use Rattle.run_checked.specs.Clear.{cleared}
 use Rattle.operating.proofs.Putting.{place_fits}
+
+-- n places from a on, filled with one value
+pub same_filled : {X : Type 0} (d : X) (a n : ℕ) (l ys : List X) → a + n ≤ length l → ys ≡ replicate (length (take (a + n - a) (drop a l))) d
+    → put_mid a (a + n - a) l ys ≡ fill a (replicate n d) l
+unfolding fill
+same_filled d a n l ys h e =
+    let s : a + n - a ≡ n = omega arith in
+    let m : length (take (a + n - a) (drop a l)) ≡ n = ap (λ (k : ℕ). length (take k (drop a l))) s ∙ length-take-le n (drop a l) (omega (arith, length-drop a l)) in
+    ap₂ (λ zs k. put_mid a k l zs) (e ∙ ap (λ (k : ℕ). replicate k d) m) s
+    ∙ sym (append_assoc (take a l) (replicate n d) (drop n (drop a l)))
+    ∙ ap (λ r. (take a l ++ replicate n d) ++ r) (drop-drop n a l ∙ ap (λ (k : ℕ). drop k l) (ap (λ (k : ℕ). a + k) (sym (length-replicate n d))))
+
+-- the same from the start
+pub front_filled : {X : Type 0} (d : X) (n : ℕ) (l ys : List X) → n ≤ length l → ys ≡ replicate (length (take n l)) d → ys ++ drop n l ≡ fill 0 (replicate n d) l
+front_filled d n l ys h e =
+    ap (λ zs. zs ++ drop n l) (e ∙ ap (λ (k : ℕ). replicate k d) (length-take-le n l h))
+    ∙ ap (λ (k : ℕ). replicate n d ++ drop k l) (sym (length-replicate n d))
+    ∙ sym (fill_over (replicate n d) l)
 
 module _ (F : Format) {X : Type 0} (d : X) (used : List ℕ) (l : List X) where
   pub cleared_none : cleared F d used 0 l ≡ l

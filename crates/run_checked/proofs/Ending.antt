@@ -10,7 +10,6 @@ use Rattle.ink_value.specs.Val.{Val, bool, int, float, list, void}
 use Rattle.ink_value.specs.Convert.{entries_of}
 use Rattle.ink_value.specs.Value.{val_of, placed_val, Gave}
 use Rattle.ink_value.specs.declared.Value.{Value}
-use Rattle.ink_value.specs.declared.Outcome.TheVariants as Out
 use Rattle.ink_value.proofs.ReadBack.{read_back}
 use Rattle.list_operators.specs.Lists.{definitions}
 use Rattle.pack.specs.Bodies.{decoded}
@@ -20,11 +19,9 @@ use Rattle.slices.proofs.Filled.{fill_over}
 use Rattle.stepping.specs.Steps.{Inputs}
 use Rattle.running.specs.Run.{RanTo, Memory, run_of}
 use Rattle.running.specs.Work.{Worked}
-use Rattle.running.specs.declared.Ran.{Ran}
 use Rattle.machine.specs.Machine.{End, ended, stopped, stack_limit, run}
 use Rattle.operating.specs.Stacked.{placed_at, Put, Roomy}
 use Rattle.run_checked.specs.Clear.{cleared}
-use Rattle.running.specs.declared.Ran.TheVariants as Rn
 use Rattle.run_checked.proofs.Clearing.{cleared_back}
 
 placed_start : (x : Val) → placed_at 0 x ≡ placed_val x
@@ -35,23 +32,23 @@ placed_start (list o es) = refl
 placed_start void = refl
 
 module _ {F : Format} (ri ri' : List ℕ) (rv rv' : List ℤ) where
-  ran_ended : (x : Val) (v : Value) → Put F x 0 v ri ri' rv rv' → RanTo (ended x) (Rn.Ended v) ri ri' rv rv'
+  ran_ended : (x : Val) (v : Value) → Put F x 0 v ri ri' rv rv' → RanTo (ended x) (ended v) ri ri' rv rv'
   ran_ended x v w =
-      let g : Gave (gives x) (Out.Value v) ri ri' rv rv' =
+      let g : Gave (gives x) (gives v) ri ri' rv rv' =
       record {
-        answered = ap Out.Value (w.value_is ∙ placed_start x);
+        answered = ap gives (w.value_is ∙ placed_start x);
         items_out = w.items_in ∙ fill_over (items (entries_of x)) ri;
         values_out = w.values_in ∙ fill_over (values (entries_of x)) rv;
       } in
-      let e : gives (val_of ri' rv' v) ≡ gives x = read_back (gives x) (Out.Value v) ri ri' rv rv' g in
-      record { end_is = cc; answered = ap Rn.Ended (w.value_is ∙ placed_start x); items_out = g.items_out; values_out = g.values_out }
+      let e : gives (val_of ri' rv' v) ≡ gives x = read_back (gives x) (gives v) ri ri' rv rv' g in
+      record { end_is = cc; answered = ap ended (w.value_is ∙ placed_start x); items_out = g.items_out; values_out = g.values_out }
 
-  pub ran_value : (e : End Val) (x : Val) (v : Value) → ended x ≡ e → Put F x 0 v ri ri' rv rv' → RanTo e (Rn.Ended v) ri ri' rv rv'
-  ran_value e x v q w = subst (λ (z : End Val). RanTo z (Rn.Ended v) ri ri' rv rv') q (ran_ended x v w)
+  pub ran_value : (e : End Val) (x : Val) (v : Value) → ended x ≡ e → Put F x 0 v ri ri' rv rv' → RanTo e (ended v) ri ri' rv rv'
+  ran_value e x v q w = subst (λ (z : End Val). RanTo z (ended v) ri ri' rv rv') q (ran_ended x v w)
 
-pub ran_stopped : (e : End Val) (n k : ℕ) (ri : List ℕ) (rv : List ℤ) → stopped n k ≡ e → RanTo e (Rn.Stopped n k) ri ri rv rv
+pub ran_stopped : (e : End Val) (n k : ℕ) (ri : List ℕ) (rv : List ℤ) → stopped n k ≡ e → RanTo e (stopped n k) ri ri rv rv
 ran_stopped e n k ri rv q =
-    subst (λ (z : End Val). RanTo z (Rn.Stopped n k) ri ri rv rv) q (record { end_is = refl; answered = refl; items_out = refl; values_out = refl })
+    subst (λ (z : End Val). RanTo z (stopped n k) ri ri rv rv) q (record { end_is = refl; answered = refl; items_out = refl; values_out = refl })
 
 -- the tables are the pack's own
 pub same_run : (F : Format) (p ends : List ℕ) (defined : List ℤ) (slots : List Value) (si : List ℕ) (sv : List ℤ)
@@ -61,7 +58,7 @@ same_run F p ends defined slots si sv g s vs =
     ap (λ (es : List ℕ). (run (definitions es defined F.limit) (program p s) (literal_of (decoded F p)) vs).end) g.ends_are
     ∙ ap (λ (ds : List ℤ). (run (definitions (ends_of (decoded F p)) ds F.limit) (program p s) (literal_of (decoded F p)) vs).end) g.defined_are
 
-module _ {F : Format} (e : End Val) (r : Ran) (used wi wi' : List ℕ) (wv wv' : List ℤ) (ri : List ℕ) (rv : List ℤ)
+module _ {F : Format} (e : End Val) (r : End Value) (used wi wi' : List ℕ) (wv wv' : List ℤ) (ri : List ℕ) (rv : List ℤ)
     (m : Memory F wi wv ri rv) (w : Worked F e r used wi wi' wv wv') where
   pub roomy_after : Roomy F wi' wv'
   roomy_after =

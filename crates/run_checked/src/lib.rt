@@ -2,8 +2,7 @@
 // work slices zeroed.
 #![tactic(auto)]
 
-ghost use Rattle.std.specs.Prelude.{◌≡◌, ℕ, ◌<◌, ◌≤◌, ◌+◌, pos, length, get_or, replicate};
-ghost use Rattle.slices.specs.Filled.{fill};
+ghost use Rattle.std.specs.Prelude.{◌≡◌, ℕ, ◌<◌, ◌≤◌, length, get_or};
 ghost use Rattle.pack.specs.Contents.{sheet_count};
 ghost use Rattle.machine.specs.Machine.{stack_limit};
 ghost use Rattle.stepping.specs.Steps.{Inputs};
@@ -13,32 +12,9 @@ ghost use Rattle.running.specs.Slices.{run_in, RanIn, Kept};
 ghost use Rattle.run_checked.specs.Clear.{ClearedIn};
 
 use ink_value::Value;
-use machine::STACK_LIMIT;
+use machine::{STACK_LIMIT, Stop};
 use pack::format::Format;
-use running::{Ran, work};
-
-// Zeros the n places from an index on.
-pub fn zero_items(s: &mut [u16], from: usize, n: usize)
-    requires { from + n ≤ length s.old }
-    ensures { s.new ≡ fill from (replicate n 0) s.old }
-{
-    let mut k: usize = 0;
-    while k < n {
-        s[from + k] = 0;
-        k += 1;
-    }
-}
-
-pub fn zero_values(s: &mut [i32], from: usize, n: usize)
-    requires { from + n ≤ length s.old }
-    ensures { s.new ≡ fill from (replicate n (pos 0)) s.old }
-{
-    let mut k: usize = 0;
-    while k < n {
-        s[from + k] = 0;
-        k += 1;
-    }
-}
+use running::work;
 
 // Zeros what each place of the stack has used of the work slices.
 fn clear(used: &[usize], format: Format, work_items: &mut [u16], work_values: &mut [i32])
@@ -46,13 +22,10 @@ fn clear(used: &[usize], format: Format, work_items: &mut [u16], work_values: &m
     requires roomy { Roomy format work_items.old work_values.old }
     ensures { ClearedIn format used work_items work_values }
 {
-    let mut q: usize = 0;
-    while q < STACK_LIMIT {
-        let n = used[q];
+    for (q, n) in used.iter().enumerate() {
         let from = q * format.limit;
-        zero_items(work_items, from, n);
-        zero_values(work_values, from, n);
-        q += 1;
+        work_items[from..from + *n].fill(0);
+        work_values[from..from + *n].fill(0);
     }
 }
 
@@ -70,7 +43,7 @@ pub fn run_checked(
     work_values: &mut [i32],
     result_items: &mut [u16],
     result_values: &mut [i32],
-) -> Ran
+) -> Result<Value, Stop>
     requires inputs { Inputs format pack.now ends.now defined.now slots slot_items.now slot_values.now
         × (sheet < sheet_count pack.now) }
     requires memory { Memory format work_items.old work_values.old result_items.old result_values.old }
@@ -92,7 +65,7 @@ pub fn run_checked(
         work_values,
     );
     match ran {
-        Ran::Ended(v) => {
+        Ok(v) => {
             let last = operating::store(
                 v,
                 &work_items[..],
@@ -102,11 +75,11 @@ pub fn run_checked(
                 0,
             );
             clear(&used, format, work_items, work_values);
-            Ran::Ended(last)
+            Ok(last)
         }
-        Ran::Stopped { number, index } => {
+        Err(stop) => {
             clear(&used, format, work_items, work_values);
-            Ran::Stopped { number, index }
+            Err(stop)
         }
     }
 }

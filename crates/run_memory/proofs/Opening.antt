@@ -1,6 +1,6 @@
 -- Questions 1 to 7 of a run: the first no, or the run of the decoded pack. Assumes nothing.
 use mathlib.Core.Path.{◌≡◌, refl, sym, ap, ◌∙◌, subst}
-use mathlib.Core.Bool.{Bool, true, false}
+use mathlib.Core.Bool.{true, false}
 use mathlib.Core.List.{List}
 use Prim.Native.Nat.{ℕ, ◌+◌, ◌≤◌, ◌<◌}
 use native.Mathlib.Nat.{zero-add}
@@ -26,24 +26,23 @@ use Rattle.pack.specs.Read.{ends_of, defined_of}
 use Rattle.pack.proofs.Values.{pack_tables}
 use Rattle.stepping.specs.Steps.{Inputs}
 use Rattle.running.specs.Run.{long_enough, RanTo, Memory, run_of, Runs, run_memory}
-use Rattle.running.specs.declared.Ran.{Ran}
 use Rattle.operating.specs.Stacked.{work_limit}
-use Rattle.running.specs.declared.Ran.TheVariants as Rn
 use Rattle.run_memory.proofs.Forming.{each_at}
+use Rattle.machine.specs.Machine.{End, stopped}
 
 -- ---- the answer of questions 1 to 7
 
 pub runs_stopped : {F : Format} (a : Answer Pack) (q s : ℕ) (slots : List Val) (wi : List ℕ) (wv : List ℤ) (ri : List ℕ) (rv : List ℤ) → a ≡ refuses q
-    → Runs F a s slots (Rn.Stopped q 0) wi wi wv wv ri ri rv rv
+    → Runs F a s slots (stopped q 0) wi wi wv wv ri ri rv rv
 runs_stopped {F} a q s slots wi wv ri rv e =
-    subst (λ (x : Answer Pack). Runs F x s slots (Rn.Stopped q 0) wi wi wv wv ri ri rv rv) (sym e)
+    subst (λ (x : Answer Pack). Runs F x s slots (stopped q 0) wi wi wv wv ri ri rv rv) (sym e)
     (record { ran = record { end_is = refl; answered = refl; items_out = refl; values_out = refl }; items_left = refl; values_left = refl })
 
-pub runs_is : {F : Format} (a b : Answer Pack) (s : ℕ) (slots : List Val) (r : Ran) (wi wi' : List ℕ) (wv wv' : List ℤ) (ri ri' : List ℕ) (rv rv' : List ℤ) → a ≡ b
+pub runs_is : {F : Format} (a b : Answer Pack) (s : ℕ) (slots : List Val) (r : End Value) (wi wi' : List ℕ) (wv wv' : List ℤ) (ri ri' : List ℕ) (rv rv' : List ℤ) → a ≡ b
     → Runs F b s slots r wi wi' wv wv' ri ri' rv rv' → Runs F a s slots r wi wi' wv wv' ri ri' rv rv'
 runs_is {F} a b s slots r wi wi' wv wv' ri ri' rv rv' e w = subst (λ (x : Answer Pack). Runs F x s slots r wi wi' wv wv' ri ri' rv rv') (sym e) w
 
-pub runs_given : {F : Format} (a : Answer Pack) (p : List ℕ) (s : ℕ) (slots : List Val) (r : Ran) (wi wi' : List ℕ) (wv wv' : List ℤ) (ri ri' : List ℕ) (rv rv' : List ℤ)
+pub runs_given : {F : Format} (a : Answer Pack) (p : List ℕ) (s : ℕ) (slots : List Val) (r : End Value) (wi wi' : List ℕ) (wv wv' : List ℤ) (ri ri' : List ℕ) (rv rv' : List ℤ)
     → a ≡ gives (decoded F p) → RanTo (run_of F p s slots) r ri ri' rv rv' → wi' ≡ fill 0 (replicate (work_limit F) 0) wi
     → wv' ≡ fill 0 (replicate (work_limit F) (pos 0)) wv → Runs F a s slots r wi wi' wv wv' ri ri' rv rv'
 runs_given {F} a p s slots r wi wi' wv wv' ri ri' rv rv' e w hi hv =

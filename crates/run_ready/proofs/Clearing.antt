@@ -11,9 +11,10 @@ use Rattle.pack.specs.Format.{Runnable}
 use Rattle.pack.specs.declared.format.Format.{Format}
 use Rattle.operating.specs.Stacked.{work_limit}
 use Rattle.running.specs.Run.{RanTo, Memory, run_of, Runs}
-use Rattle.running.specs.declared.Ran.{Ran}
 use Rattle.run_memory.proofs.Opening.{Long}
 use Rattle.run_ready.specs.Work.{Clear}
+use Rattle.machine.specs.Machine.{End}
+use Rattle.ink_value.specs.declared.Value.{Value}
 
 pub clear_memory : (F : Format) → Runnable F → (wi : List ℕ) (wv : List ℤ) (ri : List ℕ) (rv : List ℤ) → Clear F wi wv → Long F wi wv ri rv → Memory F wi wv ri rv
 clear_memory F f wi wv ri rv z l =
@@ -27,7 +28,7 @@ clear_memory F f wi wv ri rv z l =
       result_values = l.result_values;
     }
 
-pub runs_clear : {F : Format} (a : Answer Pack) (p : List ℕ) (s : ℕ) (slots : List Val) (r : Ran) (wi wi' : List ℕ) (wv wv' : List ℤ) (ri ri' : List ℕ) (rv rv' : List ℤ)
+pub runs_clear : {F : Format} (a : Answer Pack) (p : List ℕ) (s : ℕ) (slots : List Val) (r : End Value) (wi wi' : List ℕ) (wv wv' : List ℤ) (ri ri' : List ℕ) (rv rv' : List ℤ)
     → Clear F wi wv → Long F wi wv ri rv → a ≡ gives (decoded F p) → RanTo (run_of F p s slots) r ri ri' rv rv' → wi' ≡ wi → wv' ≡ wv
     → Runs F a s slots r wi wi' wv wv' ri ri' rv rv'
 runs_clear {F} a p s slots r wi wi' wv wv' ri ri' rv rv' z l e w hi hv =

@@ -6,9 +6,10 @@ ghost use Rattle.running.specs.Slices.{RunsAny, Kept};
 ghost use Rattle.definition_tables.specs.Tables.{Ready};
 ghost use Rattle.run_ready.specs.Work.{Clear};
 
+use ink_number::question::Question;
 use ink_value::Value;
+use machine::Stop;
 use pack::format::Format;
-use running::Ran;
 
 pub fn run_ready(
     pack: &[u8],
@@ -23,7 +24,7 @@ pub fn run_ready(
     work_values: &mut [i32],
     result_items: &mut [u16],
     result_values: &mut [i32],
-) -> Ran
+) -> Result<Value, Stop>
     requires { Ready format pack.now ends.now defined.now
         × Clear format work_items.old work_values.old × Runnable format }
     ensures runs_any { RunsAny format pack sheet slots slot_items slot_values
@@ -31,16 +32,10 @@ pub fn run_ready(
     ensures kept { Kept work_items work_values }
 {
     if pack_read::sheet_count(pack) <= sheet {
-        return Ran::Stopped {
-            number: 6,
-            index: 0,
-        };
+        return Err(Stop::from(Question::Sheet));
     }
     if !run_memory::all_formed(slots, slot_items, slot_values, defined.len(), ends.len()) {
-        return Ran::Stopped {
-            number: 7,
-            index: 0,
-        };
+        return Err(Stop::from(Question::Memory));
     }
     if !run_memory::long_enough(
         &work_items[..],
@@ -49,10 +44,7 @@ pub fn run_ready(
         &result_values[..],
         format,
     ) {
-        return Ran::Stopped {
-            number: 7,
-            index: 0,
-        };
+        return Err(Stop::from(Question::Memory));
     }
     run_checked::run_checked(
         pack,

@@ -9,12 +9,12 @@ ghost use Rattle.pack.specs.Judge.{Sound};
 ghost use Rattle.pack.specs.Read.{ends_of, defined_of};
 ghost use Rattle.running.specs.Slices.{RunsSeven};
 
+use ink_number::question::Question;
 use ink_value::Value;
-use machine::STACK_LIMIT;
+use machine::{STACK_LIMIT, Stop};
 use pack::format::Format;
-use run_checked::{run_checked, zero_items, zero_values};
+use run_checked::run_checked;
 use run_memory::{all_formed, long_enough};
-use running::Ran;
 
 // Question 7, and then the run, with the definitions at hand.
 pub fn run_sheet(
@@ -30,17 +30,14 @@ pub fn run_sheet(
     work_values: &mut [i32],
     result_items: &mut [u16],
     result_values: &mut [i32],
-) -> Ran
+) -> Result<Value, Stop>
     requires { Sound format pack.now × (sheet < sheet_count pack.now) × (ends.now ≡ ends_of (decoded format pack.now))
         × (defined.now ≡ defined_of (decoded format pack.now)) × Runnable format }
     ensures { RunsSeven format pack sheet slots slot_items slot_values result
         work_items work_values result_items result_values }
 {
     if !all_formed(slots, slot_items, slot_values, defined.len(), ends.len()) {
-        return Ran::Stopped {
-            number: 7,
-            index: 0,
-        };
+        return Err(Stop::from(Question::Memory));
     }
     if !long_enough(
         &work_items[..],
@@ -49,14 +46,11 @@ pub fn run_sheet(
         &result_values[..],
         format,
     ) {
-        return Ran::Stopped {
-            number: 7,
-            index: 0,
-        };
+        return Err(Stop::from(Question::Memory));
     }
     let places = STACK_LIMIT * format.limit;
-    zero_items(work_items, 0, places);
-    zero_values(work_values, 0, places);
+    work_items[..places].fill(0);
+    work_values[..places].fill(0);
     run_checked(
         pack,
         ends,

@@ -31,6 +31,8 @@ use Rattle.pack.specs.Format.{slot_limit}
 use Rattle.pack.specs.declared.format.Format.{Format}
 use Rattle.pack.specs.Instruction.{Instr, op, push, push_bool, push_int, push_float, push_list, push_slot, push_void, width, Allowed, instr_of}
 use Rattle.pack.specs.declared.instruction.Instruction.{Instruction}
+use Rattle.pack.specs.declared.instruction.Instruction.TheVariants as I
+use Rattle.op.specs.declared.Op.{Op}
 use Rattle.pack.specs.Read.{program, sheet_end, literal_of, Standing, Reads}
 use Rattle.pack.proofs.Programs.{last_of}
 use Rattle.stepping.specs.Steps.{Grown, Operands, OperandsFormed, Inputs, IfOp, IfSlot, SlotIs}
@@ -50,6 +52,25 @@ op_told P e h = subst (λ (x : Instruction). IfOp (instr_of x) P) (sym e) h
 pub slot_told : (P : ℕ → Type 0) {i j : Instruction} → i ≡ j → IfSlot (instr_of j) P → IfSlot (instr_of i) P
 slot_told P e h = subst (λ (x : Instruction). IfSlot (instr_of x) P) (sym e) h
 
+-- no operator, and no slot's push
+pub no_op : (P : ℕ → Type 0) (i : Instruction) → ((o : Op) → i ≡ I.Op o → ⊥) → IfOp (instr_of i) P
+no_op P (I.Op o) h = absurd (h o refl)
+no_op P (I.Bool b) h = tt
+no_op P (I.Int z) h = tt
+no_op P (I.Float n) h = tt
+no_op P (I.List l) h = tt
+no_op P (I.Slot s) h = tt
+no_op P I.Void h = tt
+
+pub no_slot : (P : ℕ → Type 0) (i : Instruction) → ((s : ℕ) → i ≡ I.Slot s → ⊥) → IfSlot (instr_of i) P
+no_slot P (I.Op o) h = tt
+no_slot P (I.Bool b) h = tt
+no_slot P (I.Int z) h = tt
+no_slot P (I.Float n) h = tt
+no_slot P (I.List l) h = tt
+no_slot P (I.Slot s) h = absurd (h s refl)
+no_slot P I.Void h = tt
+
 -- what follows for an operator
 if_op : (i : Instr) {P Q : ℕ → Type 0} → ((o : ℕ) → P o → Q o) → IfOp i P → IfOp i Q
 if_op (op o) f h = f o h
@@ -64,10 +85,6 @@ slot_is (push (push_float b)) slots r h e = tt
 slot_is (push (push_list l)) slots r h e = tt
 slot_is (push (push_slot s)) slots r h e = (subst (λ (k : ℕ). k < length slots) e h, ap (λ (k : ℕ). get_or slots k (Is.Bool false)) e)
 slot_is (push push_void) slots r h e = tt
-
-pub allowed_op : (L : ℕ) (i : Instr) → Allowed L i → IfOp i (λ o. o < 32)
-allowed_op L (op o) a = a
-allowed_op L (push p) a = tt
 
 pub allowed_slot : (L : ℕ) (i : Instr) → Allowed L i → IfSlot i (λ s. s < slot_limit)
 allowed_slot L (op o) a = tt

@@ -15,8 +15,6 @@ use Rattle.pack.specs.declared.format.Format.{Format}
 use Rattle.machine.specs.Machine.{End, ended, stopped, run}
 use Rattle.machine.specs.Whole.{started}
 use Rattle.operating.specs.Stacked.{work_limit}
-use Rattle.running.specs.declared.Ran.{Ran}
-use Rattle.running.specs.declared.Ran.TheVariants as Rn
 
 -- 7, of the slices that a run writes: "result slices at least 256 entries, work slices 16,384"
 abbrev pub long_enough : Format → List ℕ → List ℤ → List ℕ → List ℤ → Bool
@@ -28,14 +26,14 @@ unfoldable pub run_memory : Format → List Value → List ℕ → List ℤ → 
 run_memory F slots si sv wi wv ri rv d = all_formed (length (defined_of d)) (length (ends_of d)) si sv slots and long_enough F wi wv ri rv
 
 -- the end that an answer stands for, a List's entries in two slices
-abbrev pub end_of : List ℕ → List ℤ → Ran → End Val
-end_of is vs (Rn.Ended v) = ended (val_of is vs v)
-end_of is vs (Rn.Stopped r k) = stopped r k
+abbrev pub end_in : List ℕ → List ℤ → End Value → End Val
+end_in is vs (ended v) = ended (val_of is vs v)
+end_in is vs (stopped r k) = stopped r k
 
 -- the answer of each end: a List's entries stand from the start of the result slices
-abbrev pub ran_to : End Val → Ran
-ran_to (ended v) = Rn.Ended (placed_val v)
-ran_to (stopped r k) = Rn.Stopped r k
+abbrev pub ran_to : End Val → End Value
+ran_to (ended v) = ended (placed_val v)
+ran_to (stopped r k) = stopped r k
 
 -- the entries that an end writes
 abbrev pub end_entries : End Val → List Entry
@@ -50,8 +48,8 @@ work_after n zero (refuses r) old = old
 
 -- an end is answered, and its entries are written from the start of the two result slices, which are else as they were: with them the
 -- answer stands for the end
-pub record RanTo (e : End Val) (r : Ran) (ri ri' : List ℕ) (rv rv' : List ℤ) : Type 0 where
-  pub end_is : end_of ri' rv' r ≡ e
+pub record RanTo (e : End Val) (r : End Value) (ri ri' : List ℕ) (rv rv' : List ℤ) : Type 0 where
+  pub end_is : end_in ri' rv' r ≡ e
   pub answered : r ≡ ran_to e
   pub items_out : ri' ≡ over (items (end_entries e)) ri
   pub values_out : rv' ≡ over (values (end_entries e)) rv
@@ -79,7 +77,7 @@ abbrev pub end_after : Format → ℕ → List Val → Answer Pack → End Val
 end_after F s slots a = (started a (λ d. run (definitions_of d F) (sheet_of d s) (literal_of d) slots)).end
 
 -- what a run comes to, from that answer: its end, and what it leaves in the result and the work slices
-pub record Runs (F : Format) (a : Answer Pack) (s : ℕ) (slots : List Val) (r : Ran) (wi wi' : List ℕ) (wv wv' : List ℤ)
+pub record Runs (F : Format) (a : Answer Pack) (s : ℕ) (slots : List Val) (r : End Value) (wi wi' : List ℕ) (wv wv' : List ℤ)
     (ri ri' : List ℕ) (rv rv' : List ℤ) : Type 0 where
   pub ran : RanTo (end_after F s slots a) r ri ri' rv rv'
   pub items_left : wi' ≡ work_after (work_limit F) 0 a wi

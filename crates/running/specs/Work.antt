@@ -6,11 +6,10 @@ use Rattle.slices.specs.Filled.{Outside}
 use Rattle.ink_value.specs.Val.{Val}
 use Rattle.ink_value.specs.Value.{Formed}
 use Rattle.pack.specs.declared.format.Format.{Format}
-use Rattle.machine.specs.Machine.{End, stack_limit}
+use Rattle.machine.specs.Machine.{End, stack_limit, ended, stopped}
 use Rattle.operating.specs.Stacked.{start_at}
-use Rattle.running.specs.Run.{end_of}
-use Rattle.running.specs.declared.Ran.{Ran}
-use Rattle.running.specs.declared.Ran.TheVariants as Rn
+use Rattle.running.specs.Run.{end_in}
+use Rattle.ink_value.specs.declared.Value.{Value}
 
 -- ---- the places that are used
 
@@ -29,13 +28,13 @@ pub record Longest (used used' : List ℕ) (place n : ℕ) : Type 0 where
 -- ---- how the work ends
 
 -- a List that is left is well formed
-abbrev pub EndFormed : Format → List ℕ → List ℤ → Ran → Type 0
-EndFormed F wi wv (Rn.Ended v) = Formed F.limit wi wv v
-EndFormed F wi wv (Rn.Stopped r k) = Unit {0}
+abbrev pub EndFormed : Format → List ℕ → List ℤ → End Value → Type 0
+EndFormed F wi wv (ended v) = Formed F.limit wi wv v
+EndFormed F wi wv (stopped r k) = Unit {0}
 
 -- the work comes to the end e, a List's entries in the work slices
-pub record Worked (F : Format) (e : End Val) (r : Ran) (used : List ℕ) (wi wi' : List ℕ) (wv wv' : List ℤ) : Type 0 where
-  pub end_is : end_of wi' wv' r ≡ e
+pub record Worked (F : Format) (e : End Val) (r : End Value) (used : List ℕ) (wi wi' : List ℕ) (wv wv' : List ℤ) : Type 0 where
+  pub end_is : end_in wi' wv' r ≡ e
   pub end_formed : EndFormed F wi' wv' r
   pub items_touched : Touched F 0 used wi wi'
   pub values_touched : Touched F (pos 0) used wv wv'

@@ -14,32 +14,20 @@ ghost use Rattle.operating.specs.Stacked.{Roomy};
 ghost use Rattle.running.specs.Slices.{work_in, WorkedIn};
 ghost use Rattle.running.specs.Work.{Longest};
 
+use ink_number::question::Question;
 use ink_value::Value;
-use machine::STACK_LIMIT;
-use operating::Step;
+use machine::{STACK_LIMIT, Stop};
 use pack::format::Format;
 use pack::instruction::Instruction;
 
-// A run's answer. A List's entries stand in the result slices, from the start (those of `work` in the work slices).
-#[derive(Clone, Copy)]
-pub enum Ran {
-    Ended(Value),
-    Stopped { number: u8, index: usize },
-}
-
 // How many operands an instruction takes: a push takes none.
+#[tactic(auto, using(crate::proofs::Working::op_told, crate::proofs::Working::no_op))]
 fn operand_count(i: Instruction) -> usize
-    requires { IfOp (instr_of i) (λ o. o < 32) }
     ensures { IfOp (instr_of i) (λ o. result ≡ operand_count o) }
 {
     match i {
         Instruction::Op(op) => operator_kinds::operands(op),
-        Instruction::Bool(_) => 0,
-        Instruction::Int(_) => 0,
-        Instruction::Float(_) => 0,
-        Instruction::List(_) => 0,
-        Instruction::Slot(_) => 0,
-        Instruction::Void => 0,
+        _ => 0,
     }
 }
 
@@ -62,22 +50,19 @@ fn operand_place(n: usize, count: usize, k: usize) -> usize
 }
 
 // The slot that an instruction pushes, or 0.
+#[tactic(auto, using(crate::proofs::Working::slot_told, crate::proofs::Working::no_slot))]
 fn slot_place(i: Instruction) -> usize
     requires { IfSlot (instr_of i) (λ s. s < slot_limit) }
     ensures { (result < slot_limit) × IfSlot (instr_of i) (λ s. result ≡ s) }
 {
     match i {
         Instruction::Slot(s) => s as usize,
-        Instruction::Op(_) => 0,
-        Instruction::Bool(_) => 0,
-        Instruction::Int(_) => 0,
-        Instruction::Float(_) => 0,
-        Instruction::List(_) => 0,
-        Instruction::Void => 0,
+        _ => 0,
     }
 }
 
 // Keeps the greatest length at a place.
+#[tactic(auto, using(crate::proofs::Working::longest_set, crate::proofs::Working::longest_same))]
 fn keep_longest(used: &mut [usize], place: usize, len: usize)
     requires { place < length used.old }
     ensures { Longest used.old used.new place len }
@@ -88,6 +73,7 @@ fn keep_longest(used: &mut [usize], place: usize, len: usize)
 }
 
 // Works a sheet's instructions in order. A List that is left stands in the work slices.
+// Where the next instruction stands is known once this one is read, and the stack grows with it: the loop counts by hand.
 pub fn work(
     pack: &[u8],
     ends: &[u16],
@@ -100,7 +86,7 @@ pub fn work(
     used: &mut [usize],
     work_items: &mut [u16],
     work_values: &mut [i32],
-) -> Ran
+) -> Result<Value, Stop>
     requires inputs { Inputs format pack.now ends.now defined.now slots slot_items.now slot_values.now }
     requires sheet_bound { (sheet < sheet_count pack.now) × (used.old ≡ replicate stack_limit 0) }
     requires roomy { Roomy format work_items.old work_values.old }
@@ -143,25 +129,22 @@ pub fn work(
             work_values,
         );
         match step {
-            Step::Put { place, value } => {
-                keep_longest(used, place, ink_value::len_of(value));
-                stack[place] = value;
-                n = place + 1;
+            Ok(top) => {
+                keep_longest(used, top.place, top.value.len_of());
+                stack[top.place] = top.value;
+                n = top.place + 1;
                 at += width;
                 i += 1;
             }
-            Step::No(number) => {
-                return Ran::Stopped { number, index: i };
-            }
+            Err(question) => return Err(Stop { question, index: i }),
         }
     }
     if n == 1 {
-        let last = stack[0];
-        Ran::Ended(last)
+        Ok(stack[0])
     } else {
-        Ran::Stopped {
-            number: 17,
+        Err(Stop {
+            question: Question::Left,
             index: i,
-        }
+        })
     }
 }

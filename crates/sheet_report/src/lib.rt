@@ -6,43 +6,31 @@
 ghost use Rattle.pack.specs.Judge.{Framed};
 
 use ink_value::Value;
-use machine::STACK_LIMIT;
+use machine::{STACK_LIMIT, Stop};
 use output_buffer::Output;
 use pack_check::format::FORMAT1;
-use printing::{natural, refused, value};
-use running::Ran;
+use printing::{Refused, Shown};
+use std::fmt;
+use std::fmt::Write;
 
 // The most entries of a list, and the places of the work slices, in format 1.
 const ITEM_LIMIT: usize = FORMAT1.limit;
 
 const WORK_LIMIT: usize = STACK_LIMIT * ITEM_LIMIT;
 
-fn stopped(o: Output, out: &mut [u8], number: u8, index: usize) -> Output {
-    natural(refused(o, out, number).text(out, b" "), out, index as u64)
-}
-
-fn answer(o: Output, out: &mut [u8], r: Ran, items: &[u16], values: &[i32]) -> Output {
-    match r {
-        Ran::Ended(v) => value(o, out, v, items, values),
-        Ran::Stopped { number, index } => stopped(o, out, number, index),
-    }
-}
-
-// The line of one sheet, run on these slots, whose lists' entries stand in the two slices.
-pub fn sheet_line(
-    o: Output,
-    out: &mut [u8],
+// What the run of a sheet answers, in work slices of its own.
+fn run(
     pack: &[u8],
     sheet: usize,
     slots: [Value; 16],
     slot_items: &[u16],
     slot_values: &[i32],
-) -> Output {
+    items: &mut [u16],
+    values: &mut [i32],
+) -> Result<Value, Stop> {
     let mut work_items = [0u16; WORK_LIMIT];
     let mut work_values = [0i32; WORK_LIMIT];
-    let mut items = [0u16; ITEM_LIMIT];
-    let mut values = [0i32; ITEM_LIMIT];
-    let r = run_bytes::run(
+    run_bytes::run(
         pack,
         sheet,
         slots,
@@ -50,55 +38,70 @@ pub fn sheet_line(
         slot_values,
         &mut work_items,
         &mut work_values,
-        &mut items,
-        &mut values,
-    );
-    answer(natural(o, out, sheet as u64), out, r, &items, &values).text(out, b"\n")
-}
-
-// The same with all slots Void.
-fn void_line(o: Output, out: &mut [u8], pack: &[u8], sheet: usize) -> Output {
-    let no_items = [0u16; 1];
-    let no_values = [0i32; 1];
-    sheet_line(
-        o,
-        out,
-        pack,
-        sheet,
-        [Value::Void; 16],
-        &no_items,
-        &no_values,
+        items,
+        values,
     )
 }
 
-// How many sheets there are.
-fn heading(o: Output, out: &mut [u8], n: usize) -> Output {
-    natural(o.text(out, b"sheets "), out, n as u64).text(out, b"\n")
+// The line of one sheet, run on these slots, whose lists' entries stand in the two slices.
+pub fn sheet_line(
+    out: &mut Output<'_>,
+    pack: &[u8],
+    sheet: usize,
+    slots: [Value; 16],
+    slot_items: &[u16],
+    slot_values: &[i32],
+) -> fmt::Result {
+    let mut items = [0u16; ITEM_LIMIT];
+    let mut values = [0i32; ITEM_LIMIT];
+    match run(
+        pack,
+        sheet,
+        slots,
+        slot_items,
+        slot_values,
+        &mut items,
+        &mut values,
+    ) {
+        Ok(value) => {
+            let shown = Shown {
+                value,
+                items: &items,
+                values: &values,
+            };
+            writeln!(out, "{sheet}{shown}")
+        }
+        Err(stop) => {
+            let refused = Refused(stop.question);
+            let index = stop.index;
+            writeln!(out, "{sheet}{refused} {index}")
+        }
+    }
 }
 
-fn sheet_lines(o: Output, out: &mut [u8], pack: &[u8]) -> Output
+// The same with all slots Void.
+fn void_line(out: &mut Output<'_>, pack: &[u8], sheet: usize) -> fmt::Result {
+    sheet_line(out, pack, sheet, [Value::Void; 16], &[0u16; 1], &[0i32; 1])
+}
+
+fn sheet_lines(out: &mut Output<'_>, pack: &[u8]) -> fmt::Result
     requires { Framed pack.now }
 {
-    let n = pack_read::sheet_count(pack);
-    let mut told = heading(o, out, n);
-    let mut s = 0;
-    while s < n {
-        if told.failed {
-            return told;
-        }
-        told = void_line(told, out, pack, s);
-        s += 1;
+    let count = pack_read::sheet_count(pack);
+    writeln!(out, "sheets {count}")?;
+    // a sheet is run by its number, which its line has too
+    for sheet in 0..count {
+        void_line(out, pack, sheet)?;
     }
-    told
+    Ok(())
 }
 
-fn turned_back(o: Output, out: &mut [u8], number: u8) -> Output {
-    refused(o.text(out, b"pack"), out, number).text(out, b"\n")
-}
-
-pub fn report(o: Output, out: &mut [u8], pack: &[u8]) -> Output {
+pub fn report(out: &mut Output<'_>, pack: &[u8]) -> fmt::Result {
     match pack_check::check(pack) {
-        Ok(()) => sheet_lines(o, out, pack),
-        Err(question) => turned_back(o, out, question.number()),
+        Ok(()) => sheet_lines(out, pack),
+        Err(question) => {
+            let refused = Refused(question);
+            writeln!(out, "pack{refused}")
+        }
     }
 }

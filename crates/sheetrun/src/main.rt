@@ -3,17 +3,22 @@
 #![tactic(auto)]
 
 use output_buffer::Output;
+use std::fmt;
 
 const STDERR: i32 = 2;
 
+fn report(pack: &[u8]) -> fmt::Result {
+    let mut buffer = io::large_buffer();
+    let mut out = Output::new(&mut buffer);
+    sheet_report::report(&mut out, pack)?;
+    out.flush()
+}
+
 fn main() {
     // one byte more than the longest pack
-    let mut buf = io::large_buffer();
-    let n = io::read_full(0, &mut buf);
-    let mut out = io::large_buffer();
-    let o = sheet_report::report(Output::new(), &mut out, &buf[..n]);
-    let ended = o.flush(&out);
-    if ended.failed {
+    let mut input = io::large_buffer();
+    let n = io::read_full(0, &mut input);
+    if report(&input[..n]).is_err() {
         io::write_all(STDERR, b"sheetrun: the standard output cannot be written\n");
     }
 }

@@ -13,7 +13,7 @@ use Rattle.pack.specs.Read.{EntriesRead}
 use Rattle.machine.specs.Machine.{stack_limit}
 use Rattle.stepping.specs.Steps.{pushed}
 use Rattle.operating.specs.Stacked.{Put, start_at, Answered}
-use Rattle.operating.specs.declared.Step.TheVariants as St
+use Rattle.ink_number.specs.Answer.{gives, refuses}
 
 -- a literal, read into its place
 pub put_literal : {F : Format} (o to count : ℕ) (es : List Entry) (r : Value) (oi oi' : List ℕ) (ov ov' : List ℤ) → EntriesRead es to count oi oi' ov ov'
@@ -23,8 +23,8 @@ put_literal o to count es r oi oi' ov ov' w up q =
 
 -- question 9
 module _ {F : Format} (n : ℕ) (x : Val) (wi wi' : List ℕ) (wv wv' : List ℤ) where
-  pub push_put : (v : Value) → n < stack_limit → Put F x (start_at F n) v wi wi' wv wv' → Answered F (pushed n x) n (St.Put n v) wi wi' wv wv'
+  pub push_put : (v : Value) → n < stack_limit → Put F x (start_at F n) v wi wi' wv wv' → Answered F (pushed n x) n (gives (record { place = n; value = v })) wi wi' wv wv'
   push_put v h w = record { by = record { value = x; given = rw (lt-ltb n stack_limit h); at_place = refl; depth = h; put = w } }
 
-  pub push_no : stack_limit ≤ n → Answered F (pushed n x) n (St.No 9) wi wi wv wv
+  pub push_no : stack_limit ≤ n → Answered F (pushed n x) n (refuses 9) wi wi wv wv
   push_no h = record { by = record { refused = rw (le-ltb n stack_limit h); items_same = refl; values_same = refl } }

@@ -7,7 +7,7 @@ use native.Mathlib.Omega.{arith}
 use lib.Dec.{ltb}
 use lib.IntN.{ℤ}
 use lib.ListN.{length, get_or, get_or-map}
-use Rattle.ink_number.specs.Answer.{Answer, gives, ask}
+use Rattle.ink_number.specs.Answer.{Answer, gives, ask, refuses}
 use Rattle.ink_value.specs.Val.{Val, void}
 use Rattle.ink_value.specs.Value.{val_of, first_of}
 use Rattle.ink_value.specs.declared.Value.{Value}
@@ -27,27 +27,26 @@ use Rattle.machine.specs.Stack.{stack_of}
 use Rattle.machine.proofs.Stack.{op_unknown, op_few, op_one, op_two, op_three, stack_length, get_d_any}
 use Rattle.stepping.specs.Steps.{StepCase, Steps, Operands, pushed, Inputs}
 use Rattle.operating.specs.Stacked.{AnswerCase, Answered, start_at, Put}
-use Rattle.operating.specs.declared.Step.{Step}
-use Rattle.operating.specs.declared.Step.TheVariants as St
 use Rattle.operating.proofs.Operating.{call_applies}
+use Rattle.machine.specs.declared.Top.{Top}
 
 -- ---- the stack
 
 -- an answer on the stack below
-pub steps_of : {F : Format} (n place : ℕ) (a : Answer Val) (b : Answer (List Val)) (f : ℕ → Val) (r : Step) (wi wi' : List ℕ) (wv wv' : List ℤ)
+pub steps_of : {F : Format} (n place : ℕ) (a : Answer Val) (b : Answer (List Val)) (f : ℕ → Val) (r : Answer (Top Value)) (wi wi' : List ℕ) (wv wv' : List ℤ)
     → topped (stack_of f place) a ≡ b → place ≤ n → Answered F a place r wi wi' wv wv' → Steps F n b f r wi wi' wv wv'
 steps_of {F} n place a b f r wi wi' wv wv' e h w = record { by = go r w.by }
   where
-    go : (r : Step) → AnswerCase F a place r wi wi' wv wv' → StepCase F n b f r wi wi' wv wv'
-    go (St.Put p v) x =
+    go : (r : Answer (Top Value)) → AnswerCase F a place r wi wi' wv wv' → StepCase F n b f r wi wi' wv wv'
+    go (gives t) x =
         record {
           value = x.value;
           given = sym e ∙ ap (topped (stack_of f place)) x.given ∙ ap (λ (k : ℕ). gives (x.value ∷ stack_of f k)) (sym x.at_place);
           within = omega (arith, x.at_place);
           depth = omega (arith, x.at_place, x.depth);
-          put = subst (λ (k : ℕ). Put F x.value (start_at F k) v wi wi' wv wv') (sym x.at_place) x.put;
+          put = subst (λ (k : ℕ). Put F x.value (start_at F k) t.value wi wi' wv wv') (sym x.at_place) x.put;
         }
-    go (St.No q) x = record { refused = sym e ∙ ap (topped (stack_of f place)) x.refused; items_same = x.items_same; values_same = x.values_same }
+    go (refuses q) x = record { refused = sym e ∙ ap (topped (stack_of f place)) x.refused; items_same = x.items_same; values_same = x.values_same }
 
 -- a push
 pub push_topped : (n : ℕ) (x : Val) (f : ℕ → Val) → topped (stack_of f n) (pushed n x) ≡ step_push x (stack_of f n)
@@ -84,15 +83,15 @@ module _ (wi : List ℕ) (wv : List ℤ) (a b c : Value) (f : ℕ → Val) (u : 
 -- ---- no operator, and too few operands
 
 module _ {F : Format} (u : ListDefinitions) (o n : ℕ) (f : ℕ → Val) (wi : List ℕ) (wv : List ℤ) where
-  pub no_operator : operand_count o ≡ 0 → Steps F n (step_op (apply_op u) o (stack_of f n)) f (St.No 8) wi wi wv wv
+  pub no_operator : operand_count o ≡ 0 → Steps F n (step_op (apply_op u) o (stack_of f n)) f (refuses 8) wi wi wv wv
   no_operator e = record { by = record { refused = op_unknown (apply_op u) f o n e; items_same = refl; values_same = refl } }
 
-  pub no_operands : (m : ℕ) → 1 ≤ m → operand_count o ≡ m → n < m → Steps F n (step_op (apply_op u) o (stack_of f n)) f (St.No 10) wi wi wv wv
+  pub no_operands : (m : ℕ) → 1 ≤ m → operand_count o ≡ m → n < m → Steps F n (step_op (apply_op u) o (stack_of f n)) f (refuses 10) wi wi wv wv
   no_operands m h e l = record { by = record { refused = op_few (apply_op u) f o n m h e l; items_same = refl; values_same = refl } }
 
 -- ---- an instruction
 
-module _ {F : Format} (value : Push → Val) (apply : ℕ → List Val → Answer Val) (n : ℕ) (f : ℕ → Val) (r : Step) (wi wi' : List ℕ) (wv wv' : List ℤ) (i : Instr) where
+module _ {F : Format} (value : Push → Val) (apply : ℕ → List Val → Answer Val) (n : ℕ) (f : ℕ → Val) (r : Answer (Top Value)) (wi wi' : List ℕ) (wv wv' : List ℤ) (i : Instr) where
   pub push_steps : (p : Push) → i ≡ push p → (x : Val) → x ≡ value p → Answered F (pushed n x) n r wi wi' wv wv'
       → Steps F n (step value apply i (stack_of f n)) f r wi wi' wv wv'
   unfolding step

@@ -1,7 +1,7 @@
 -- The words of the contracts of one instruction, of lent slices. In an `ensures` a slice is what it was at entry and what it is at exit.
 -- Assumes nothing.
 -- For inner steps alone: no entry point's contract cites it.
-use Rattle.std.specs.Prelude.{List, ℕ, ℤ}
+use Rattle.std.specs.Prelude.{List, ℕ, ℤ, Result}
 use Rattle.ink_number.specs.Answer.{Answer}
 use Rattle.slices.specs.Slices.{Slice, MutSlice}
 use Rattle.ink_value.specs.Val.{Val, list}
@@ -13,16 +13,18 @@ use Rattle.pack.specs.Read.{literal_of}
 use Rattle.pack.specs.declared.format.Format.{Format}
 use Rattle.machine.specs.Machine.{step, value_pushed}
 use Rattle.stepping.specs.Steps.{Steps, Operands}
-use Rattle.operating.specs.declared.Step.{Step}
 use Rattle.list_operators.specs.Lists.{definitions_in}
+use Rattle.machine.specs.declared.Top.{Top}
+use Rattle.ink_number.specs.Question.{answer}
+use Rattle.ink_number.specs.declared.question.Question.{Question}
 
 -- an operator's operands are the topmost of a stack of n whose values, from below, are those of f
 abbrev pub OperandsIn : MutSlice ℕ → MutSlice ℤ → Value → Value → Value → ℕ → ℕ → (ℕ → Val) → Type 0
 OperandsIn wi wv a b c n count f = Operands wi.entry.now wv.entry.now a b c n count f
 
 -- the stack that a step gives: its top is put in its place, its entries in the work slices; or a no, and nothing is written
-abbrev pub StepsIn : Format → ℕ → Answer (List Val) → (ℕ → Val) → Step → MutSlice ℕ → MutSlice ℤ → Type 0
-StepsIn F n a f r wi wv = Steps F n a f r wi.entry.now wi.exit.now wv.entry.now wv.exit.now
+abbrev pub StepsIn : Format → ℕ → Answer (List Val) → (ℕ → Val) → Result (Top Value) Question → MutSlice ℕ → MutSlice ℤ → Type 0
+StepsIn F n a f r wi wv = Steps F n a f (answer r) wi.entry.now wi.exit.now wv.entry.now wv.exit.now
 
 -- a literal of the pack
 abbrev pub literal_in : Format → Slice ℕ → ℕ → Val

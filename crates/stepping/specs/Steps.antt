@@ -1,7 +1,7 @@
 -- The words of the contracts: what a run goes by, and one step on a stack that is held in an array. Assumes nothing.
 -- For inner steps: no entry point's contract cites it, but for `Inputs`, which `run_checked` asks.
 use Rattle.std.specs.Prelude.{◌≡◌, false, List, ◌∷◌, ℕ, ◌+◌, ◌-◌, ◌≤◌, ◌<◌, ltb, ℤ, length, get_or}
-use Rattle.ink_number.specs.Answer.{Answer, gives, ask}
+use Rattle.ink_number.specs.Answer.{Answer, gives, ask, refuses}
 use Rattle.ink_value.specs.Val.{Val}
 use Rattle.ink_value.specs.Value.{val_of, Formed, FirstFormed}
 use Rattle.ink_value.specs.declared.Value.{Value}
@@ -14,8 +14,7 @@ use Rattle.pack.specs.declared.format.Format.{Format}
 use Rattle.machine.specs.Machine.{stack_limit}
 use Rattle.machine.specs.Stack.{stack_of}
 use Rattle.operating.specs.Stacked.{start_at, Put, Refuses}
-use Rattle.operating.specs.declared.Step.{Step}
-use Rattle.operating.specs.declared.Step.TheVariants as St
+use Rattle.machine.specs.declared.Top.{Top}
 
 -- what a run goes by: a pack that passed, its definitions' tables, and slots whose lists stand well formed in their slices
 pub record Inputs (F : Format) (p ends : List ℕ) (defined : List ℤ) (slots : List Value) (si : List ℕ) (sv : List ℤ) : Type 0 where
@@ -39,12 +38,12 @@ pub record Grown (F : Format) (n : ℕ) (a : Answer (List Val)) (f : ℕ → Val
   pub depth : p < stack_limit
   pub put : Put F value (start_at F p) v wi wi' wv wv'
 
-abbrev pub StepCase : Format → ℕ → Answer (List Val) → (ℕ → Val) → Step → List ℕ → List ℕ → List ℤ → List ℤ → Type 0
-StepCase F n a f (St.Put p v) wi wi' wv wv' = Grown F n a f p v wi wi' wv wv'
-StepCase F n a f (St.No q) wi wi' wv wv' = Refuses a q wi wi' wv wv'
+abbrev pub StepCase : Format → ℕ → Answer (List Val) → (ℕ → Val) → Answer (Top Value) → List ℕ → List ℕ → List ℤ → List ℤ → Type 0
+StepCase F n a f (gives t) wi wi' wv wv' = Grown F n a f t.place t.value wi wi' wv wv'
+StepCase F n a f (refuses q) wi wi' wv wv' = Refuses a q wi wi' wv wv'
 
 -- the stack that an instruction gives: a value is put on top of what is left of it, or it is a no
-pub record Steps (F : Format) (n : ℕ) (a : Answer (List Val)) (f : ℕ → Val) (r : Step) (wi wi' : List ℕ) (wv wv' : List ℤ) : Type 0 where
+pub record Steps (F : Format) (n : ℕ) (a : Answer (List Val)) (f : ℕ → Val) (r : Answer (Top Value)) (wi wi' : List ℕ) (wv wv' : List ℤ) : Type 0 where
   pub by : StepCase F n a f r wi wi' wv wv'
 
 -- ---- an operator
@@ -59,7 +58,7 @@ pub record Operands (wi : List ℕ) (wv : List ℤ) (a b c : Value) (n count : �
 abbrev pub OperandsFormed : Format → List ℕ → List ℤ → Value → Value → Value → ℕ → ℕ → Type 0
 OperandsFormed F wi wv a b c n count = count ≤ n → FirstFormed F.limit wi wv count a b c
 
--- of an operator alone, by its code
+-- of an operator alone, by its number
 abbrev pub IfOp : Instr → (ℕ → Type 0) → Type 0
 IfOp (op o) P = P o
 IfOp (push p) P = Unit {0}

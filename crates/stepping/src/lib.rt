@@ -4,7 +4,10 @@
 ghost use Rattle.std.specs.Prelude.{◌≡◌, List, [], map, ℕ, ◌<◌, ◌≤◌, ℤ};
 ghost use Rattle.ink_value.specs.Val.{Val};
 ghost use Rattle.ink_value.specs.Slices.{val_in};
-ghost use Rattle.ink_value.specs.Value.{val_of, code_of_value, Formed};
+ghost use Rattle.ink_number.specs.Question.{answer};
+ghost use Rattle.op.specs.Op.{op_number};
+ghost use Rattle.ink_value.specs.declared.Kind.TheVariants as K;
+ghost use Rattle.ink_value.specs.Value.{val_of, kind_in, Formed};
 ghost use Rattle.operator_kinds.specs.Kinds.{operand_count};
 ghost use Rattle.native_function_call.specs.Apply.{apply_op};
 ghost use Rattle.list_operators.specs.Lists.{definitions_in};
@@ -19,22 +22,24 @@ ghost use Rattle.operating.specs.Stacked.{Bare, Roomy};
 ghost use Rattle.stepping.specs.Slices.{OperandsIn, StepsIn, literal_in, step_in};
 ghost use Rattle.operating.specs.Slices.{AnsweredIn};
 
+use ink_number::question::Question;
 use ink_value::Value;
-use machine::STACK_LIMIT;
-use operating::{Step, operate, store};
+use machine::{STACK_LIMIT, Top};
+use op::Op;
+use operating::{operate, store};
 use pack::format::Format;
 use pack::instruction::Instruction;
 
 // A push of a value that is no list, on a stack of n: question 9.
 #[tactic(auto, using(crate::proofs::Pushing::push_put, crate::proofs::Pushing::push_no, operating::proofs::Putting::put_plain))]
-fn push_value(value: Value, n: usize) -> Step
-    requires { code_of_value value ≡ 3 → ⊥ }
-    ensures { (is : List ℕ) (vs : List ℤ) → Bare (pushed n (val_of is vs value)) n result }
+fn push_value(value: Value, n: usize) -> Result<Top<Value>, Question>
+    requires { kind_in value ≡ K.List → ⊥ }
+    ensures { (is : List ℕ) (vs : List ℤ) → Bare (pushed n (val_of is vs value)) n (answer result) }
 {
     if n < STACK_LIMIT {
-        Step::Put { place: n, value }
+        Ok(Top { place: n, value })
     } else {
-        Step::No(9)
+        Err(Question::Stack)
     }
 }
 
@@ -47,17 +52,17 @@ fn push_slot(
     format: Format,
     work_items: &mut [u16],
     work_values: &mut [i32],
-) -> Step
+) -> Result<Top<Value>, Question>
     requires formed { Formed format.limit slot_items.now slot_values.now v }
     requires roomy { Roomy format work_items.old work_values.old }
     ensures { AnsweredIn format (pushed n (val_in slot_items slot_values v)) n result work_items work_values }
 {
     if STACK_LIMIT <= n {
-        return Step::No(9);
+        return Err(Question::Stack);
     }
     let to = n * format.limit;
     let value = store(v, slot_items, slot_values, work_items, work_values, to);
-    Step::Put { place: n, value }
+    Ok(Top { place: n, value })
 }
 
 // A push of a literal.
@@ -68,14 +73,14 @@ fn push_literal(
     format: Format,
     work_items: &mut [u16],
     work_values: &mut [i32],
-) -> Step
+) -> Result<Top<Value>, Question>
     requires sound { Sound format pack.now }
     requires l_bound { l < literal_count pack.now }
     requires roomy { Roomy format work_items.old work_values.old }
     ensures { AnsweredIn format (pushed n (literal_in format pack l)) n result work_items work_values }
 {
     if STACK_LIMIT <= n {
-        return Step::No(9);
+        return Err(Question::Stack);
     }
     let to = n * format.limit;
     let origins = pack_literals::literal_origins(pack, l, format);
@@ -85,12 +90,12 @@ fn push_literal(
         start: to,
         len,
     };
-    Step::Put { place: n, value }
+    Ok(Top { place: n, value })
 }
 
 // An operator on a stack of n: a, b and c are its operands in order, as many as it takes.
 fn run_op(
-    op: u8,
+    op: Op,
     n: usize,
     a: Value,
     b: Value,
@@ -100,20 +105,20 @@ fn run_op(
     format: Format,
     work_items: &mut [u16],
     work_values: &mut [i32],
-) -> Step
-    requires op_bound { (op < 32) × (n ≤ stack_limit) × PackLists format.limit ends.now defined.now }
+) -> Result<Top<Value>, Question>
+    requires op_bound { (n ≤ stack_limit) × PackLists format.limit ends.now defined.now }
     requires roomy { Roomy format work_items.old work_values.old
-        × OperandsFormed format work_items.old work_values.old a b c n (operand_count op) }
-    ensures { (f : ℕ → Val) → OperandsIn work_items work_values a b c n (operand_count op) f
-        → StepsIn format n (step_op (apply_op (definitions_in ends defined format.limit)) op (stack_of f n)) f result
+        × OperandsFormed format work_items.old work_values.old a b c n (operand_count (op_number op)) }
+    ensures { (f : ℕ → Val) → OperandsIn work_items work_values a b c n (operand_count (op_number op)) f
+        → StepsIn format n (step_op (apply_op (definitions_in ends defined format.limit)) (op_number op) (stack_of f n)) f result
         work_items work_values }
 {
     let count = operator_kinds::operands(op);
     if count == 0 {
-        return Step::No(8);
+        return Err(Question::Operator);
     }
     if n < count {
-        return Step::No(10);
+        return Err(Question::Operands);
     }
     operate(
         op,
@@ -146,7 +151,7 @@ pub fn run_step(
     format: Format,
     work_items: &mut [u16],
     work_values: &mut [i32],
-) -> Step
+) -> Result<Top<Value>, Question>
     requires inputs { Inputs format pack.now ends.now defined.now [] slot_items.now slot_values.now
         × Formed format.limit slot_items.now slot_values.now slot }
     requires allowed { Allowed (literal_count pack.now) (instr_of i) × (n ≤ stack_limit) }

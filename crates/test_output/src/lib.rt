@@ -1,38 +1,35 @@
-// Text of the test programs: each piece is written to the standard output at once.
+// Text of the test programs, each piece written to the standard output at once. Whether it could be written is not asked: their output is
+// compared.
 #![tactic(auto)]
+
+use output_buffer::Output;
+use std::fmt;
+use std::fmt::Write;
 
 const STDOUT: i32 = 1;
 
-pub fn text(s: &[u8]) {
-    io::write_all(STDOUT, s);
+fn written<D: fmt::Display + Drop>(text: D) -> fmt::Result {
+    let mut buffer = [0u8; 128];
+    let mut out = Output::new(&mut buffer);
+    out.write(text)?;
+    out.flush()
 }
 
-pub fn natural(n: u64) {
-    io::print_decimal(STDOUT, n);
+pub fn print<D: fmt::Display + Drop>(text: D) {
+    let _told = written(text);
 }
 
-// The eight hexadecimal digits of a pattern.
-pub fn pattern(n: u32) {
-    io::print_hex(STDOUT, u64::from(n), 8);
-}
-
-pub fn decimal(v: i32) {
-    if v < 0 {
-        text(b"-");
-    }
-    natural(u64::from(v.unsigned_abs()));
+// Text, and the end of a line.
+pub fn println<D: fmt::Display + Drop>(text: D) {
+    print(format_args!("{text}\n"));
 }
 
 // An entry after a space.
 pub fn entry(item: u16, value: i32) {
-    text(b" ");
-    natural(u64::from(item));
-    text(b"=");
-    decimal(value);
+    print(format_args!(" {item}={value}"));
 }
 
-// A line of text.
-pub fn line(s: &[u8]) {
-    text(s);
-    text(b"\n");
+// A name of a case, whatever its bytes are.
+pub fn bytes(s: &[u8]) {
+    io::write_all(STDOUT, s);
 }

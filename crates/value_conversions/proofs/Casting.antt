@@ -1,22 +1,19 @@
 -- Question 18. Assumes nothing.
-use mathlib.Core.Path.{◌≡◌}
-use mathlib.Core.Bool.{Bool, true, false, cond}
-use Prim.Native.Nat.{ℕ}
-use native.Mathlib.Omega.{arith}
-use lib.Dec.{eqb}
-use borrow.Author.Tests.{eqb-true, ne_eqb}
-use Rattle.ink_value.specs.Val.{Val}
-use Rattle.value_conversions.specs.Convert.{castable, converted}
+use Rattle.std.proofs.Common.{◌≡◌, refl, true}
+use Rattle.ink_value.specs.declared.Kind.{Kind}
+use Rattle.ink_value.specs.declared.Kind.TheVariants as K
+use Rattle.value_conversions.specs.Convert.{castable}
 
--- where nothing else is left, a List is cast to itself
-pub cast_list : (to from : ℕ) → (to ≡ 0 → ⊥) → (to ≡ 1 → ⊥) → (to ≡ 2 → ⊥) → castable to from ≡ true → from ≡ 3
+-- to a List only a List is cast
+pub cast_list : (from : Kind) → castable K.List from ≡ true → from ≡ K.List
 unfolding castable
-cast_list to from n0 n1 n2 h = go (eqb to 3) (rw (ne_eqb to 0 n0, ne_eqb to 1 n1, ne_eqb to 2 n2) at h)
-  where
-    go : (t : Bool) → cond t (eqb from 3) false ≡ true → from ≡ 3
-    go true q = eqb-true from 3 q
-    go false q = let z : ◌≡◌ {A = ℕ} 0 1 = cc in absurd (omega arith)
+cast_list K.Bool e = absurd cc
+cast_list K.Int e = absurd cc
+cast_list K.Float e = absurd cc
+cast_list K.List e = refl
+cast_list K.Void e = absurd cc
 
-pub same_kind : (to : ℕ) (v : Val) → (to ≡ 0 → ⊥) → (to ≡ 1 → ⊥) → (to ≡ 2 → ⊥) → converted to v ≡ v
-unfolding converted
-same_kind to v n0 n1 n2 = rw (ne_eqb to 0 n0, ne_eqb to 1 n1, ne_eqb to 2 n2)
+-- to Void nothing is
+pub cast_void : (from : Kind) → castable K.Void from ≡ true → ⊥
+unfolding castable
+cast_void from e = cc

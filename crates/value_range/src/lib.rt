@@ -10,11 +10,11 @@ ghost use Rattle.ink_value.specs.Slices.{val_in};
 ghost use Rattle.ink_value.specs.Value.{val_of, start_of, len_of, Formed};
 ghost use Rattle.value_range.specs.Bounds.{lower_of, upper_of};
 
-use ink_list::entries::Entries;
 use ink_list::entries_mut::EntriesMut;
 use ink_value::Value;
 
 // The least of the values that stand from `start` on, or 0.
+#[tactic(auto, using(slices::proofs::Filled::cut))]
 fn least(values: &[i32], start: usize, len: usize) -> i32
     requires { start + len ≤ length values.now }
     ensures { result ≡ lower_bound (part start len values.now) }
@@ -24,6 +24,7 @@ fn least(values: &[i32], start: usize, len: usize) -> i32
 }
 
 // The greatest of the values that stand from `start` on, or 2147483647.
+#[tactic(auto, using(slices::proofs::Filled::cut))]
 fn highest(values: &[i32], start: usize, len: usize) -> i32
     requires { start + len ≤ length values.now }
     ensures { result ≡ upper_bound (part start len values.now) }
@@ -37,37 +38,27 @@ const LOWER_BOUND: i32 = 0;
 
 const UPPER_BOUND: i32 = 2147483647;
 
+#[tactic(auto, using(ink_value::proofs::Reading::values_at))]
 pub fn lower_bound(v: Value, values: &[i32]) -> i32
     requires { start_of v + len_of v ≤ length values.now }
     ensures { (is : List ℕ) → start_of v + len_of v ≤ length is → result ≡ lower_of (val_of is values.now v) }
 {
     match v {
         Value::Int(z) => z,
-        Value::List {
-            origins: _,
-            start,
-            len,
-        } => least(values, start, len),
-        Value::Bool(_) => LOWER_BOUND,
-        Value::Float(_) => LOWER_BOUND,
-        Value::Void => LOWER_BOUND,
+        Value::List { start, len, .. } => least(values, start, len),
+        Value::Bool(_) | Value::Float(_) | Value::Void => LOWER_BOUND,
     }
 }
 
+#[tactic(auto, using(ink_value::proofs::Reading::values_at))]
 pub fn upper_bound(v: Value, values: &[i32]) -> i32
     requires { start_of v + len_of v ≤ length values.now }
     ensures { (is : List ℕ) → start_of v + len_of v ≤ length is → result ≡ upper_of (val_of is values.now v) }
 {
     match v {
         Value::Int(z) => z,
-        Value::List {
-            origins: _,
-            start,
-            len,
-        } => highest(values, start, len),
-        Value::Bool(_) => UPPER_BOUND,
-        Value::Float(_) => UPPER_BOUND,
-        Value::Void => UPPER_BOUND,
+        Value::List { start, len, .. } => highest(values, start, len),
+        Value::Bool(_) | Value::Float(_) | Value::Void => UPPER_BOUND,
     }
 }
 
@@ -87,14 +78,7 @@ pub fn range(
         → Fills (range limit (lower_of (val_in items values b)) (upper_of (val_in items values c)) (entries_of (val_in items values a)))
         result out.old out.new }
 {
-    let i = ink_value::start_of(a);
-    let m = ink_value::len_of(a);
     let lower = lower_bound(b, values);
     let upper = upper_bound(c, values);
-    let e = i + m;
-    let list = Entries {
-        items: &items[i..e],
-        values: &values[i..e],
-    };
-    list_range::range(list, lower, upper, out)
+    list_range::range(a.entries_of(items, values), lower, upper, out)
 }

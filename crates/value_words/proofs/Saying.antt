@@ -7,24 +7,23 @@ use Rattle.ink_number.specs.Answer.{Answer, refuses}
 use Rattle.ink_value.specs.Val.{Val}
 use Rattle.ink_value.specs.Value.{placed, Gave}
 use Rattle.ink_value.specs.declared.Value.{Value}
-use Rattle.ink_value.specs.declared.Outcome.{Outcome}
 use Rattle.list_definitions.specs.Defs.{ListDefinitions}
 use Rattle.pack.specs.declared.format.Format.{Format}
 use Rattle.calls.specs.Call.{on_pack}
 use Rattle.value_words.specs.Calls.{outcome_number, outcome_words, index_words, Says, Calls}
 
 -- what was written of an outcome
-abbrev pub Put : Outcome → ℕ → List ℕ → Type 0
+abbrev pub Put : Answer Value → ℕ → List ℕ → Type 0
 Put o n ws = (n ≡ outcome_number o) × (ws ≡ outcome_words o)
 
-pub says : (a b : Answer Val) (o : Outcome) (n : ℕ) (ws : List ℕ) → a ≡ b → o ≡ placed a → Put o n ws → Says b n ws
+pub says : (a b : Answer Val) (o : Answer Value) (n : ℕ) (ws : List ℕ) → a ≡ b → o ≡ placed a → Put o n ws → Says b n ws
 says a b o n ws q e h =
     record {
       number = h.0 ∙ ap outcome_number (e ∙ ap placed q);
       words = h.1 ∙ ap outcome_words (e ∙ ap placed q);
     }
 
-pub calls : (a b : Answer Val) (o : Outcome) (n : ℕ) (ws oi oi' : List ℕ) (ov ov' : List ℤ) → a ≡ b → Gave a o oi oi' ov ov' → Put o n ws
+pub calls : (a b : Answer Val) (o : Answer Value) (n : ℕ) (ws oi oi' : List ℕ) (ov ov' : List ℤ) → a ≡ b → Gave a o oi oi' ov ov' → Put o n ws
     → Calls b n ws oi oi' ov ov'
 calls a b o n ws oi oi' ov ov' q g h =
     subst (λ (x : Answer Val). Calls x n ws oi oi' ov ov') q

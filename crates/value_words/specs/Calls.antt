@@ -6,8 +6,6 @@ use Rattle.ink_list.specs.Entries.{items, values}
 use Rattle.slices.specs.Filled.{over}
 use Rattle.ink_value.specs.Val.{Val}
 use Rattle.ink_value.specs.Value.{placed, written}
-use Rattle.ink_value.specs.declared.Outcome.{Outcome}
-use Rattle.ink_value.specs.declared.Outcome.TheVariants as Out
 use Rattle.ink_value.specs.declared.Value.{Value}
 use Rattle.words_in.specs.Words.{value_at}
 use Rattle.words_out.specs.Words.{words_of, Small}
@@ -23,18 +21,18 @@ index_words k = k ∷ 0 ∷ 0 ∷ []
 
 -- ---- a direct call or a conversion: "an instruction index (0 for .. all direct calls)"
 
-abbrev pub outcome_number : Outcome → ℕ
-outcome_number (Out.Value v) = 0
-outcome_number (Out.Refused r) = r
+abbrev pub outcome_number : Answer Value → ℕ
+outcome_number (gives v) = 0
+outcome_number (refuses r) = r
 
-abbrev pub outcome_words : Outcome → List ℕ
-outcome_words (Out.Value v) = words_of v
-outcome_words (Out.Refused r) = index_words 0
+abbrev pub outcome_words : Answer Value → List ℕ
+outcome_words (gives v) = words_of v
+outcome_words (refuses r) = index_words 0
 
 -- a List that it gives has room in its word
-abbrev pub SmallOutcome : Outcome → Type 0
-SmallOutcome (Out.Value v) = Small v
-SmallOutcome (Out.Refused r) = Unit {0}
+abbrev pub SmallOutcome : Answer Value → Type 0
+SmallOutcome (gives v) = Small v
+SmallOutcome (refuses r) = Unit {0}
 
 -- the words of three operands
 abbrev pub operands_in : List ℕ → List Value

@@ -1,7 +1,7 @@
 -- The words of the contracts for a call at the boundary. In an `ensures` a slice is what it was at entry and what it is at exit. Assumes nothing.
 use Rattle.std.specs.Prelude.{ℕ, ℤ}
 use Rattle.ink_number.specs.Answer.{Answer}
-use Rattle.slices.specs.Slices.{Slice, MutSlice}
+use Rattle.slices.specs.Slices.{MutSlice}
 use Rattle.ink_value.specs.Val.{Val}
 use Rattle.value_words.specs.Calls.{Says, Calls}
 

@@ -2,30 +2,32 @@
 #![tactic(auto)]
 
 ghost use Rattle.std.specs.Prelude.{◌≡◌};
+ghost use Rattle.ink_number.specs.Question.{number, answer as answer_of};
 ghost use Rattle.value_words.specs.Calls.{outcome_number, outcome_words, SmallOutcome};
 
-use ink_value::Outcome;
+use ink_number::question::Question;
+use ink_value::Value;
 
 // A question's number, as it is returned.
-pub fn number(n: u8) -> u32
-    ensures { result ≡ n }
+pub fn number(question: Question) -> u32
+    ensures { result ≡ number question }
 {
-    n as u32
+    u32::from(question.number())
 }
 
 // A direct call's or a conversion's answer.
-pub fn outcome(o: Outcome, answer: &mut [u64; 3]) -> u32
-    requires { SmallOutcome o }
-    ensures { (result ≡ outcome_number o) × (answer.new ≡ outcome_words o) }
+pub fn outcome(o: Result<Value, Question>, answer: &mut [u64; 3]) -> u32
+    requires { SmallOutcome (answer_of o) }
+    ensures { (result ≡ outcome_number (answer_of o)) × (answer.new ≡ outcome_words (answer_of o)) }
 {
     match o {
-        Outcome::Value(v) => {
+        Ok(v) => {
             words_out::put_value(answer, v);
             0
         }
-        Outcome::Refused(n) => {
+        Err(question) => {
             words_out::put_index(answer, 0);
-            number(n)
+            number(question)
         }
     }
 }

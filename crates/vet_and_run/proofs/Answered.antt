@@ -6,7 +6,7 @@ use Prim.Native.Nat.{ℕ, ◌*◌, ◌-◌, ◌<◌}
 use lib.IntN.{ℤ}
 use lib.ListN.{length, get_or}
 use Rattle.ink_value.specs.Val.{Val, bool, int, float, list, void, kind_of, code_of}
-use Rattle.ink_value.specs.Value.{val_of, placed_val, code_of_value}
+use Rattle.ink_value.specs.Value.{val_of, placed_val, kind_in}
 use Rattle.ink_value.specs.declared.Value.{Value}
 use Rattle.pack.specs.declared.format.Format.{Format}
 use Rattle.machine.specs.Foretold.{StopsByValue, Foretold}
@@ -14,44 +14,40 @@ use Rattle.machine.specs.Machine.{End, ended, stopped, Run}
 use Rattle.machine.specs.Whole.{opened, count_of, sheet_run}
 use Rattle.vetting.specs.Vet.{Vets, CountIs, vet_memory}
 use Rattle.vet_program.specs.Ending.{verdict_of}
-use Rattle.vet_program.specs.declared.Vetted.{Vetted}
-use Rattle.vet_program.specs.declared.Vetted.TheVariants as Vet
 use Rattle.running.specs.Run.{run_memory, ran_to, Runs}
-use Rattle.running.specs.declared.Ran.{Ran}
 use Rattle.vet_and_run.specs.Both.{StoppedByValue, ForetoldAnswer, Both}
-use Rattle.vet_and_run.specs.declared.VettedRun.{VettedRun}
 
-placed_code : (v : Val) → code_of_value (placed_val v) ≡ code_of (kind_of v)
+placed_code : (v : Val) → code_of (kind_in (placed_val v)) ≡ code_of (kind_of v)
 placed_code (bool b) = refl
 placed_code (int z) = refl
 placed_code (float x) = refl
 placed_code (list o es) = refl
 placed_code void = refl
 
-module _ (e : End Val) (r : Ran) (a : r ≡ ran_to e) where
+module _ (e : End Val) (r : End Value) (a : r ≡ ran_to e) where
   by_value : (P : ℕ → Type 0) → StopsByValue P e → StoppedByValue P r
   by_value P w = (w.0, w.1, a ∙ ap ran_to w.2)
 
   ends : (f : List ℕ) (n m : ℕ) (S : Type 0)
-      → ((v : Val) × (e ≡ ended v) × S × (code_of (kind_of v) ≡ get_or f (2 * n - 1) 0)) ⊎ StopsByValue (λ i. i < n) e → ForetoldAnswer (Vet.Passed n) f r
+      → ((v : Val) × (e ≡ ended v) × S × (code_of (kind_of v) ≡ get_or f (2 * n - 1) 0)) ⊎ StopsByValue (λ i. i < n) e → ForetoldAnswer (ended n) f r
   ends f n m S (inl w) = inl (placed_val w.0, a ∙ ap ran_to w.1, placed_code w.0 ∙ w.3)
   ends f n m S (inr w) = inr (by_value (λ i. i < n) w)
 
-  stops : (f : List ℕ) (q k : ℕ) → StopsByValue (λ i. i < k) e ⊎ (e ≡ stopped q k) → ForetoldAnswer (Vet.Refused q k) f r
+  stops : (f : List ℕ) (q k : ℕ) → StopsByValue (λ i. i < k) e ⊎ (e ≡ stopped q k) → ForetoldAnswer (stopped q k) f r
   stops f q k (inl w) = inl (by_value (λ i. i < k) w)
   stops f q k (inr w) = inr (a ∙ ap ran_to w)
 
-pub answered : (v : Vetted) (n : ℕ) (f : List ℕ) (b : Run Val) (r : Ran) → CountIs v n → r ≡ ran_to b.end → Foretold n (verdict_of v) f b → ForetoldAnswer v f r
-answered (Vet.Passed m) n f b r c a g =
-    subst (λ (k : ℕ). ForetoldAnswer (Vet.Passed k) f r) (sym c) (ends b.end r a f n m (length b.stacks ≡ n) g.1)
-answered (Vet.Refused q k) n f b r c a g = stops b.end r a f q k g
+pub answered : (v : End ℕ) (n : ℕ) (f : List ℕ) (b : Run Val) (r : End Value) → CountIs v n → r ≡ ran_to b.end → Foretold n (verdict_of v) f b → ForetoldAnswer v f r
+answered (ended m) n f b r c a g =
+    subst (λ (k : ℕ). ForetoldAnswer (ended k) f r) (sym c) (ends b.end r a f n m (length b.stacks ≡ n) g.1)
+answered (stopped q k) n f b r c a g = stops b.end r a f q k g
 
-pub both : {F : Format} (p : List ℕ) (s : ℕ) (codes : List ℕ) (slots : List Value) (si : List ℕ) (sv : List ℤ) (b : VettedRun)
+pub both : {F : Format} (p : List ℕ) (s : ℕ) (codes : List ℕ) (slots : List Value) (si : List ℕ) (sv : List ℤ) (v : End ℕ) (r : End Value)
     (f f' wi wi' : List ℕ) (wv wv' : List ℤ) (ri ri' : List ℕ) (rv rv' : List ℤ)
-    → Vets F p s codes b.vetted f f'
-    → Runs F (opened F p s (run_memory F slots si sv wi wv ri rv)) s (map (val_of si sv) slots) b.ran wi wi' wv wv' ri ri' rv rv'
-    → Both F p s codes slots si sv b f f' wi wi' wv wv' ri ri' rv rv'
-both {F} p s codes slots si sv b f f' wi wi' wv wv' ri ri' rv rv' a w =
+    → Vets F p s codes v f f'
+    → Runs F (opened F p s (run_memory F slots si sv wi wv ri rv)) s (map (val_of si sv) slots) r wi wi' wv wv' ri ri' rv rv'
+    → Both F p s codes slots si sv v r f f' wi wi' wv wv' ri ri' rv rv'
+both {F} p s codes slots si sv v r f f' wi wi' wv wv' ri ri' rv rv' a w =
     let ready = run_memory F slots si sv wi wv ri rv in
     let vs = map (val_of si sv) slots in
     record {
@@ -59,5 +55,5 @@ both {F} p s codes slots si sv b f f' wi wi' wv wv' ri ri' rv rv' a w =
       ran = w;
       foretold = λ m n k.
           let g = a.foretold ready vs m n k in
-          (g, answered b.vetted (count_of (opened F p s (vet_memory codes f)) s) f' (sheet_run F p s ready vs) b.ran a.counted w.ran.answered g);
+          (g, answered v (count_of (opened F p s (vet_memory codes f)) s) f' (sheet_run F p s ready vs) r a.counted w.ran.answered g);
     }

@@ -13,8 +13,10 @@ use Rattle.ink_number.specs.Int.{quotient, signed}
 use Rattle.slices.specs.Every.{◌and◌}
 use Rattle.ink_list.specs.Entries.{bits_below, formed}
 use Rattle.list_definitions.specs.Defs.{ListDefinitions}
-use Rattle.ink_value.specs.Val.{void, intK, voidK, kind_of, kind_at}
+use Rattle.ink_value.specs.Val.{void, kind_of, kind_at}
+use Rattle.ink_value.specs.declared.Kind.TheVariants as K
 use Rattle.ink_value.specs.Value.{val_of}
+use Rattle.ink_value.specs.declared.Value.{Value}
 use Rattle.ink_value.specs.declared.Value.TheVariants as Is
 use Rattle.operator_kinds.specs.Kinds.{known, unary, arity, kind_unary, kind_binary, kind_apply}
 use Rattle.native_function_call.specs.Apply.{apply_op, compute}
@@ -27,19 +29,15 @@ use Rattle.pack.specs.Read.{ends_of, definitions_of, literal_of, sheet_of}
 use Rattle.pack.specs.declared.format.Format.{Format}
 use Rattle.pack.proofs.OneSheet.{one_sheet, pack_of, one_passes}
 use Rattle.machine.specs.Foretold.{passed, verdict}
-use Rattle.machine.specs.Machine.{ended, stopped, step, run_from, run, vet}
+use Rattle.machine.specs.Machine.{ended, stopped, step, run_from, run, vet, End}
 use Rattle.machine.specs.Whole.{opened, Suffices, started, count_of}
 use Rattle.machine.proofs.Whole.{opened_all}
 use Rattle.vetting.specs.Vet.{forecast_limit, CountIs, vet_memory}
 use Rattle.vet_program.specs.Ending.{verdict_of}
-use Rattle.vet_program.specs.declared.Vetted.{Vetted}
-use Rattle.vet_program.specs.declared.Vetted.TheVariants as Vet
 use Rattle.operating.specs.Stacked.{work_limit}
 use Rattle.running.specs.Run.{run_memory, ran_to, end_after}
-use Rattle.running.specs.declared.Ran.TheVariants as Rn
 use Rattle.run_memory.proofs.Opening.{Long}
 use Rattle.vet_and_run.specs.Both.{ForetoldAnswer, Both}
-use Rattle.vet_and_run.specs.declared.VettedRun.{VettedRun}
 
 abbrev sixteen : {A : Type 0} → A → List A
 sixteen a = a ∷ a ∷ a ∷ a ∷ a ∷ a ∷ a ∷ a ∷ a ∷ a ∷ a ∷ a ∷ a ∷ a ∷ a ∷ a ∷ []
@@ -65,9 +63,9 @@ pub kinds_agree : map kind_of (map (val_of [] []) (sixteen Is.Void)) ≡ map kin
 kinds_agree = refl
 
 -- so vetting's answer on every pack says what the contract says of the run's
-module _ (F : Format) (p : List ℕ) (s : ℕ) (b : VettedRun) (f f' wi wi' : List ℕ) (wv wv' : List ℤ) (ri ri' : List ℕ) (rv rv' : List ℤ) where
-  pub foretells : Both F p s (sixteen 4) (sixteen Is.Void) [] [] b f f' wi wi' wv wv' ri ri' rv rv' → forecast_limit ≤ length f → Long F wi wv ri rv
-      → ForetoldAnswer b.vetted f' b.ran
+module _ (F : Format) (p : List ℕ) (s : ℕ) (v : End ℕ) (r : End Value) (f f' wi wi' : List ℕ) (wv wv' : List ℤ) (ri ri' : List ℕ) (rv rv' : List ℤ) where
+  pub foretells : Both F p s (sixteen 4) (sixteen Is.Void) [] [] v r f f' wi wi' wv wv' ri ri' rv rv' → forecast_limit ≤ length f → Long F wi wv ri rv
+      → ForetoldAnswer v f' r
   foretells w h l = (w.foretold (vetting_suffices F p f h) (run_suffices F p wi ri wv rv l) kinds_agree).1
 
 -- ---- one pack, and both answers on it
@@ -76,7 +74,7 @@ module _ (F : Format) (p : List ℕ) (s : ℕ) (b : VettedRun) (f f' wi wi' : Li
 abbrev program : List Instr
 program = push (push_int (pos 7)) ∷ push (push_int (pos 0)) ∷ op 2 ∷ []
 
-pub passes : (vet program (sixteen voidK)).end ≡ ended intK
+pub passes : (vet program (sixteen K.Void)).end ≡ ended K.Int
 unfolding step run_from known unary arity kind_unary kind_binary kind_apply
 passes = refl
 
@@ -98,22 +96,22 @@ pub accepted : (F : Format) → judge F (bytes F) ≡ gives pack
 unfolding number signed instruction instructions
 accepted F = one_passes F code program (omega arith) refl
 
-counted_three : (v : Vetted) → verdict_of v ≡ passed → CountIs v 3 → v ≡ Vet.Passed 3
-counted_three (Vet.Passed n) e c = ap Vet.Passed c
-counted_three (Vet.Refused r k) e c = let z : ◌≡◌ {A = ℕ} 1 0 = cc in absurd (omega arith)
+counted_three : (v : End ℕ) → verdict_of v ≡ passed → CountIs v 3 → v ≡ ended 3
+counted_three (ended n) e c = ap ended c
+counted_three (stopped r k) e c = let z : ◌≡◌ {A = ℕ} 1 0 = cc in absurd (omega arith)
 
 -- the contract gives both answers
-module _ (F : Format) (b : VettedRun) (f f' wi wi' : List ℕ) (wv wv' : List ℤ) (ri ri' : List ℕ) (rv rv' : List ℤ)
-    (w : Both F (bytes F) 0 (sixteen 4) (sixteen Is.Void) [] [] b f f' wi wi' wv wv' ri ri' rv rv') where
-  pub vetted_is : forecast_limit ≤ length f → b.vetted ≡ Vet.Passed 3
+module _ (F : Format) (v : End ℕ) (r : End Value) (f f' wi wi' : List ℕ) (wv wv' : List ℤ) (ri ri' : List ℕ) (rv rv' : List ℤ)
+    (w : Both F (bytes F) 0 (sixteen 4) (sixteen Is.Void) [] [] v r f f' wi wi' wv wv' ri ri' rv rv') where
+  pub vetted_is : forecast_limit ≤ length f → v ≡ ended 3
   vetted_is h =
       let m = vet_memory (sixteen 4) f in
       let q : opened F (bytes F) 0 m ≡ gives pack = opened_all F (bytes F) 0 m pack (accepted F) (omega arith) (vetting_suffices F (bytes F) f h pack (accepted F)) in
-      counted_three b.vetted
-      (w.vetted.right ∙ ap (λ (x : Answer Pack). verdict (started x (λ (d : Pack). vet (sheet_of d 0) (sixteen voidK))).end) q ∙ ap verdict passes)
-      (subst (λ (x : Answer Pack). CountIs b.vetted (count_of x 0)) q w.vetted.counted)
+      counted_three v
+      (w.vetted.right ∙ ap (λ (x : Answer Pack). verdict (started x (λ (d : Pack). vet (sheet_of d 0) (sixteen K.Void))).end) q ∙ ap verdict passes)
+      (subst (λ (x : Answer Pack). CountIs v (count_of x 0)) q w.vetted.counted)
 
-  pub ran_is : Long F wi wv ri rv → b.ran ≡ Rn.Stopped 15 2
+  pub ran_is : Long F wi wv ri rv → r ≡ stopped 15 2
   ran_is l =
       let m = run_memory F (sixteen Is.Void) [] [] wi wv ri rv in
       let q : opened F (bytes F) 0 m ≡ gives pack = opened_all F (bytes F) 0 m pack (accepted F) (omega arith) (run_suffices F (bytes F) wi ri wv rv l pack (accepted F)) in

@@ -13,17 +13,16 @@ use Rattle.pack.specs.Judge.{judge}
 use Rattle.pack.specs.Read.{sheet_of}
 use Rattle.pack.specs.declared.format.Format.{Format}
 use Rattle.machine.specs.Foretold.{turned, verdict}
-use Rattle.machine.specs.Machine.{vet}
+use Rattle.machine.specs.Machine.{vet, End, stopped}
 use Rattle.machine.specs.Whole.{opened, started}
 use Rattle.machine.proofs.Whole.{opened_six}
 use Rattle.vetting.specs.Vet.{Vets, vet_memory}
-use Rattle.vet_program.specs.declared.Vetted.TheVariants as Vet
 use Rattle.running.specs.Run.{Runs}
-use Rattle.running.specs.declared.Ran.{Ran}
+use Rattle.ink_value.specs.declared.Value.{Value}
 
 -- question 7 answered before 6: the pack passed, and the sheet is not there
 pub seven_before_six : (F : Format) (p : List ℕ) (s : ℕ) (codes f f' : List ℕ) (d : Pack) → judge F p ≡ gives d → length d.sheets ≤ s
-    → Vets F p s codes (Vet.Refused 7 0) f f' → ⊥
+    → Vets F p s codes (stopped 7 0) f f' → ⊥
 seven_before_six F p s codes f f' d e h a =
     let q : opened F p s (vet_memory codes f) ≡ refuses 6 = opened_six F p s (vet_memory codes f) d e h in
     let r : turned 7 0 ≡ turned 6 0 = a.right ∙ ap (λ (x : Answer Pack). verdict (started x (λ (y : Pack). vet (sheet_of y s) (map kind_at codes))).end) q in
@@ -31,7 +30,7 @@ seven_before_six F p s codes f f' d e h a =
     absurd (omega arith)
 
 -- a place of the work slices cleared, and then one of 1 to 7
-pub cleared_early : (F : Format) (q s : ℕ) (slots : List Val) (r : Ran) (wi : List ℕ) (wv wv' : List ℤ) (ri ri' : List ℕ) (rv rv' : List ℤ)
+pub cleared_early : (F : Format) (q s : ℕ) (slots : List Val) (r : End Value) (wi : List ℕ) (wv wv' : List ℤ) (ri ri' : List ℕ) (rv rv' : List ℤ)
     → Runs F (refuses q) s slots r (1 ∷ wi) (0 ∷ wi) wv wv' ri ri' rv rv' → ⊥
 cleared_early F q s slots r wi wv wv' ri ri' rv rv' w =
     let e : 0 ∷ wi ≡ 1 ∷ wi = w.items_left in

@@ -5,14 +5,13 @@ ghost use Rattle.pack.specs.Format.{format1};
 ghost use Rattle.vet_and_run.specs.Both.{BothIn};
 
 use ink_value::Value;
-use running::Ran;
-use vet_program::Vetted;
+use machine::Stop;
 
 // The answers of the two calls.
 #[derive(Clone, Copy)]
 pub struct VettedRun {
-    pub vetted: Vetted,
-    pub ran: Ran,
+    pub vetted: Result<usize, Stop>,
+    pub ran: Result<Value, Stop>,
 }
 
 // Vets a sheet of any bytes for slots of these kinds, and runs it with these slots. Where the slots have those kinds, the vetting's

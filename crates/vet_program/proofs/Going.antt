@@ -7,41 +7,36 @@ use native.Mathlib.Omega.{arith}
 use lib.ListN.{length, get_or, drop, set, replicate, length-set, length-replicate}
 use lib.Seq.{get_or-set_same, get_or-set_other}
 use Rattle.ink_number.specs.Answer.{gives, refuses}
-use Rattle.ink_value.specs.Val.{Kind, kind_at}
+use Rattle.ink_value.specs.Val.{code_of}
+use Rattle.ink_value.specs.declared.Kind.{Kind}
+use Rattle.ink_value.specs.declared.Kind.TheVariants as K
 use Rattle.operator_kinds.specs.Kinds.{kind_apply}
 use Rattle.pack.specs.Instruction.{Instr, Push, push, push_void, instructions}
 use Rattle.machine.specs.Machine.{Run, ended, stopped, finish, onward, step, run_from, kind_pushed, vet}
 use Rattle.machine.specs.Stack.{stack_of}
 use Rattle.machine.specs.Foretold.{passed, turned, verdict, forecast, Begins}
 use Rattle.machine.proofs.Stack.{stack_length, stack_put, run_more, run_stop, run_done}
-use Rattle.operator_kinds.proofs.Counting.{code_at_lem}
 use Rattle.pack.specs.Format.{instruction_limit}
 use Rattle.pack.proofs.Steps.{at_end}
-use Rattle.vet_steps.specs.Step.{Codes, kind_on}
+use Rattle.vet_steps.specs.Step.{kind_on}
 use Rattle.std.proofs.Math.Option.{some}
 
 -- the rest of vetting
-abbrev pub rest : List Instr → List Kind → List ℕ → ℕ → ℕ → Run Kind
+abbrev pub rest : List Instr → List Kind → List Kind → ℕ → ℕ → Run Kind
 rest s ks stack n i = run_from (kind_pushed ks) kind_apply i (drop i s) (stack_of (kind_on stack) n)
 
-pub record Going (s : List Instr) (ks : List Kind) (out stack : List ℕ) (n i : ℕ) : Type 0 where
+pub record Going (s : List Instr) (ks : List Kind) (out : List ℕ) (stack : List Kind) (n i : ℕ) : Type 0 where
   pub end_same : (rest s ks stack n i).end ≡ (vet s ks).end
   pub count : length (vet s ks).stacks ≡ i + length (rest s ks stack n i).stacks
   pub later : (m : ℕ) → get_or (forecast (vet s ks).stacks) (2 * i + m) 0 ≡ get_or (forecast (rest s ks stack n i).stacks) m 0
   pub done : (j : ℕ) → j < 2 * i → get_or out j 0 ≡ get_or (forecast (vet s ks).stacks) j 0
   pub few : i ≤ instruction_limit
   pub depth : n ≤ 64
-  pub codes : Codes stack
   pub stack_is : length stack ≡ 64
   pub out_is : length out ≡ 2048
 
-zero_codes : (m p : ℕ) → get_or (replicate m 0) p 0 < 5
-zero_codes zero p = omega arith
-zero_codes (suc m) zero = omega arith
-zero_codes (suc m) (suc p) = zero_codes m p
-
 pub begin : (s : List Instr) (ks : List Kind) (out : List ℕ) → length out ≡ 2048
-    → Going s ks out (replicate 64 0) 0 0
+    → Going s ks out (replicate 64 K.Void) 0 0
 begin s ks out l = record {
   end_same = refl;
   count = omega arith;
@@ -49,43 +44,28 @@ begin s ks out l = record {
   done = λ j h. absurd (omega arith);
   few = omega arith;
   depth = omega arith;
-  codes = zero_codes 64;
-  stack_is = length-replicate {A = ℕ} 64 0;
+  stack_is = length-replicate {A = Kind} 64 K.Void;
   out_is = l;
 }
 
-set_codes : (xs : List ℕ) (p k : ℕ) → p < length xs → k < 5 → Codes xs → Codes (set xs p k)
-set_codes xs p k hp hk h q = go (dec_eq q p)
-  where
-    use_other : q ≢ p → get_or (set xs p k) q 0 < 5
-    use_other ne = rw (get_or-set_other xs p q k 0 ne) (h q)
-
-    dec_eq : (a b : ℕ) → Dec (a ≡ b)
-    dec_eq a b = native.Mathlib.Decide.ℕ_discrete a b
-
-    go : Dec (q ≡ p) → get_or (set xs p k) q 0 < 5
-    go (yes e) = rw (e, get_or-set_same xs p k 0 hp) hk
-    go (no ne) = use_other ne
-
-module _ (s : List Instr) (ks : List Kind) (out stack : List ℕ) (n i p k : ℕ) (g : Going s ks out stack n i)
-    (h : i < length s) (hi : i < instruction_limit) (hp : p < 64) (hk : k < 5)
-    (e : gives (kind_at k ∷ stack_of (kind_on stack) p) ≡ step (kind_pushed ks) kind_apply (get_or s i (push push_void)) (stack_of (kind_on stack) n)) where
-  abbrev stack' : List ℕ
+module _ (s : List Instr) (ks : List Kind) (out : List ℕ) (stack : List Kind) (n i p : ℕ) (k : Kind) (g : Going s ks out stack n i)
+    (h : i < length s) (hi : i < instruction_limit) (hp : p < 64)
+    (e : gives (k ∷ stack_of (kind_on stack) p) ≡ step (kind_pushed ks) kind_apply (get_or s i (push push_void)) (stack_of (kind_on stack) n)) where
+  abbrev stack' : List Kind
   stack' = set stack p k
 
   abbrev out' : List ℕ
-  out' = set (set out (2 * i) (p + 1)) (2 * i + 1) k
+  out' = set (set out (2 * i) (p + 1)) (2 * i + 1) (code_of k)
 
   abbrev top : List Kind
-  top = kind_at k ∷ stack_of (kind_on stack) p
+  top = k ∷ stack_of (kind_on stack) p
 
   in_stack : p < length stack
   in_stack = omega (arith, g.stack_is)
 
   top_is : stack_of (kind_on stack') (p + 1) ≡ top
   top_is =
-      stack_put (kind_on stack) (kind_on stack') p (kind_at k) (ap kind_at (get_or-set_same stack p k 0 in_stack))
-      (λ q l. ap kind_at (get_or-set_other stack p q k 0 (omega arith)))
+      stack_put (kind_on stack) (kind_on stack') p k (get_or-set_same stack p k K.Bool in_stack) (λ q l. get_or-set_other stack p q k K.Bool (omega arith))
 
   rest_is : rest s ks stack n i ≡ onward i (gives top) (run_from (kind_pushed ks) kind_apply (i + 1) (drop (i + 1) s))
   rest_is = run_more (kind_pushed ks) kind_apply s i (stack_of (kind_on stack) n) top h (sym e)
@@ -110,14 +90,14 @@ module _ (s : List Instr) (ks : List Kind) (out stack : List ℕ) (n i p k : ℕ
   first_byte =
       let ne : 2 * i ≢ 2 * i + 1 = omega arith in
       let z : 2 * i ≡ 2 * i + 0 = omega arith in
-      get_or-set_other (set out (2 * i) (p + 1)) (2 * i + 1) (2 * i) k 0 ne
+      get_or-set_other (set out (2 * i) (p + 1)) (2 * i + 1) (2 * i) (code_of k) 0 ne
       ∙ (get_or-set_same out (2 * i) (p + 1) 0 (omega (arith, in_out))
       ∙ sym (ap (λ (j : ℕ). get_or whole j 0) z ∙ (later_here 0 ∙ omega (arith, stack_length (kind_on stack) p))))
 
   second_byte : get_or out' (2 * i + 1) 0 ≡ get_or whole (2 * i + 1) 0
   second_byte =
-      get_or-set_same (set out (2 * i) (p + 1)) (2 * i + 1) k 0 (rw (length-set out (2 * i) (p + 1)) in_out)
-      ∙ sym (later_here 1 ∙ code_at_lem k hk)
+      get_or-set_same (set out (2 * i) (p + 1)) (2 * i + 1) (code_of k) 0 (rw (length-set out (2 * i) (p + 1)) in_out)
+      ∙ sym (later_here 1)
 
   done_more : (j : ℕ) → j < 2 * (i + 1) → get_or out' j 0 ≡ get_or whole j 0
   done_more j l = go (native.Mathlib.Decide.ℕ_discrete j (2 * i)) (native.Mathlib.Decide.ℕ_discrete j (2 * i + 1))
@@ -126,7 +106,7 @@ module _ (s : List Instr) (ks : List Kind) (out stack : List ℕ) (n i p k : ℕ
       go (yes q) d = rw q first_byte
       go (no a) (yes q) = rw q second_byte
       go (no a) (no b) =
-          get_or-set_other (set out (2 * i) (p + 1)) (2 * i + 1) j k 0 b
+          get_or-set_other (set out (2 * i) (p + 1)) (2 * i + 1) j (code_of k) 0 b
           ∙ (get_or-set_other out (2 * i) j (p + 1) 0 a ∙ g.done j (omega arith))
 
   pub advance : Going s ks out' stack' (p + 1) (i + 1)
@@ -142,9 +122,8 @@ module _ (s : List Instr) (ks : List Kind) (out stack : List ℕ) (n i p k : ℕ
     done = done_more;
     few = omega arith;
     depth = omega arith;
-    codes = set_codes stack p k in_stack hk g.codes;
     stack_is = length-set stack p k ∙ g.stack_is;
-    out_is = length-set (set out (2 * i) (p + 1)) (2 * i + 1) k ∙ (length-set out (2 * i) (p + 1) ∙ g.out_is);
+    out_is = length-set (set out (2 * i) (p + 1)) (2 * i + 1) (code_of k) ∙ (length-set out (2 * i) (p + 1) ∙ g.out_is);
   }
 
 finish_not_one : (f : ℕ → Kind) (i n : ℕ) → (n ≡ 1 → ⊥) → finish i (stack_of f n) ≡ stopped 17 i
@@ -152,7 +131,7 @@ finish_not_one f i zero h = refl
 finish_not_one f i (suc zero) h = absurd (h refl)
 finish_not_one f i (suc (suc n)) h = refl
 
-module _ (s : List Instr) (ks : List Kind) (out stack : List ℕ) (n i : ℕ) (g : Going s ks out stack n i) where
+module _ (s : List Instr) (ks : List Kind) (out : List ℕ) (stack : List Kind) (n i : ℕ) (g : Going s ks out stack n i) where
   pub refused : (r : ℕ) → i < length s
       → refuses r ≡ step (kind_pushed ks) kind_apply (get_or s i (push push_void)) (stack_of (kind_on stack) n)
       → turned r i ≡ verdict (vet s ks).end

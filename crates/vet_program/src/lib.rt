@@ -2,66 +2,58 @@
 #![tactic(auto)]
 
 ghost use Rattle.std.specs.Prelude.{◌≡◌, true, ◌<◌, length};
-ghost use Rattle.kind_table.specs.Table.{Table};
 ghost use Rattle.pack.specs.Contents.{sheet_count};
 ghost use Rattle.pack.specs.Judge.{question5, Placed};
 ghost use Rattle.pack.specs.Read.{program};
-ghost use Rattle.vet_steps.specs.Step.{Codes};
 ghost use Rattle.vet_program.specs.Slices.{ForecastsIn};
 
-use kind_table::{OPERATORS, PAIRS};
-use vet_steps::KindStep;
+use ink_number::question::Question;
+use ink_value::Kind;
+use kind_table::KindTable;
+use machine::Stop;
 
-// Vetting's answer: passed, with the count of instructions; or the number of the first no, and its instruction's index.
-#[derive(Clone, Copy)]
-pub enum Vetted {
-    Passed { count: usize },
-    Refused { number: u8, index: usize },
-}
-
-// A sheet of a pack that has passed, its forecast written to an array.
+// A sheet of a pack that has passed, its forecast written to an array: how many instructions it has, or where vetting stops.
 #[tactic(auto, using(crate::proofs::Going::none_left, crate::proofs::Going::ends_one, crate::proofs::Going::ends_other, crate::proofs::Going::no_stacks))]
 pub fn vet_into(
     pack: &[u8],
     sheet: usize,
-    kinds: [u8; 16],
-    table: &[[u8; PAIRS]; OPERATORS],
+    kinds: [Kind; 16],
+    table: &KindTable,
     out: &mut [u8; 2048],
-) -> Vetted
+) -> Result<usize, Stop>
     requires placed { (Placed pack.now × (question5 pack.now ≡ true)) × (sheet < sheet_count pack.now) }
-    requires out_len { (length out.old ≡ 2048) × Codes kinds × Table table.now }
+    requires out_len { length out.old ≡ 2048 }
     ensures { ForecastsIn (program pack.now sheet) kinds result out }
 {
     let span = pack_read::sheet_span(pack, sheet);
     let end = span.end;
     let mut at = span.start;
-    let mut stack = [0u8; 64];
+    let mut stack = [Kind::Void; 64];
     let mut n: usize = 0;
     let mut i: usize = 0;
+    // A step moves the height of the stack and, by the instruction's width, the place in the pack: no iterator holds both.
     while at < end {
         let instruction = pack::instruction::read_instruction(pack, at);
         let width = pack::instruction::instruction_width(instruction);
         let step = vet_steps::vet_step(instruction, kinds, table, &stack, n);
         match step {
-            KindStep::Put { place, kind } => {
-                stack[place] = kind;
-                n = place + 1;
+            Ok(top) => {
+                stack[top.place] = top.value;
+                n = top.place + 1;
                 out[2 * i] = n as u8;
-                out[2 * i + 1] = kind;
+                out[2 * i + 1] = top.value.code();
                 at += width;
                 i += 1;
             }
-            KindStep::No(number) => {
-                return Vetted::Refused { number, index: i };
-            }
+            Err(question) => return Err(Stop { question, index: i }),
         }
     }
     if n == 1 {
-        Vetted::Passed { count: i }
+        Ok(i)
     } else {
-        Vetted::Refused {
-            number: 17,
+        Err(Stop {
+            question: Question::Left,
             index: i,
-        }
+        })
     }
 }

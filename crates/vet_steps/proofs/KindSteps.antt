@@ -1,15 +1,14 @@
 -- An operator on a stack of kinds that stands in an array. Assumes nothing.
 use mathlib.Core.Path.{◌≡◌, sym, ◌∙◌, ap}
 use mathlib.Core.Logic.{⊎_elim}
-use mathlib.Core.List.{List, [], ◌∷◌, map}
-use Prim.Native.Nat.{ℕ, ◌+◌, ◌-◌, ◌≤◌, ◌<◌}
+use mathlib.Core.List.{[], ◌∷◌}
+use Prim.Native.Nat.{ℕ, ◌+◌, ◌-◌, ◌≤◌}
 use native.Mathlib.Omega.{arith}
-use lib.ListN.{length, get_or, get_or-map}
-use Rattle.ink_value.specs.Val.{Kind, kind_at, voidK}
+use Rattle.ink_value.specs.declared.Kind.{Kind}
 use Rattle.operator_kinds.specs.Kinds.{operand_count, kind_apply, kind_range, kind_entry}
 use Rattle.machine.specs.Machine.{topped, step_op}
 use Rattle.machine.specs.Stack.{stack_of}
-use Rattle.machine.proofs.Stack.{get_d_any, op_one, op_two, op_three}
+use Rattle.machine.proofs.Stack.{op_one, op_two, op_three}
 use Rattle.operator_kinds.proofs.Counting.{entry_one, entry_two, entry_range, is_range, below_three}
 
 -- the two forms that the code has, over the count m
@@ -33,6 +32,3 @@ step_range f o n m e l w =
     let r : kind_apply o (f (n - 3) ∷ f (n - 2) ∷ f (n - 1) ∷ []) ≡ kind_range (f (n - 3)) (f (n - 2)) (f (n - 1)) =
     ap (λ (x : ℕ). kind_apply x (f (n - 3) ∷ f (n - 2) ∷ f (n - 1) ∷ [])) (is_range o q) ∙ entry_range (f (n - 3)) (f (n - 2)) (f (n - 1)) in
     rw (w, i) (ap (topped (stack_of f (n - 3))) (sym r) ∙ op_three kind_apply f o n q (omega arith))
-
-pub slot_kind : (kinds : List ℕ) (m : ℕ) → m < length kinds → kind_at (get_or kinds m 0) ≡ get_or (map kind_at kinds) m voidK
-slot_kind kinds m h = ap kind_at (get_d_any kinds m 0 4 h) ∙ sym (get_or-map kind_at kinds m 4)

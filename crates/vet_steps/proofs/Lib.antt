@@ -1,2 +1,2 @@
 -- The laws of a step on kinds.
-mod KindSteps
+pub mod KindSteps

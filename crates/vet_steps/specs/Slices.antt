@@ -2,15 +2,15 @@
 use Rattle.std.specs.Prelude.{List, ℕ}
 use Rattle.ink_number.specs.Answer.{Answer}
 use Rattle.slices.specs.Slices.{Slice}
-use Rattle.ink_value.specs.Val.{Kind}
+use Rattle.ink_value.specs.declared.Kind.{Kind}
 use Rattle.machine.specs.Stack.{stack_of}
+use Rattle.machine.specs.declared.Top.{Top}
 use Rattle.vet_steps.specs.Step.{kind_on, stepped}
-use Rattle.vet_steps.specs.declared.KindStep.{KindStep}
 
--- the kinds on a stack of n, whose codes stand in an array, from below
-abbrev pub kinds_in : Slice ℕ → ℕ → List Kind
+-- the kinds on a stack of n, which stand in an array, from below
+abbrev pub kinds_in : Slice Kind → ℕ → List Kind
 kinds_in stack n = stack_of (kind_on stack.entry.now) n
 
 -- the stack after a step, the kinds below being those of the array
-abbrev pub stepped_in : KindStep → Slice ℕ → Answer (List Kind)
+abbrev pub stepped_in : Answer (Top Kind) → Slice Kind → Answer (List Kind)
 stepped_in r stack = stepped r (kind_on stack.entry.now)

@@ -1,103 +1,99 @@
 // One instruction on a stack of kinds: what is put where, or which question says no.
 #![tactic(auto)]
 
-ghost use Rattle.std.specs.Prelude.{◌≡◌, map, ℕ, ◌<◌, ◌≤◌, ◌-◌};
-ghost use Rattle.ink_value.specs.Val.{Kind, kind_at};
+ghost use Rattle.std.specs.Prelude.{◌≡◌, ℕ, ◌≤◌, ◌-◌};
+ghost use Rattle.ink_number.specs.Question.{answer as answer_of};
+ghost use Rattle.ink_value.specs.declared.Kind.{Kind};
+ghost use Rattle.op.specs.Op.{op_number};
 ghost use Rattle.operator_kinds.specs.Kinds.{kind_apply, operand_count};
-ghost use Rattle.kind_table.specs.Table.{kind_answer, Coded, Table};
 ghost use Rattle.pack.specs.Instruction.{instr_of, Allowed};
 ghost use Rattle.machine.specs.Machine.{step_op, step_push, step, topped, kind_pushed};
 ghost use Rattle.machine.specs.Stack.{stack_of};
-ghost use Rattle.vet_steps.specs.Step.{Codes, stepped, Within};
+ghost use Rattle.vet_steps.specs.Step.{stepped, Within};
 ghost use Rattle.vet_steps.specs.Slices.{kinds_in, stepped_in};
 
-use ink_value::kind_code;
-use kind_table::{KindAnswer, OPERATORS, PAIRS};
-use machine::STACK_LIMIT;
+use ink_number::question::Question;
+use ink_value::Kind;
+use kind_table::KindTable;
+use machine::{STACK_LIMIT, Top};
+use op::Op;
 use pack::instruction::Instruction;
 
-// What one instruction does to the stack: a kind is put at a place, which is then the top; or a question says no.
-#[derive(Clone, Copy)]
-pub enum KindStep {
-    Put { place: usize, kind: u8 },
-    No(u8),
-}
-
 // The answer of an operator that takes `count` operands, on the top of a stack of n.
+#[tactic(auto, using(operator_kinds::proofs::Counting::below_range, crate::proofs::KindSteps::step_entry, crate::proofs::KindSteps::step_range))]
 fn answer(
-    op: u8,
+    op: Op,
     count: usize,
-    table: &[[u8; PAIRS]; OPERATORS],
-    stack: &[u8; 64],
+    table: &KindTable,
+    stack: &[Kind; 64],
     n: usize,
-) -> KindAnswer
-    requires { (op < 32) × (count ≡ operand_count op) × (1 ≤ count) × (count ≤ n) × (n ≤ 64) × Codes stack.now × Table table.now }
-    ensures { (topped (kinds_in stack (n - count)) (kind_answer result) ≡ step_op kind_apply op (kinds_in stack n)) × Coded result }
+) -> Result<Kind, Question>
+    requires { (count ≡ operand_count (op_number op)) × (1 ≤ count) × (count ≤ n) × (n ≤ 64) }
+    ensures { topped (kinds_in stack (n - count)) (answer_of result) ≡ step_op kind_apply (op_number op) (kinds_in stack n) }
 {
     let place = n - count;
     let left = stack[place];
     let right = stack[n - 1];
     if count == 3 {
-        kind_table::kind_range(left, stack[place + 1], right)
+        operator_kinds::range(left, stack[place + 1], right)
     } else {
-        kind_table::kind_entry(table, op, left, right)
+        table.entry(op, left, right)
     }
 }
 
 // An operator on a stack of n.
-fn vet_op(op: u8, table: &[[u8; PAIRS]; OPERATORS], stack: &[u8; 64], n: usize) -> KindStep
-    requires { (op < 32) × (n ≤ 64) × Codes stack.now × Table table.now }
-    ensures { (stepped_in result stack ≡ step_op kind_apply op (kinds_in stack n)) × Within result n }
+#[tactic(auto, using(machine::proofs::Stack::op_unknown, machine::proofs::Stack::op_few))]
+fn vet_op(op: Op, table: &KindTable, stack: &[Kind; 64], n: usize) -> Result<Top<Kind>, Question>
+    requires { n ≤ 64 }
+    ensures { (stepped_in (answer_of result) stack ≡ step_op kind_apply (op_number op) (kinds_in stack n)) × Within (answer_of result) n }
 {
     let count = operator_kinds::operands(op);
     if count == 0 {
-        return KindStep::No(8);
+        return Err(Question::Operator);
     }
     if n < count {
-        return KindStep::No(10);
+        return Err(Question::Operands);
     }
-    let a = answer(op, count, table, stack, n);
-    match a {
-        KindAnswer::Kind(kind) => KindStep::Put {
-            place: n - count,
-            kind,
-        },
-        KindAnswer::Refused(number) => KindStep::No(number),
-    }
+    let value = answer(op, count, table, stack, n)?;
+    Ok(Top {
+        place: n - count,
+        value,
+    })
 }
 
 // A push of a kind on a stack of n: question 9.
 #[tactic(auto, using(machine::proofs::Stack::push_fits, machine::proofs::Stack::push_full))]
-fn vet_push(kind: u8, n: usize) -> KindStep
-    requires { (kind < 5) × (n ≤ 64) }
-    ensures { ((f : ℕ → Kind) → stepped result f ≡ step_push (kind_at kind) (stack_of f n)) × Within result n }
+fn vet_push(value: Kind, n: usize) -> Result<Top<Kind>, Question>
+    requires { n ≤ 64 }
+    ensures { ((f : ℕ → Kind) → stepped (answer_of result) f ≡ step_push value (stack_of f n)) × Within (answer_of result) n }
 {
     if n < STACK_LIMIT {
-        KindStep::Put { place: n, kind }
+        Ok(Top { place: n, value })
     } else {
-        KindStep::No(9)
+        Err(Question::Stack)
     }
 }
 
 // An instruction on a stack of n.
+#[tactic(auto, unfolding(machine::specs::Machine::step))]
 pub fn vet_step(
     i: Instruction,
-    kinds: [u8; 16],
-    table: &[[u8; PAIRS]; OPERATORS],
-    stack: &[u8; 64],
+    kinds: [Kind; 16],
+    table: &KindTable,
+    stack: &[Kind; 64],
     n: usize,
-) -> KindStep
-    requires by_index { (literals : ℕ) × Allowed literals (instr_of i) }
-    requires codes { Codes kinds × (n ≤ 64) × Codes stack.now × Table table.now }
-    ensures { (stepped_in result stack ≡ step (kind_pushed (map kind_at kinds)) kind_apply (instr_of i) (kinds_in stack n)) × Within result n }
+) -> Result<Top<Kind>, Question>
+    requires { ((literals : ℕ) × Allowed literals (instr_of i)) × (n ≤ 64) }
+    ensures { (stepped_in (answer_of result) stack ≡ step (kind_pushed kinds) kind_apply (instr_of i) (kinds_in stack n))
+        × Within (answer_of result) n }
 {
     match i {
         Instruction::Op(op) => vet_op(op, table, stack, n),
-        Instruction::Bool(_) => vet_push(kind_code::BOOL, n),
-        Instruction::Int(_) => vet_push(kind_code::INT, n),
-        Instruction::Float(_) => vet_push(kind_code::FLOAT, n),
-        Instruction::List(_) => vet_push(kind_code::LIST, n),
+        Instruction::Bool(_) => vet_push(Kind::Bool, n),
+        Instruction::Int(_) => vet_push(Kind::Int, n),
+        Instruction::Float(_) => vet_push(Kind::Float, n),
+        Instruction::List(_) => vet_push(Kind::List, n),
         Instruction::Slot(s) => vet_push(kinds[s as usize], n),
-        Instruction::Void => vet_push(kind_code::VOID, n),
+        Instruction::Void => vet_push(Kind::Void, n),
     }
 }

@@ -1,4 +1,4 @@
 -- The laws of vetting.
-pub mod CodeTests
+pub mod Codes
 pub mod Written
 pub mod Asking

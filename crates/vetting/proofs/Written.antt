@@ -2,16 +2,14 @@
 use mathlib.Core.Path.{◌≡◌, refl, sym, ◌∙◌, ap, subst}
 use mathlib.Core.Bool.{Bool, true}
 use mathlib.Core.List.{List, [], ◌∷◌, map, ◌++◌}
-use Prim.Native.Nat.{ℕ, ◌+◌, ◌*◌, ◌≤◌, ◌<◌}
-use native.Mathlib.Nat.{zero-add}
-use native.Mathlib.Numerals.{add-one}
+use Prim.Native.Nat.{ℕ, ◌*◌, ◌≤◌}
 use native.Mathlib.Omega.{arith}
-use lib.ListN.{length, get_or, take, drop, set, get_or-append, length-append, length-drop}
-use lib.Seq.{ext_get_or, get_or-take, length-take-le, take-suc}
+use lib.ListN.{length, take, drop, get_or-append}
+use lib.Seq.{ext_get_or, get_or-take, length-take-le}
 use Rattle.ink_number.specs.Answer.{Answer, gives, refuses}
-use Rattle.slices.specs.Filled.{fill, over}
-use Rattle.slices.proofs.Filled.{fill_set}
-use Rattle.ink_value.specs.Val.{Val, Kind, kind_of, kind_at}
+use Rattle.slices.specs.Filled.{over}
+use Rattle.ink_value.specs.Val.{Val, kind_of, kind_at}
+use Rattle.ink_value.specs.declared.Kind.{Kind}
 use Rattle.pack.specs.Bodies.{Pack}
 use Rattle.pack.specs.Instruction.{Instr}
 use Rattle.pack.specs.Judge.{judge}
@@ -25,28 +23,6 @@ use Rattle.machine.proofs.Demand.{whole_length}
 use Rattle.machine.proofs.Whole.{demand3_whole}
 use Rattle.vetting.specs.Vet.{vet_memory, CountIs, forecast_after, Vets, VetsProgram}
 use Rattle.vet_program.specs.Ending.{verdict_of}
-use Rattle.vet_program.specs.declared.Vetted.{Vetted}
-use Rattle.vet_program.specs.declared.Vetted.TheVariants as Is
-
--- ---- one byte more
-
-from_start : (xs old : List ℕ) → fill 0 xs old ≡ over xs old
-unfolding fill
-from_start xs old = rw (zero-add (length xs))
-
-pub over_more : (bytes old : List ℕ) (i : ℕ) → i < length bytes → i < length old
-    → set (over (take i bytes) old) i (get_or bytes i 0) ≡ over (take (i + 1) bytes) old
-over_more bytes old i h l =
-    let n : length (take i bytes) ≡ i = length-take-le i bytes (omega arith) in
-    let z : 0 + length (take i bytes) ≡ i = omega arith in
-    ap (λ (xs : List ℕ). set xs i (get_or bytes i 0)) (sym (from_start (take i bytes) old))
-    ∙ ap (λ (k : ℕ). set (fill 0 (take i bytes) old) k (get_or bytes i 0)) (sym z)
-    ∙ fill_set 0 (take i bytes) old (get_or bytes i 0) 0 (omega arith)
-    ∙ from_start (take i bytes ++ (get_or bytes i 0 ∷ [])) old
-    ∙ ap (λ (xs : List ℕ). over xs old) (sym (take-suc bytes i 0 h) ∙ ap (λ (k : ℕ). take k bytes) (sym (add-one i)))
-
-pub length_over : (xs old : List ℕ) → length xs ≤ length old → length (over xs old) ≡ length old
-length_over xs old h = length-append xs (drop (length xs) old) ∙ omega (arith, length-drop (length xs) old)
 
 -- ---- the forecast
 
@@ -60,6 +36,10 @@ take_forecast bytes sts n h l b =
     let m : length (take (2 * n) bytes) ≡ 2 * n = length-take-le (2 * n) bytes l in
     ext_get_or 0 (take (2 * n) bytes) (forecast sts) (omega (arith, forecast_length sts))
     (λ k p. get_or-take (2 * n) bytes k 0 (omega arith) ∙ b k (omega arith))
+
+-- what is written of a forecast leaves the bytes beyond it
+pub forecast_long : (sts : List (List Kind)) (n : ℕ) (old : List ℕ) → length sts ≡ n → forecast sts ++ drop (2 * n) old ≡ over (forecast sts) old
+forecast_long sts n old h = ap (λ (k : ℕ). forecast sts ++ drop k old) (let e = forecast_length sts in omega (arith, e, h))
 
 begins_over : (sts : List (List Kind)) (old : List ℕ) → Begins (over (forecast sts) old) sts
 begins_over sts old k p = get_or-append (forecast sts) (drop (length (forecast sts)) old) 0 k (omega (arith, forecast_length sts))
@@ -103,7 +83,7 @@ module _ (F : Format) (p : List ℕ) (s : ℕ) (codes old : List ℕ) where
       ap (λ (ks : List Kind). verdict (sheet_vet F p s (vet_memory codes old) ks).end) q ∙ sym e in
       subst (λ (x : Verdict). Foretold (count_of (opened F p s (vet_memory codes old)) s) x f (sheet_run F p s ready slots)) e' t
 
-  answers : (v : Vetted) (new : List ℕ) → verdict_of v ≡ verdict vetted.end → CountIs v (count_of (opened F p s (vet_memory codes old)) s)
+  answers : (v : End ℕ) (new : List ℕ) → verdict_of v ≡ verdict vetted.end → CountIs v (count_of (opened F p s (vet_memory codes old)) s)
       → new ≡ forecast_after (verdict_of v) vetted.stacks old → Vets F p s codes v old new
   answers v new e c w =
       record {
@@ -116,11 +96,11 @@ module _ (F : Format) (p : List ℕ) (s : ℕ) (codes old : List ℕ) where
       }
 
   -- questions 1 to 7 stop it
-  pub stops : (n : ℕ) → opened F p s (vet_memory codes old) ≡ refuses n → Vets F p s codes (Is.Refused n 0) old old
-  stops n e = answers (Is.Refused n 0) old (sym (ap (λ (a : Answer Pack). verdict (started a (λ x. vet (sheet_of x s) (map kind_at codes))).end) e)) tt refl
+  pub stops : (q : ℕ) → opened F p s (vet_memory codes old) ≡ refuses q → Vets F p s codes (stopped q 0) old old
+  stops q e = answers (stopped q 0) old (sym (ap (λ (a : Answer Pack). verdict (started a (λ x. vet (sheet_of x s) (map kind_at codes))).end) e)) tt refl
 
   -- they let it through
-  pub goes : (d : Pack) (v : Vetted) (new : List ℕ) → opened F p s (vet_memory codes old) ≡ gives d → VetsProgram (sheet_of d s) codes v old new
+  pub goes : (d : Pack) (v : End ℕ) (new : List ℕ) → opened F p s (vet_memory codes old) ≡ gives d → VetsProgram (sheet_of d s) (map kind_at codes) v old new
       → Vets F p s codes v old new
   goes d v new e w = answers v new (w.right ∙ sym (ap (λ (a : Answer Pack). verdict (started a (λ x. vet (sheet_of x s) (map kind_at codes))).end) e))
       (subst (λ (a : Answer Pack). CountIs v (count_of a s)) (sym e) w.counted)

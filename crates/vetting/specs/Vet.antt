@@ -2,17 +2,16 @@
 use Rattle.std.specs.Prelude.{◌≡◌, Bool, true, List, [], ◌∷◌, map, ℕ, ◌*◌, leb, length}
 use Rattle.slices.specs.Every.{◌and◌}
 use Rattle.slices.specs.Filled.{over}
-use Rattle.ink_value.specs.Val.{Val, Kind, kind_of, kind_at}
+use Rattle.ink_value.specs.Val.{Val, kind_of, kind_at}
+use Rattle.ink_value.specs.declared.Kind.{Kind}
 use Rattle.pack.specs.Bodies.{Pack}
 use Rattle.pack.specs.Instruction.{Instr}
 use Rattle.pack.specs.Format.{instruction_limit}
 use Rattle.pack.specs.declared.format.Format.{Format}
-use Rattle.machine.specs.Machine.{vet}
+use Rattle.machine.specs.Machine.{End, ended, stopped, vet}
 use Rattle.machine.specs.Whole.{opened, Suffices, count_of, sheet_run, sheet_vet}
 use Rattle.machine.specs.Foretold.{Verdict, passed, turned, verdict, forecast, Foretold}
 use Rattle.vet_program.specs.Ending.{verdict_of}
-use Rattle.vet_program.specs.declared.Vetted.{Vetted}
-use Rattle.vet_program.specs.declared.Vetted.TheVariants as Vet
 
 -- ---- question 7
 
@@ -32,9 +31,9 @@ vet_memory codes f d = all_codes codes and leb forecast_limit (length f)
 -- ---- the answer
 
 -- where it passed, the count of instructions
-abbrev pub CountIs : Vetted → ℕ → Type 0
-CountIs (Vet.Passed n) m = n ≡ m
-CountIs (Vet.Refused r k) m = Unit {0}
+abbrev pub CountIs : End ℕ → ℕ → Type 0
+CountIs (ended n) m = n ≡ m
+CountIs (stopped r k) m = Unit {0}
 
 -- "Passed vetting writes two bytes for each instruction, count and top kind, and changes no byte beyond"; "A refusal leaves .. forecast
 -- slices unchanged"
@@ -43,7 +42,7 @@ forecast_after passed sts old = over (forecast sts) old
 forecast_after (turned r k) sts old = old
 
 -- vetting's answer v, and what it leaves in the forecast slice
-pub record Vets (F : Format) (p : List ℕ) (s : ℕ) (codes : List ℕ) (v : Vetted) (old new : List ℕ) : Type 0 where
+pub record Vets (F : Format) (p : List ℕ) (s : ℕ) (codes : List ℕ) (v : End ℕ) (old new : List ℕ) : Type 0 where
   pub right : verdict_of v ≡ verdict (sheet_vet F p s (vet_memory codes old) (map kind_at codes)).end
   pub counted : CountIs v (count_of (opened F p s (vet_memory codes old)) s)
   pub written : new ≡ forecast_after (verdict_of v) (sheet_vet F p s (vet_memory codes old) (map kind_at codes)).stacks old
@@ -55,7 +54,7 @@ pub record Vets (F : Format) (p : List ℕ) (s : ℕ) (codes : List ℕ) (v : Ve
 -- ---- the parts
 
 -- the answer of a program that question 7 let through, and what it leaves in the forecast slice
-pub record VetsProgram (program : List Instr) (codes : List ℕ) (v : Vetted) (old new : List ℕ) : Type 0 where
-  pub right : verdict_of v ≡ verdict (vet program (map kind_at codes)).end
+pub record VetsProgram (program : List Instr) (kinds : List Kind) (v : End ℕ) (old new : List ℕ) : Type 0 where
+  pub right : verdict_of v ≡ verdict (vet program kinds).end
   pub counted : CountIs v (length program)
-  pub written : new ≡ forecast_after (verdict_of v) (vet program (map kind_at codes)).stacks old
+  pub written : new ≡ forecast_after (verdict_of v) (vet program kinds).stacks old

@@ -1,38 +1,42 @@
 -- Operands in their words: the parts are the value's, and so is the kind. Assumes nothing.
 use mathlib.Core.Path.{◌≡◌, refl, sym, ap, ◌∙◌, subst}
-use mathlib.Core.Bool.{Bool, true, false, cond}
+use mathlib.Core.Bool.{Bool, true, false, cond, ◌||◌, ◌&&◌}
 use mathlib.Core.List.{List, [], ◌∷◌, map}
 use Prim.Native.Nat.{ℕ, zero, suc, ◌+◌, ◌*◌, ◌/◌, ◌%◌, ◌^◌, ◌<◌, ◌≤◌}
 use native.Mathlib.Omega.{arith}
-use lib.Dec.{eqb, ltb}
+use lib.Dec.{eqb, ltb, leb}
 use lib.IntN.{ℤ}
 use lib.Ieee.{Float}
 use lib.ListN.{get_or, take}
-use borrow.Author.Tests.{lt-ltb, eqb-true, ltb-true, ltb-false, le-ltb, eq-eqb, ne_eqb}
+use borrow.Author.Tests.{lt-ltb, eqb-true, ltb-true, eq-eqb, ne_eqb}
+use Rattle.std.specs.Prelude.{Option, Some, None, Result, Ok, Err}
+use Rattle.std.specs.Result.{result_ok}
+use Rattle.std.proofs.lemmas.Option.{same_Some}
+use Rattle.ink_number.specs.Question.{answer, number}
+use Rattle.ink_number.specs.declared.question.Question.{Question}
 use Rattle.ink_number.specs.Int.{signed}
 use Rattle.binary32.specs.Real.{of_bits32}
 use Rattle.ink_number.specs.Answer.{gives, refuses}
 use Rattle.ink_value.specs.Convert.{bit_z}
-use Rattle.ink_value.specs.Val.{Kind, kind_of, kind_at, code_of}
-use Rattle.ink_value.specs.Value.{val_of, code_of_value}
+use Rattle.ink_value.specs.Val.{kind_of, kind_at, code_of, is_list}
+use Rattle.ink_value.specs.declared.Kind.{Kind}
+use Rattle.ink_value.specs.declared.Kind.TheVariants as K
+use Rattle.ink_value.specs.Value.{val_of, kind_in}
 use Rattle.ink_value.proofs.Parts.{Parts}
 use Rattle.ink_value.specs.declared.Value.{Value}
 use Rattle.ink_value.specs.declared.Value.TheVariants as Is
 use Rattle.slices.proofs.Lists.{ap2, ap3, map_take}
-use Rattle.ink_value.proofs.Reading.{code_in}
-use Rattle.words_in.specs.Words.{unheld, bool_at, int_at, float_at, void_at, plain_at, value_of, value_at, code_at}
-use Rattle.operator_kinds.specs.Kinds.{kind_call, kind_entry, operand_count, decoded, KindsGiven}
-use Rattle.operator_kinds.proofs.Counting.{decoded_kind, decoded_no, code_at_lem, above_all, none_taken, miscounted, entry_count_lem, entry_given, range_three}
-use Rattle.word_kinds.specs.Operands.{code_of_answer, number_kind, Held, OfNumbers, vals_at}
+use Rattle.ink_value.proofs.Reading.{kind_in_lem}
+use Rattle.words_in.specs.Words.{unheld, bool_at, int_at, float_at, void_at, plain_at, value_of, value_at}
+use Rattle.operator_kinds.specs.Kinds.{is_void, common, available, result_kind, known, unary, arity, kind_unary, kind_binary, kind_call, kind_entry, operand_count, KindsGiven}
+use Rattle.operator_kinds.proofs.Counting.{takes, none_taken, miscounted, below_range, entry_given}
+use Rattle.word_kinds.specs.Operands.{kind_word, is_number, numbers, kind_given, number_kind, Held, OfNumbers, NumberKind, vals_at}
 
 -- ---- the parts of a value that is held
 
 -- a value's words, that are not those of none
 module _ (w : ℕ) where
-  abbrev code : ℕ → ℕ
-  code k = cond (ltb k 5) k 4
-
-  bool_parts : (bool_at w ≡ unheld → ⊥) → Parts (bool_at w) 0 (signed (w % 2 ^ 32)) (of_bits32 (w % 2 ^ 32)) 0 0
+  bool_parts : (bool_at w ≡ unheld → ⊥) → Parts (bool_at w) K.Bool (signed (w % 2 ^ 32)) (of_bits32 (w % 2 ^ 32)) 0 0
   unfolding bool_at signed
   bool_parts h = go (ltb w 2) refl h
     where
@@ -41,204 +45,301 @@ module _ (w : ℕ) where
       bit (suc zero) l = refl
       bit (suc (suc n)) l = absurd (omega arith)
 
-      go : (t : Bool) → ltb w 2 ≡ t → (cond t (Is.Bool (eqb w 1)) unheld ≡ unheld → ⊥) → Parts (cond t (Is.Bool (eqb w 1)) unheld) 0 (signed (w % 2 ^ 32)) (of_bits32 (w % 2 ^ 32)) 0 0
+      go : (t : Bool) → ltb w 2 ≡ t → (cond t (Is.Bool (eqb w 1)) unheld ≡ unheld → ⊥) → Parts (cond t (Is.Bool (eqb w 1)) unheld) K.Bool (signed (w % 2 ^ 32)) (of_bits32 (w % 2 ^ 32)) 0 0
       go true e g = record { kind_is = refl; holds = bit w (ltb-true w 2 e); start_is = refl; len_is = refl }
       go false e g = absurd (g refl)
 
   small : w < 2 ^ 32 → w % 2 ^ 32 ≡ w
   small l = omega arith
 
-  int_parts : (int_at w ≡ unheld → ⊥) → Parts (int_at w) 1 (signed (w % 2 ^ 32)) (of_bits32 (w % 2 ^ 32)) 0 0
+  int_parts : (int_at w ≡ unheld → ⊥) → Parts (int_at w) K.Int (signed (w % 2 ^ 32)) (of_bits32 (w % 2 ^ 32)) 0 0
   unfolding int_at
   int_parts h = go (ltb w (2 ^ 32)) refl h
     where
-      go : (t : Bool) → ltb w (2 ^ 32) ≡ t → (cond t (Is.Int (signed w)) unheld ≡ unheld → ⊥) → Parts (cond t (Is.Int (signed w)) unheld) 1 (signed (w % 2 ^ 32)) (of_bits32 (w % 2 ^ 32)) 0 0
+      go : (t : Bool) → ltb w (2 ^ 32) ≡ t → (cond t (Is.Int (signed w)) unheld ≡ unheld → ⊥) → Parts (cond t (Is.Int (signed w)) unheld) K.Int (signed (w % 2 ^ 32)) (of_bits32 (w % 2 ^ 32)) 0 0
       go true e g = record { kind_is = refl; holds = ap signed (small (ltb-true w (2 ^ 32) e)); start_is = refl; len_is = refl }
       go false e g = absurd (g refl)
 
-  float_parts : (float_at w ≡ unheld → ⊥) → Parts (float_at w) 2 (signed (w % 2 ^ 32)) (of_bits32 (w % 2 ^ 32)) 0 0
+  float_parts : (float_at w ≡ unheld → ⊥) → Parts (float_at w) K.Float (signed (w % 2 ^ 32)) (of_bits32 (w % 2 ^ 32)) 0 0
   unfolding float_at
   float_parts h = go (ltb w (2 ^ 32)) refl h
     where
-      go : (t : Bool) → ltb w (2 ^ 32) ≡ t → (cond t (Is.Float (of_bits32 w)) unheld ≡ unheld → ⊥) → Parts (cond t (Is.Float (of_bits32 w)) unheld) 2 (signed (w % 2 ^ 32)) (of_bits32 (w % 2 ^ 32)) 0 0
+      go : (t : Bool) → ltb w (2 ^ 32) ≡ t → (cond t (Is.Float (of_bits32 w)) unheld ≡ unheld → ⊥) → Parts (cond t (Is.Float (of_bits32 w)) unheld) K.Float (signed (w % 2 ^ 32)) (of_bits32 (w % 2 ^ 32)) 0 0
       go true e g = record { kind_is = refl; holds = ap of_bits32 (small (ltb-true w (2 ^ 32) e)); start_is = refl; len_is = refl }
       go false e g = absurd (g refl)
 
-  void_parts : (void_at w ≡ unheld → ⊥) → Parts (void_at w) 4 (signed (w % 2 ^ 32)) (of_bits32 (w % 2 ^ 32)) 0 0
+  void_parts : (void_at w ≡ unheld → ⊥) → Parts (void_at w) K.Void (signed (w % 2 ^ 32)) (of_bits32 (w % 2 ^ 32)) 0 0
   unfolding void_at
   void_parts h = go (eqb w 0) h
     where
-      go : (t : Bool) → (cond t Is.Void unheld ≡ unheld → ⊥) → Parts (cond t Is.Void unheld) 4 (signed (w % 2 ^ 32)) (of_bits32 (w % 2 ^ 32)) 0 0
+      go : (t : Bool) → (cond t Is.Void unheld ≡ unheld → ⊥) → Parts (cond t Is.Void unheld) K.Void (signed (w % 2 ^ 32)) (of_bits32 (w % 2 ^ 32)) 0 0
       go true g = record { kind_is = refl; holds = tt; start_is = refl; len_is = refl }
       go false g = absurd (g refl)
 
-  at_code : (k j : ℕ) {v : Value} {z : ℤ} {x : Float} {s n : ℕ} → k ≡ j → j < 5 → Parts v j z x s n → Parts v (code k) z x s n
-  at_code k j e l p = rw (e, lt-ltb j 5 l) p
+  at_code : (k j : ℕ) {v : Value} {z : ℤ} {x : Float} {s n : ℕ} → k ≡ j → Parts v (kind_at j) z x s n → Parts v (kind_at k) z x s n
+  at_code k j e p = rw e p
 
-  plain_parts : (k : ℕ) → (plain_at k w ≡ unheld → ⊥) → Parts (plain_at k w) (code k) (signed (w % 2 ^ 32)) (of_bits32 (w % 2 ^ 32)) 0 0
+  plain_parts : (k : ℕ) → (plain_at k w ≡ unheld → ⊥) → Parts (plain_at k w) (kind_at k) (signed (w % 2 ^ 32)) (of_bits32 (w % 2 ^ 32)) 0 0
   unfolding plain_at
   plain_parts k h = go (eqb k 0) (eqb k 1) (eqb k 2) (eqb k 4) refl refl refl refl h
     where
       go : (a b c d : Bool) → eqb k 0 ≡ a → eqb k 1 ≡ b → eqb k 2 ≡ c → eqb k 4 ≡ d
           → (cond a (bool_at w) (cond b (int_at w) (cond c (float_at w) (cond d (void_at w) unheld))) ≡ unheld → ⊥)
-          → Parts (cond a (bool_at w) (cond b (int_at w) (cond c (float_at w) (cond d (void_at w) unheld)))) (code k) (signed (w % 2 ^ 32)) (of_bits32 (w % 2 ^ 32)) 0 0
-      go true b c d ea eb ec ed g = at_code k 0 (eqb-true k 0 ea) (omega arith) (bool_parts g)
-      go false true c d ea eb ec ed g = at_code k 1 (eqb-true k 1 eb) (omega arith) (int_parts g)
-      go false false true d ea eb ec ed g = at_code k 2 (eqb-true k 2 ec) (omega arith) (float_parts g)
-      go false false false true ea eb ec ed g = at_code k 4 (eqb-true k 4 ed) (omega arith) (void_parts g)
+          → Parts (cond a (bool_at w) (cond b (int_at w) (cond c (float_at w) (cond d (void_at w) unheld)))) (kind_at k) (signed (w % 2 ^ 32)) (of_bits32 (w % 2 ^ 32)) 0 0
+      go true b c d ea eb ec ed g = at_code k 0 (eqb-true k 0 ea) (bool_parts g)
+      go false true c d ea eb ec ed g = at_code k 1 (eqb-true k 1 eb) (int_parts g)
+      go false false true d ea eb ec ed g = at_code k 2 (eqb-true k 2 ec) (float_parts g)
+      go false false false true ea eb ec ed g = at_code k 4 (eqb-true k 4 ed) (void_parts g)
       go false false false false ea eb ec ed g = absurd (g refl)
 
   pub word_parts : (k place : ℕ) → (value_of k w place ≡ unheld → ⊥)
-      → Parts (value_of k w place) (code k) (signed (w % 2 ^ 32)) (of_bits32 (w % 2 ^ 32)) (place % 2 ^ 32) (place / 2 ^ 32)
+      → Parts (value_of k w place) (kind_at k) (signed (w % 2 ^ 32)) (of_bits32 (w % 2 ^ 32)) (place % 2 ^ 32) (place / 2 ^ 32)
   unfolding value_of
   word_parts k place h = go (eqb k 3) (eqb place 0) refl refl h
     where
       go : (a b : Bool) → eqb k 3 ≡ a → eqb place 0 ≡ b
           → (cond a (Is.List w (place % 2 ^ 32) (place / 2 ^ 32)) (cond b (plain_at k w) unheld) ≡ unheld → ⊥)
-          → Parts (cond a (Is.List w (place % 2 ^ 32) (place / 2 ^ 32)) (cond b (plain_at k w) unheld)) (code k) (signed (w % 2 ^ 32)) (of_bits32 (w % 2 ^ 32)) (place % 2 ^ 32) (place / 2 ^ 32)
-      go true b ea eb g = at_code k 3 (eqb-true k 3 ea) (omega arith) (record { kind_is = refl; holds = tt; start_is = refl; len_is = refl })
+          → Parts (cond a (Is.List w (place % 2 ^ 32) (place / 2 ^ 32)) (cond b (plain_at k w) unheld)) (kind_at k) (signed (w % 2 ^ 32)) (of_bits32 (w % 2 ^ 32)) (place % 2 ^ 32) (place / 2 ^ 32)
+      go true b ea eb g = at_code k 3 (eqb-true k 3 ea) (record { kind_is = refl; holds = tt; start_is = refl; len_is = refl })
       go false true ea eb g =
-          subst (λ (p : ℕ). Parts (plain_at k w) (code k) (signed (w % 2 ^ 32)) (of_bits32 (w % 2 ^ 32)) (p % 2 ^ 32) (p / 2 ^ 32)) (sym (eqb-true place 0 eb)) (plain_parts k g)
+          subst (λ (p : ℕ). Parts (plain_at k w) (kind_at k) (signed (w % 2 ^ 32)) (of_bits32 (w % 2 ^ 32)) (p % 2 ^ 32) (p / 2 ^ 32)) (sym (eqb-true place 0 eb)) (plain_parts k g)
       go false false ea eb g = absurd (g refl)
 
 -- ---- kinds
 
 -- what the code asks
-pub both_numbers : (n a b : ℕ) → true ≡ cond (ltb a 3) (cond (ltb n 2) true (ltb b 3)) false → (a < 3) × (n ≡ 2 → b < 3)
-both_numbers n a b e = go (ltb a 3) (ltb n 2) (ltb b 3) refl refl refl e
+pub number_is : (k : Kind) → is_number k ≡ true → code_of k < 3
+number_is k e = ltb-true (code_of k) 3 e
+
+pub both_numbers : (n : ℕ) (a b : Kind) → numbers n a b ≡ true → (1 ≤ n) × (n ≤ 2) × (code_of a < 3) × (n ≡ 2 → code_of b < 3)
+both_numbers n a b e = go (eqb n 1) (eqb n 2) (is_number a) (is_number b) refl refl refl refl e
   where
-    go : (p q r : Bool) → ltb a 3 ≡ p → ltb n 2 ≡ q → ltb b 3 ≡ r → true ≡ cond p (cond q true r) false → (a < 3) × (n ≡ 2 → b < 3)
-    go true true r ep eq er h = (ltb-true a 3 ep, λ t. let k = ltb-true n 2 eq in absurd (omega arith))
-    go true false true ep eq er h = (ltb-true a 3 ep, λ t. ltb-true b 3 er)
-    go true false false ep eq er h = let z : ◌≡◌ {A = ℕ} 0 1 = cc in absurd (omega arith)
-    go false q r ep eq er h = let z : ◌≡◌ {A = ℕ} 0 1 = cc in absurd (omega arith)
+    go : (p q r s : Bool) → eqb n 1 ≡ p → eqb n 2 ≡ q → is_number a ≡ r → is_number b ≡ s → cond p r (cond q (r && s) false) ≡ true
+        → (1 ≤ n) × (n ≤ 2) × (code_of a < 3) × (n ≡ 2 → code_of b < 3)
+    go true q true s ep eq er es h = let o = eqb-true n 1 ep in (omega arith, omega arith, number_is a er, λ t. absurd (omega arith))
+    go false true true true ep eq er es h = let o = eqb-true n 2 eq in (omega arith, omega arith, number_is a er, λ t. number_is b es)
+    go true q false s ep eq er es h = let z : ◌≡◌ {A = ℕ} 0 1 = cc in absurd (omega arith)
+    go false true true false ep eq er es h = let z : ◌≡◌ {A = ℕ} 0 1 = cc in absurd (omega arith)
+    go false true false s ep eq er es h = let z : ◌≡◌ {A = ℕ} 0 1 = cc in absurd (omega arith)
+    go false false r s ep eq er es h = let z : ◌≡◌ {A = ℕ} 0 1 = cc in absurd (omega arith)
+
+numbers_both : (n : ℕ) (a b : Kind) → 1 ≤ n → n ≤ 2 → code_of a < 3 → (n ≡ 2 → code_of b < 3) → numbers n a b ≡ true
+numbers_both zero a b h l f g = absurd (omega arith)
+numbers_both (suc zero) a b h l f g = lt-ltb (code_of a) 3 f
+numbers_both (suc (suc zero)) a b h l f g = rw (lt-ltb (code_of a) 3 f, lt-ltb (code_of b) 3 (g refl))
+numbers_both (suc (suc (suc n))) a b h l f g = absurd (omega arith)
 
 -- words that are a value's have the code of its kind
-held_code : (ws : List ℕ) (k : ℕ) → (value_at ws k ≡ unheld → ⊥) → code_at ws k ≡ code_of_value (value_at ws k)
-held_code ws k h = (word_parts (get_or ws (3 * k + 1) 0) (get_or ws (3 * k) 0) (get_or ws (3 * k + 2) 0) h).kind_is
+held_kind : (ws : List ℕ) (k : ℕ) → (value_at ws k ≡ unheld → ⊥) → kind_word ws k ≡ kind_in (value_at ws k)
+held_kind ws k h = (word_parts (get_or ws (3 * k + 1) 0) (get_or ws (3 * k) 0) (get_or ws (3 * k + 2) 0) h).kind_is
 
 -- so the kinds of the first n operands are those in their words
 module _ (is : List ℕ) (vs : List ℤ) (ws : List ℕ) where
-  kind_at_lem : (k : ℕ) → (value_at ws k ≡ unheld → ⊥) → kind_of (val_of is vs (value_at ws k)) ≡ kind_at (code_at ws k)
-  kind_at_lem k h = sym (code_in is vs (value_at ws k)) ∙ ap kind_at (sym (held_code ws k h))
+  kind_at_lem : (k : ℕ) → (value_at ws k ≡ unheld → ⊥) → kind_of (val_of is vs (value_at ws k)) ≡ kind_word ws k
+  kind_at_lem k h = sym (held_kind ws k h ∙ kind_in_lem is vs (value_at ws k))
 
-  pub kinds_at : (n : ℕ) → Held ws n → map kind_of (take n (vals_at is vs ws)) ≡ take n (kind_at (code_at ws 0) ∷ kind_at (code_at ws 1) ∷ kind_at (code_at ws 2) ∷ [])
+  pub kinds_at : (n : ℕ) → Held ws n → map kind_of (take n (vals_at is vs ws)) ≡ take n (kind_word ws 0 ∷ kind_word ws 1 ∷ kind_word ws 2 ∷ [])
   kinds_at n h = map_take kind_of n (vals_at is vs ws) ∙ go n h
     where
-      go : (n : ℕ) → Held ws n → take n (map kind_of (vals_at is vs ws)) ≡ take n (kind_at (code_at ws 0) ∷ kind_at (code_at ws 1) ∷ kind_at (code_at ws 2) ∷ [])
+      go : (n : ℕ) → Held ws n → take n (map kind_of (vals_at is vs ws)) ≡ take n (kind_word ws 0 ∷ kind_word ws 1 ∷ kind_word ws 2 ∷ [])
       go zero h = refl
       go (suc zero) h = ap (λ (a : Kind). a ∷ []) (kind_at_lem 0 (h.one (omega arith)))
       go (suc (suc zero)) h = ap2 (λ (a b : Kind). a ∷ b ∷ []) (kind_at_lem 0 (h.one (omega arith))) (kind_at_lem 1 (h.two (omega arith)))
       go (suc (suc (suc n))) h =
           ap3 (λ (a b c : Kind). take (suc (suc (suc n))) (a ∷ b ∷ c ∷ [])) (kind_at_lem 0 (h.one (omega arith))) (kind_at_lem 1 (h.two (omega arith))) (kind_at_lem 2 (h.three (omega arith)))
 
--- an operator's answer on the codes of one number or two is its answer on the numbers
-pub of_numbers : (ws : List ℕ) (o n r : ℕ) → Held ws n → operand_count o ≡ n → o < 31
-    → true ≡ cond (ltb (code_at ws 0) 3) (cond (ltb n 2) true (ltb (code_at ws 1) 3)) false
-    → decoded r ≡ kind_entry o (kind_at (code_at ws 0)) (kind_at (code_at ws 1)) → r < 3 → OfNumbers ws o n r
-of_numbers ws o n r h e l t q d =
-    let b = both_numbers n (code_at ws 0) (code_at ws 1) t in
-    let w = entry_count_lem o (kind_at (code_at ws 0)) (kind_at (code_at ws 1)) (kind_at (code_at ws 2)) n r e l (omega arith) q in
-    let g = entry_given o (kind_at (code_at ws 0)) (kind_at (code_at ws 1)) (kind_at (code_at ws 2)) n r e w.0 w.1 q in
-    let few : n ≤ 2 = omega (arith, w.1, g.counted (omega arith)) in
-    let left : code_of_value (value_at ws 0) < 3 = omega (arith, held_code ws 0 (h.one w.0), b.0) in
-    let right : n ≡ 2 → code_of_value (value_at ws 1) < 3 = λ two. omega (arith, held_code ws 1 (h.two (omega arith)), b.1 two) in
+-- ---- an operator on numbers gives a number
+
+few_cond : (t : Bool) (a b : Kind) → code_of a < 3 → (t ≡ false → code_of b < 3) → code_of (cond t a b) < 3
+few_cond true a b h g = h
+few_cond false a b h g = g refl
+
+module _ (o : ℕ) (k : Kind) (few : code_of k < 3) (e : leb o 16 || (leb 18 o && leb o 21) ≡ true) where
+  -- what gives a List is not available for numbers
+  no_list : leb o 5 || (leb 15 o && leb o 16) || (leb 18 o && leb o 19) ≡ false → eqb o 12 ≡ false → leb o 14 || (leb 22 o && leb o 23) ≡ false
+      → eqb o 20 || (leb 28 o && leb o 29) ≡ false → eqb o 21 ≡ false → ⊥
+  no_list a b c d f = grind arith
+
+  result_few : code_of (cond (leb o 5 || (leb 15 o && leb o 16) || (leb 18 o && leb o 19)) k
+      (cond (eqb o 12) K.Bool
+      (cond (leb o 14 || (leb 22 o && leb o 23)) K.Bool
+      (cond (eqb o 20 || (leb 28 o && leb o 29)) K.Int
+      (cond (eqb o 21) K.Float K.List))))) < 3
+  result_few =
+      few_cond _ _ _ few (λ a.
+      few_cond _ _ _ (omega arith) (λ b.
+      few_cond _ _ _ (omega arith) (λ c.
+      few_cond _ _ _ (omega arith) (λ d.
+      few_cond _ _ _ (omega arith) (λ f. absurd (no_list a b c d f))))))
+
+result_number : (o : ℕ) (k : Kind) → code_of k < 3 → available o k ≡ true → code_of (result_kind o k) < 3
+result_number o K.Bool h e = result_few o K.Bool h e
+result_number o K.Int h e = result_few o K.Int h e
+result_number o K.Float h e = result_few o K.Float h e
+result_number o K.List h e = absurd (omega (arith, h))
+result_number o K.Void h e = absurd (omega (arith, h))
+
+-- the common kind of numbers is a number's
+common_number : (a b : Kind) → code_of a < 3 → code_of b < 3 → code_of (common a b) < 3
+common_number K.Bool K.Bool h g = omega arith
+common_number K.Bool K.Int h g = omega arith
+common_number K.Bool K.Float h g = omega arith
+common_number K.Int K.Bool h g = omega arith
+common_number K.Int K.Int h g = omega arith
+common_number K.Int K.Float h g = omega arith
+common_number K.Float K.Bool h g = omega arith
+common_number K.Float K.Int h g = omega arith
+common_number K.Float K.Float h g = omega arith
+common_number K.List b h g = absurd (omega (arith, h))
+common_number K.Void b h g = absurd (omega (arith, h))
+common_number a K.List h g = absurd (omega (arith, g))
+common_number a K.Void h g = absurd (omega (arith, g))
+
+no_void : (k : Kind) → code_of k < 3 → is_void k ≡ false
+no_void K.Bool h = refl
+no_void K.Int h = refl
+no_void K.Float h = refl
+no_void K.List h = refl
+no_void K.Void h = absurd (omega (arith, h))
+
+no_entries : (k : Kind) → code_of k < 3 → is_list k ≡ false
+no_entries K.Bool h = refl
+no_entries K.Int h = refl
+no_entries K.Float h = refl
+no_entries K.List h = absurd (omega (arith, h))
+no_entries K.Void h = refl
+
+same_gives : {j k : Kind} → gives j ≡ gives k → j ≡ k
+same_gives e = cc
+
+-- so an answer that is a kind is a number's
+entry_number : (o : ℕ) (a b k : Kind) → code_of a < 3 → (unary o ≡ false → code_of b < 3) → gives k ≡ kind_entry o a b → code_of k < 3
+unfolding kind_entry kind_unary kind_binary
+entry_number o a b k h g e = go (known o) (unary o) refl e
+  where
+    asked : (c : Kind) (t : Bool) → available o c ≡ t → code_of c < 3 → gives k ≡ cond t (gives (result_kind o c)) (refuses 13) → code_of k < 3
+    asked c true w l q = subst (λ (j : Kind). code_of j < 3) (sym (same_gives q)) (result_number o c l w)
+    asked c false w l q = let z : ◌≡◌ {A = ℕ} 0 1 = cc in absurd (omega arith)
+
+    go : (s t : Bool) → unary o ≡ t → gives k ≡ cond s (cond t (kind_unary o a) (kind_binary o a b)) (refuses 8) → code_of k < 3
+    go true true w q = asked (common a a) (available o (common a a)) refl (common_number a a h h) (rw (no_void a h) at q)
+    go true false w q = let l = g w in asked (common a b) (available o (common a b)) refl (common_number a b h l) (rw (no_void a h, no_void b l, no_entries a h, no_entries b l) at q)
+    go false t w q = let z : ◌≡◌ {A = ℕ} 0 1 = cc in absurd (omega arith)
+
+-- an operator that takes two
+two_counted : (o n : ℕ) → operand_count o ≡ n → 1 ≤ n → n ≤ 2 → unary o ≡ false → n ≡ 2
+unfolding arity
+two_counted o n e h l u = go (eqb o 31) (takes o n h e).arity_is
+  where
+    go : (t : Bool) → cond {A = ℕ} (unary o) 1 (cond t 3 2) ≡ n → n ≡ 2
+    go true q = let p = rw u at q in absurd (omega arith)
+    go false q = let p = rw u at q in omega arith
+
+-- ---- such a result
+
+-- an operator's answer on the kinds of one number or two is its answer on the numbers
+pub of_numbers : (ws : List ℕ) (o n : ℕ) (k : Kind) → Held ws n → operand_count o ≡ n → numbers n (kind_word ws 0) (kind_word ws 1) ≡ true
+    → gives k ≡ kind_entry o (kind_word ws 0) (kind_word ws 1) → OfNumbers ws o n k
+of_numbers ws o n k h e t q =
+    let b = both_numbers n (kind_word ws 0) (kind_word ws 1) t in
+    let g = entry_given o (kind_word ws 0) (kind_word ws 1) (kind_word ws 2) n (gives k) e b.0 (λ t. omega (arith, b.1)) q in
     record {
-      some = w.0;
-      few = few;
-      left = left;
-      right = right;
-      small = d;
-      answered = λ is vs. ap (kind_call o n) (kinds_at is vs ws n h) ∙ sym g.answered ∙ decoded_kind r (omega arith);
+      some = b.0;
+      few = b.1;
+      left = rw (held_kind ws 0 (h.one b.0)) at b.2;
+      right = λ two. rw (held_kind ws 1 (h.two (omega arith))) at (b.3 two);
+      small = entry_number o (kind_word ws 0) (kind_word ws 1) k b.2 (λ u. b.3 (two_counted o n e b.0 b.1 u)) q;
+      answered = λ is vs. ap (kind_call o n) (kinds_at is vs ws n h) ∙ sym g.answered;
     }
 
 -- ---- where there is no such result
 
--- an operator that refuses, or that gives what is no number
-refuses_none : (ws : List ℕ) (o n : ℕ) (q : ℕ) → 4 < q → ((is : List ℕ) (vs : List ℤ) → KindsGiven o n (map kind_of (take n (vals_at is vs ws))) q)
-    → (kind : ℕ) → ((is : List ℕ) (vs : List ℤ) → kind_call o n (map kind_of (take n (vals_at is vs ws))) ≡ gives (kind_at kind)) → ⊥
-refuses_none ws o n q l g kind a =
-    let e = sym (decoded_no q l) ∙ (g [] []).answered ∙ a [] [] in
+-- an operator that refuses
+refuses_none : (ws : List ℕ) (o n : ℕ) (q : ℕ) → ((is : List ℕ) (vs : List ℤ) → KindsGiven o n (map kind_of (take n (vals_at is vs ws))) (refuses q))
+    → (kind : Kind) → ((is : List ℕ) (vs : List ℤ) → kind_call o n (map kind_of (take n (vals_at is vs ws))) ≡ gives kind) → ⊥
+refuses_none ws o n q g kind a =
+    let e = (g [] []).answered ∙ a [] [] in
     let z : ◌≡◌ {A = ℕ} 0 1 = cc in
     omega arith
 
-gives_none : (r kind : ℕ) → 3 ≤ r → r < 5 → kind < 3 → decoded r ≡ gives (kind_at kind) → ⊥
-gives_none r kind h l m e =
-    let k : kind_at r ≡ kind_at kind = let f = sym (decoded_kind r l) ∙ e in cc in
-    let c : r ≡ kind = sym (code_at_lem r l) ∙ ap code_of k ∙ code_at_lem kind (omega arith) in
+pub other_count : (ws : List ℕ) (o n c : ℕ) → operand_count o ≡ c → (c ≡ n → ⊥) → (kind : Kind) → OfNumbers ws o n kind → ⊥
+other_count ws o n zero e ne kind m = refuses_none ws o n 8 (λ is vs. none_taken o n _ e) kind m.answered
+other_count ws o n (suc c) e ne kind m = refuses_none ws o n 10 (λ is vs. miscounted o (suc c) n _ e (λ q. omega arith) ne) kind m.answered
+
+-- an operator above Invert takes three operands or none
+pub no_number_above : (ws : List ℕ) (o n : ℕ) (kind : Kind) → ((is : List ℕ) (vs : List ℤ) → kind_call o n (map kind_of (take n (vals_at is vs ws))) ≡ gives kind) → 30 < o → n ≤ 2 → ⊥
+no_number_above ws o n kind a h few = go (operand_count o) refl
+  where
+    go : (c : ℕ) → operand_count o ≡ c → ⊥
+    go zero e = refuses_none ws o n 8 (λ is vs. none_taken o n _ e) kind a
+    go (suc c) e =
+        refuses_none ws o n 10
+        (λ is vs. miscounted o (suc c) n _ e (λ q. omega arith)
+        (λ q. let z = below_range o (suc c) e (omega arith) (λ t. omega (arith, q, t, few)) in omega (arith, z, h)))
+        kind a
+
+pub no_numbers : (ws : List ℕ) (o n : ℕ) → Held ws n → numbers n (kind_word ws 0) (kind_word ws 1) ≡ false → (kind : Kind) → OfNumbers ws o n kind → ⊥
+no_numbers ws o n h f kind m =
+    let t = numbers_both n (kind_word ws 0) (kind_word ws 1) m.some m.few (rw (held_kind ws 0 (h.one m.some)) m.left) (λ two. rw (held_kind ws 1 (h.two (omega arith))) (m.right two)) in
+    let z : ◌≡◌ {A = ℕ} 0 1 = cc in
     omega arith
 
--- with the parts of `OfNumbers` for premises, since the check finds it so
-pub no_number_above : (ws : List ℕ) (o n kind : ℕ) → ((is : List ℕ) (vs : List ℤ) → kind_call o n (map kind_of (take n (vals_at is vs ws))) ≡ gives (kind_at kind)) → 30 < o → n ≤ 2 → ⊥
-no_number_above ws o n kind a h few = go (ltb o 32) refl
-  where
-    go : (t : Bool) → ltb o 32 ≡ t → ⊥
-    go true e =
-        let l = ltb-true o 32 e in
-        let three : operand_count o ≡ 3 = ap operand_count (let q : o ≡ 31 = omega arith in q) ∙ range_three in
-        refuses_none ws o n 10 (omega arith) (λ is vs. miscounted o 3 n _ three (λ q. omega arith) (λ q. omega arith)) kind a
-    go false e = refuses_none ws o n 8 (omega arith) (λ is vs. above_all o n _ (ltb-false o 32 e)) kind a
+pub no_number_kind : (ws : List ℕ) (o n q : ℕ) → Held ws n → operand_count o ≡ n → refuses q ≡ kind_entry o (kind_word ws 0) (kind_word ws 1)
+    → (kind : Kind) → OfNumbers ws o n kind → ⊥
+no_number_kind ws o n q h e p kind m =
+    let g = entry_given o (kind_word ws 0) (kind_word ws 1) (kind_word ws 2) n (refuses q) e m.some (λ t. omega (arith, m.few)) p in
+    let a : refuses q ≡ gives kind = g.answered ∙ sym (ap (kind_call o n) (kinds_at [] [] ws n h)) ∙ m.answered [] [] in
+    let z : ◌≡◌ {A = ℕ} 0 1 = cc in
+    omega arith
 
-pub no_number_operator : (ws : List ℕ) (o n : ℕ) → 30 < o → (kind : ℕ) → OfNumbers ws o n kind → ⊥
-no_number_operator ws o n h kind m = no_number_above ws o n kind m.answered h m.few
+-- ---- what is answered
 
-pub other_count : (ws : List ℕ) (o n c : ℕ) → operand_count o ≡ c → (c ≡ n → ⊥) → (kind : ℕ) → OfNumbers ws o n kind → ⊥
-other_count ws o n zero e ne kind m = refuses_none ws o n 8 (omega arith) (λ is vs. none_taken o n _ e) kind m.answered
-other_count ws o n (suc c) e ne kind m = refuses_none ws o n 10 (omega arith) (λ is vs. miscounted o (suc c) n _ e (λ q. omega arith) ne) kind m.answered
+none_some : {k : Kind} → ◌≡◌ {A = Option Kind} None (Some k) → ⊥
+none_some e = let z : ◌≡◌ {A = ℕ} 0 1 = cc in omega arith
 
-pub no_numbers : (ws : List ℕ) (o n : ℕ) → Held ws n → false ≡ cond (ltb (code_at ws 0) 3) (cond (ltb n 2) true (ltb (code_at ws 1) 3)) false
-    → (kind : ℕ) → OfNumbers ws o n kind → ⊥
-no_numbers ws o n h f kind m =
-    let l = lt-ltb (code_at ws 0) 3 (omega (arith, held_code ws 0 (h.one m.some), m.left)) in
-    go (ltb n 2) refl (f ∙ ap (λ (b : Bool). cond b (cond (ltb n 2) true (ltb (code_at ws 1) 3)) false) l)
-  where
-    go : (t : Bool) → ltb n 2 ≡ t → false ≡ cond t true (ltb (code_at ws 1) 3) → ⊥
-    go true e q = let z : ◌≡◌ {A = ℕ} 0 1 = cc in omega arith
-    go false e q =
-        let w = ltb-false n 2 e in
-        let two : n ≡ 2 = omega (arith, m.few) in
-        let p = q ∙ lt-ltb (code_at ws 1) 3 (omega (arith, held_code ws 1 (h.two (omega arith)), m.right two)) in
-        let z : ◌≡◌ {A = ℕ} 0 1 = cc in
-        omega arith
-
-pub no_number_kind : (ws : List ℕ) (o n r : ℕ) → Held ws n → operand_count o ≡ n → decoded r ≡ kind_entry o (kind_at (code_at ws 0)) (kind_at (code_at ws 1)) → 3 ≤ r
-    → (kind : ℕ) → OfNumbers ws o n kind → ⊥
-no_number_kind ws o n r h e q l kind m =
-    let g = entry_given o (kind_at (code_at ws 0)) (kind_at (code_at ws 1)) (kind_at (code_at ws 2)) n r e m.some (λ t. omega (arith, m.few)) q in
-    let a : decoded r ≡ gives (kind_at kind) = g.answered ∙ sym (ap (kind_call o n) (kinds_at [] [] ws n h)) ∙ m.answered [] [] in
-    go (ltb r 5) refl a
-  where
-    go : (t : Bool) → ltb r 5 ≡ t → decoded r ≡ gives (kind_at kind) → ⊥
-    go true f a = gives_none r kind l (ltb-true r 5 f) m.small a
-    go false f a =
-        let b = sym (decoded_no r (ltb-false r 5 f)) ∙ a in
-        let z : ◌≡◌ {A = ℕ} 0 1 = cc in
-        omega arith
-
--- ---- the code that is answered
-
-code_decoded : (r : ℕ) → code_of_answer (decoded r) ≡ r
-code_decoded r = go (ltb r 5) refl
-  where
-    go : (t : Bool) → ltb r 5 ≡ t → code_of_answer (cond t (gives (kind_at r)) (refuses r)) ≡ r
-    go true e = code_at_lem r (ltb-true r 5 e)
-    go false e = refl
+-- the operators on numbers may be asked
+pub entry_asked : (o n m : ℕ) (a b : Kind) (t : Bool) → m ≡ operand_count o → m ≡ n → t ≡ numbers n a b → t ≡ true
+    → (o < 31) × (code_of a < 3) × (operand_count o ≡ 2 → code_of b < 3)
+entry_asked o n m a b t e c w q =
+    let g = both_numbers n a b (sym w ∙ q) in
+    (below_range o n (sym e ∙ c) g.0 (λ three. omega (arith, g.1)), g.2, λ two. g.3 (sym c ∙ (e ∙ two)))
 
 module _ (ws : List ℕ) (o n : ℕ) where
-  pub kind_beyond : 30 < o → 3 ≡ number_kind ws o n
-  kind_beyond h = rw (lt-ltb 30 o h)
+  pub kind_uncounted : (m : ℕ) → m ≡ operand_count o → (m ≡ n → ⊥) → NumberKind ws o n None
+  kind_uncounted m e ne =
+      record {
+        value = rw (ne_eqb (operand_count o) n (λ q. ne (e ∙ q)));
+        yes = λ k q. absurd (none_some q);
+        no = λ q. other_count ws o n m (sym e) ne;
+      }
 
-  pub kind_uncounted : o ≤ 30 → (operand_count o ≡ n → ⊥) → 3 ≡ number_kind ws o n
-  kind_uncounted h ne = rw (le-ltb 30 o h, ne_eqb (operand_count o) n ne)
+  module _ (h : Held ws n) (m : ℕ) (e : m ≡ operand_count o) (c : m ≡ n) (a b : Kind) (ea : a ≡ kind_word ws 0) (eb : b ≡ kind_word ws 1) (t : Bool) (et : t ≡ numbers n a b) where
+    asked : (s : Bool) → t ≡ s → numbers n (kind_word ws 0) (kind_word ws 1) ≡ s
+    asked s q = sym (ap2 (numbers n) ea eb) ∙ (sym et ∙ q)
 
-  counted : o ≤ 30 → operand_count o ≡ n → (r : ℕ) (t : Bool) → t ≡ cond (ltb (code_at ws 0) 3) (cond (ltb n 2) true (ltb (code_at ws 1) 3)) false
-      → r ≡ cond t (code_of_answer (kind_entry o (kind_at (code_at ws 0)) (kind_at (code_at ws 1)))) 3 → r ≡ number_kind ws o n
-  counted h e r t w q =
-      q ∙ ap (λ (b : Bool). cond b (code_of_answer (kind_entry o (kind_at (code_at ws 0)) (kind_at (code_at ws 1)))) 3) w ∙ rw (le-ltb 30 o h, eq-eqb (operand_count o) n e)
+    counted : (s : Bool) → t ≡ s → number_kind ws o n ≡ cond s (kind_given (kind_entry o (kind_word ws 0) (kind_word ws 1))) None
+    counted s q = rw (eq-eqb (operand_count o) n (sym e ∙ c), asked s q)
 
-  pub kind_counted : o ≤ 30 → operand_count o ≡ n → (r : ℕ) → true ≡ cond (ltb (code_at ws 0) 3) (cond (ltb n 2) true (ltb (code_at ws 1) 3)) false
-      → decoded r ≡ kind_entry o (kind_at (code_at ws 0)) (kind_at (code_at ws 1)) → r ≡ number_kind ws o n
-  kind_counted h e r w q = counted h e r true w (sym (code_decoded r) ∙ ap code_of_answer q)
+    pub kind_no_numbers : t ≡ false → NumberKind ws o n None
+    kind_no_numbers q =
+        record {
+          value = sym (counted false q);
+          yes = λ k w. absurd (none_some w);
+          no = λ w. no_numbers ws o n h (asked false q);
+        }
 
-  pub kind_no_numbers : o ≤ 30 → operand_count o ≡ n → false ≡ cond (ltb (code_at ws 0) 3) (cond (ltb n 2) true (ltb (code_at ws 1) 3)) false → 3 ≡ number_kind ws o n
-  kind_no_numbers h e w = counted h e 3 false w refl
+    pub kind_counted : t ≡ true → (r : Result Kind Question) → answer r ≡ kind_entry o a b → NumberKind ws o n (result_ok r)
+    kind_counted q (Ok k) w =
+        let g : gives k ≡ kind_entry o (kind_word ws 0) (kind_word ws 1) = rw (ea, eb) at w in
+        record {
+          value = ap kind_given g ∙ sym (counted true q);
+          yes = λ j y. subst (OfNumbers ws o n) (same_Some k j y) (of_numbers ws o n k h (sym e ∙ c) (asked true q) g);
+          no = λ y. absurd (none_some (sym y));
+        }
+    kind_counted q (Err r) w =
+        let g : refuses (number r) ≡ kind_entry o (kind_word ws 0) (kind_word ws 1) = rw (ea, eb) at w in
+        record {
+          value = ap kind_given g ∙ sym (counted true q);
+          yes = λ j y. absurd (none_some y);
+          no = λ y. no_number_kind ws o n (number r) h (sym e ∙ c) g;
+        }

@@ -1,11 +1,16 @@
 -- The kinds of operands in words. Assumes nothing.
-use Rattle.std.specs.Prelude.{◌≡◌, true, false, cond, List, [], ◌∷◌, map, ℕ, ◌<◌, ◌≤◌, eqb, ltb, ℤ, take}
+use Rattle.std.specs.Prelude.{◌≡◌, Bool, false, cond, ◌&&◌, List, [], ◌∷◌, map, Option, Some, None, ℕ, ◌*◌, ◌<◌, ◌≤◌, eqb, ltb, ℤ, take, get_or}
 use Rattle.ink_number.specs.Answer.{gives, Answer, refuses}
-use Rattle.ink_value.specs.Val.{Val, kind_of, kind_at, Kind, listK, code_of}
-use Rattle.ink_value.specs.Value.{val_of, code_of_value}
+use Rattle.ink_value.specs.Val.{Val, kind_of, kind_at, code_of}
+use Rattle.ink_value.specs.declared.Kind.{Kind}
+use Rattle.ink_value.specs.declared.Kind.TheVariants as K
+use Rattle.ink_value.specs.Value.{val_of, kind_in}
 use Rattle.operator_kinds.specs.Kinds.{kind_call, operand_count, kind_entry}
-use Rattle.words_in.specs.Words.{unheld, value_at, code_at}
-use Rattle.op.specs.Op.{op_invert}
+use Rattle.words_in.specs.Words.{unheld, value_at}
+
+-- the kind whose code is the first word of value k; Void where it is none's
+abbrev pub kind_word : List ℕ → ℕ → Kind
+kind_word ws k = kind_at (get_or ws (3 * k) 0)
 
 -- the words of the first n operands are a value's
 pub record Held (ws : List ℕ) (n : ℕ) : Type 0 where
@@ -17,32 +22,37 @@ pub record Held (ws : List ℕ) (n : ℕ) : Type 0 where
 abbrev pub vals_at : List ℕ → List ℤ → List ℕ → List Val
 vals_at is vs ws = val_of is vs (value_at ws 0) ∷ val_of is vs (value_at ws 1) ∷ val_of is vs (value_at ws 2) ∷ []
 
+-- it is the kind of numbers
+abbrev pub is_number : Kind → Bool
+is_number k = ltb (code_of k) (code_of K.List)
+
 -- the n operands are numbers, and the operator's result on them is a number of this kind
-pub record OfNumbers (ws : List ℕ) (o n kind : ℕ) : Type 0 where
+pub record OfNumbers (ws : List ℕ) (o n : ℕ) (kind : Kind) : Type 0 where
   pub some : 1 ≤ n
   pub few : n ≤ 2
-  pub left : code_of_value (value_at ws 0) < 3
-  pub right : n ≡ 2 → code_of_value (value_at ws 1) < 3
-  pub small : kind < 3
-  pub answered : (is : List ℕ) (vs : List ℤ) → kind_call o n (map kind_of (take n (vals_at is vs ws))) ≡ gives (kind_at kind)
+  pub left : code_of (kind_in (value_at ws 0)) < code_of K.List
+  pub right : n ≡ 2 → code_of (kind_in (value_at ws 1)) < code_of K.List
+  pub small : code_of kind < code_of K.List
+  pub answered : (is : List ℕ) (vs : List ℤ) → kind_call o n (map kind_of (take n (vals_at is vs ws))) ≡ gives kind
 
--- the code of an answer on kinds
-abbrev pub code_of_answer : Answer Kind → ℕ
-code_of_answer (gives k) = code_of k
-code_of_answer (refuses r) = r
+-- the one operand is, or the two are, numbers, by their kinds
+abbrev pub numbers : ℕ → Kind → Kind → Bool
+numbers n a b = cond (eqb n 1) (is_number a) (cond (eqb n 2) (is_number a && is_number b) false)
 
--- the code of an operator's answer on n numbers, where it takes n operands and they are numbers; else a List's
-abbrev pub number_kind : List ℕ → ℕ → ℕ → ℕ
+-- the kind that is answered
+abbrev pub kind_given : Answer Kind → Option Kind
+kind_given (gives k) = Some k
+kind_given (refuses r) = None
+
+-- the kind of an operator's result on n numbers, where it takes n operands and they are numbers; else none
+abbrev pub number_kind : List ℕ → ℕ → ℕ → Option Kind
 number_kind ws o n =
-    cond (ltb op_invert o) (code_of listK)
-    (cond (eqb (operand_count o) n)
-    (cond (cond (ltb (code_at ws 0) (code_of listK)) (cond (ltb n 2) true (ltb (code_at ws 1) (code_of listK))) false)
-    (code_of_answer (kind_entry o (kind_at (code_at ws 0)) (kind_at (code_at ws 1))))
-    (code_of listK))
-    (code_of listK))
+    cond (eqb (operand_count o) n)
+    (cond (numbers n (kind_word ws 0) (kind_word ws 1)) (kind_given (kind_entry o (kind_word ws 0) (kind_word ws 1))) None)
+    None
 
--- r is that code: the kind of such a result where it is below 3, and else there is none
-pub record NumberKind (ws : List ℕ) (o n r : ℕ) : Type 0 where
+-- r is that kind: of such a result, where it is one, and else there is none
+pub record NumberKind (ws : List ℕ) (o n : ℕ) (r : Option Kind) : Type 0 where
   pub value : r ≡ number_kind ws o n
-  pub yes : r < 3 → OfNumbers ws o n r
-  pub no : 3 ≤ r → (kind : ℕ) → OfNumbers ws o n kind → ⊥
+  pub yes : (kind : Kind) → r ≡ Some kind → OfNumbers ws o n kind
+  pub no : r ≡ None → (kind : Kind) → OfNumbers ws o n kind → ⊥

@@ -1,47 +1,59 @@
 // The kinds of operands that stand in words, and the kind of an operator's result on numbers among them.
 #![tactic(auto)]
 
-ghost use Rattle.std.specs.Prelude.{◌≡◌, true, false, cond, ◌<◌, ltb};
-ghost use Rattle.word_kinds.specs.Operands.{Held, NumberKind};
+ghost use Rattle.std.specs.Prelude.{◌≡◌};
+ghost use Rattle.ink_value.specs.Val.{kind_at};
+ghost use Rattle.op.specs.Op.{op_number};
+ghost use Rattle.word_kinds.specs.Operands.{is_number, numbers, Held, NumberKind};
 
-use ink_value::kind_code;
+use ink_value::Kind;
+use op::Op;
 
-// The kind code in a value's first word; 4 where it has none.
-pub fn code_in(w: u64) -> u8
-    ensures { (result ≡ cond (ltb w 5) w 4) × (result < 5) }
+// The kind whose code is a value's first word; Void where it is none's.
+pub fn code_in(w: u64) -> Kind
+    ensures { result ≡ kind_at w }
 {
-    if w < 5 { w as u8 } else { kind_code::VOID }
-}
-
-// Is the operand, or are the two, numbers, by their kind codes.
-fn numbers(count: usize, left: u8, right: u8) -> bool
-    ensures { result ≡ cond (ltb left 3) (cond (ltb count 2) true (ltb right 3)) false }
-{
-    if left < kind_code::LIST {
-        if count < 2 {
-            return true;
-        }
-        return right < kind_code::LIST;
+    if w < 4 {
+        Kind::coded(w as u8)
+    } else {
+        Kind::Void
     }
-    false
 }
 
-// The kind of a result of numbers; a code from a List's on where an operand, or the result, is no number.
-#[tactic(auto, using(crate::proofs::Operands::kind_beyond, crate::proofs::Operands::no_number_above))]
-pub fn number_kind(op: u8, count: usize, operands: &[u64; 9]) -> u8
+// Is it the kind of numbers.
+fn is_number(kind: Kind) -> bool
+    ensures { result ≡ is_number kind }
+{
+    match kind {
+        Kind::Bool | Kind::Int | Kind::Float => true,
+        Kind::List | Kind::Void => false,
+    }
+}
+
+// Is the one operand, or are the two, numbers, by their kinds.
+fn numbers(count: usize, left: Kind, right: Kind) -> bool
+    ensures { result ≡ numbers count left right }
+{
+    match count {
+        1 => is_number(left),
+        2 => is_number(left) && is_number(right),
+        _ => false,
+    }
+}
+
+// The kind of a result of numbers; none where an operand, or the result, is no number.
+#[tactic(auto, using(crate::proofs::Operands::entry_asked))]
+pub fn number_kind(op: Op, count: usize, operands: &[u64; 9]) -> Option<Kind>
     requires { Held operands.now count }
-    ensures { NumberKind operands.now op count result }
+    ensures { NumberKind operands.now (op_number op) count result }
 {
     let left = code_in(operands[0]);
     let right = code_in(operands[3]);
-    if op::INVERT < op {
-        return kind_code::LIST;
-    }
     if operator_kinds::operands(op) != count {
-        return kind_code::LIST;
+        return None;
     }
-    if numbers(count, left, right) {
-        return operator_kinds::number_entry(op, left, right);
+    if !numbers(count, left, right) {
+        return None;
     }
-    kind_code::LIST
+    operator_kinds::number_entry(op, left, right).ok()
 }

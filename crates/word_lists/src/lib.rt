@@ -2,16 +2,18 @@
 #![tactic(auto)]
 
 ghost use Rattle.std.specs.Prelude.{◌≤◌};
+ghost use Rattle.op.specs.Op.{op_number};
 ghost use Rattle.list_operators.specs.Lists.{Room, definitions};
 ghost use Rattle.word_lists.specs.Operands.{FirstIn};
 ghost use Rattle.word_lists.specs.Slices.{ListSays};
 
 use ink_list::entries_mut::EntriesMut;
 use list_definitions::definitions::Definitions;
+use op::Op;
 
 // A result that is a List.
 pub fn list(
-    op: u8,
+    op: Op,
     count: usize,
     operands: &[u64; 9],
     items: &[u16],
@@ -26,7 +28,7 @@ pub fn list(
     requires room { Room (definitions ends.now defined.now limit) result_items.old result_values.old
         × (1 ≤ count) × (count ≤ 3) }
     requires first_in { FirstIn limit items.now values.now count operands.now }
-    ensures { ListSays limit ends defined op count operands items values result answer result_items result_values }
+    ensures { ListSays limit ends defined (op_number op) count operands items values result answer result_items result_values }
 {
     let a = words_in::operand_at(operands, 0);
     let b = words_in::operand_at(operands, 1);

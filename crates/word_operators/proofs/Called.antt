@@ -7,14 +7,15 @@ use native.Mathlib.Omega.{arith}
 use lib.IntN.{ℤ}
 use lib.ListN.{length, take}
 use borrow.Author.Tests.{le-leb}
-use Rattle.ink_number.specs.Answer.{refuses}
+use Rattle.ink_number.specs.Answer.{Answer, gives, refuses}
 use Rattle.ink_list.specs.Entries.{item_numbers}
 use Rattle.slices.proofs.Every.{and_both}
-use Rattle.ink_value.specs.Val.{Val, kind_of, kind_at}
+use Rattle.ink_value.specs.Val.{Val, kind_of, code_of}
+use Rattle.ink_value.specs.declared.Kind.{Kind}
 use Rattle.ink_value.specs.Value.{val_of, Formed, FirstFormed, first_of}
 use Rattle.ink_value.specs.declared.Value.{Value}
 use Rattle.ink_value.proofs.Reading.{formed_limit}
-use Rattle.operator_kinds.specs.Kinds.{kind_call, decoded}
+use Rattle.operator_kinds.specs.Kinds.{kind_call}
 use Rattle.list_operators.specs.Lists.{definitions, Room}
 use Rattle.native_function_call.specs.Apply.{call, compute}
 use Rattle.native_function_call.proofs.Calling.{call_gives, call_refuses, two_of}
@@ -22,14 +23,14 @@ use Rattle.call_memory.specs.Lent.{operands_ok}
 use Rattle.calls.specs.Call.{called}
 use Rattle.call_memory.proofs.UsedOperands.{first_of_lem}
 use Rattle.calls.proofs.Forms.{goes_on}
-use Rattle.slices.proofs.Lists.{map_take}
+use Rattle.slices.proofs.Lists.{map_take, ap3}
 use Rattle.pack.specs.Read.{PackLists}
-use Rattle.operator_kinds.proofs.Counting.{decoded_kind, decoded_no}
 use Rattle.list_definitions.specs.Defs.{ListDefinitions}
 use Rattle.words_in.specs.Words.{unheld, value_at}
 use Rattle.value_words.specs.Calls.{operands_in, Says, Calls}
 use Rattle.value_words.proofs.Saying.{calls_is}
-use Rattle.word_kinds.specs.Operands.{Held, OfNumbers}
+use Rattle.word_kinds.specs.Operands.{Held, OfNumbers, kind_word, vals_at}
+use Rattle.word_kinds.proofs.Operands.{kinds_at}
 use Rattle.word_lists.specs.Operands.{FirstIn}
 use Rattle.word_numbers.proofs.Said.{said_calls}
 
@@ -49,23 +50,23 @@ module _ (L : ℕ) (some : 1 ≤ L) (small : L < item_numbers) (ends : List ℕ)
   pub first : FirstFormed L is vs n a b c
   first = first_of_lem (length defined) (length ends) is vs L n a b c t.within ok
 
-  -- the answer on the kinds of the operands
-  module _ (k : ℕ) (g : kind_call o n (map kind_of operand_vals) ≡ decoded k) where
-    asked : called is vs oi ov o n (a ∷ b ∷ c ∷ []) (definitions ends defined L) ≡ call (definitions ends defined L) o n operand_vals
-    asked =
-        goes_on is vs oi ov o n (a ∷ b ∷ c ∷ []) (definitions ends defined L) ok (and_both _ _ (le-leb L (length oi) hi) (le-leb L (length ov) hv))
-        ∙ ap (call (definitions ends defined L) o n) (map_take (val_of is vs) n (a ∷ b ∷ c ∷ []))
+  -- the call, by the answer on the kinds of the operands
+  asked : called is vs oi ov o n (a ∷ b ∷ c ∷ []) (definitions ends defined L) ≡ call (definitions ends defined L) o n operand_vals
+  asked =
+      goes_on is vs oi ov o n (a ∷ b ∷ c ∷ []) (definitions ends defined L) ok (and_both _ _ (le-leb L (length oi) hi) (le-leb L (length ov) hv))
+      ∙ ap (call (definitions ends defined L) o n) (map_take (val_of is vs) n (a ∷ b ∷ c ∷ []))
 
-    pub called_no : 4 < k → called is vs oi ov o n (a ∷ b ∷ c ∷ []) (definitions ends defined L) ≡ refuses k
-    called_no h = asked ∙ call_refuses (definitions ends defined L) o n operand_vals k (g ∙ decoded_no k h)
+  pub called_no : (q : ℕ) → kind_call o n (map kind_of operand_vals) ≡ refuses q
+      → called is vs oi ov o n (a ∷ b ∷ c ∷ []) (definitions ends defined L) ≡ refuses q
+  called_no q g = asked ∙ call_refuses (definitions ends defined L) o n operand_vals q g
 
-    pub called_yes : k < 5 → called is vs oi ov o n (a ∷ b ∷ c ∷ []) (definitions ends defined L)
-        ≡ compute (definitions ends defined L) o operand_vals (kind_at k)
-    called_yes h = asked ∙ call_gives (definitions ends defined L) o n operand_vals (kind_at k) (g ∙ decoded_kind k h)
+  module _ (k : Kind) (g : kind_call o n (map kind_of operand_vals) ≡ gives k) where
+    pub called_yes : called is vs oi ov o n (a ∷ b ∷ c ∷ []) (definitions ends defined L) ≡ compute (definitions ends defined L) o operand_vals k
+    called_yes = asked ∙ call_gives (definitions ends defined L) o n operand_vals k g
 
-    pub called_two : k < 5 → 1 ≤ n → n ≤ 2 → called is vs oi ov o n (a ∷ b ∷ c ∷ []) (definitions ends defined L)
-        ≡ compute (definitions ends defined L) o (take n (val_of is vs a ∷ val_of is vs b ∷ [])) (kind_at k)
-    called_two h l m = called_yes h ∙ ap (λ (r : List Val). compute (definitions ends defined L) o r (kind_at k)) (sym (two_of n _ _ _ l m))
+    pub called_two : 1 ≤ n → n ≤ 2 → called is vs oi ov o n (a ∷ b ∷ c ∷ []) (definitions ends defined L)
+        ≡ compute (definitions ends defined L) o (take n (val_of is vs a ∷ val_of is vs b ∷ [])) k
+    called_two l m = called_yes ∙ ap (λ (r : List Val). compute (definitions ends defined L) o r k) (sym (two_of n _ _ _ l m))
 
 -- with the words of the operands: numbers, and what the call writes of them
 module _ (L : ℕ) (some : 1 ≤ L) (small : L < item_numbers) (ends : List ℕ) (defined : List ℤ) (is : List ℕ) (vs : List ℤ) (oi : List ℕ) (ov : List ℤ) (ws : List ℕ) (o n : ℕ)
@@ -85,11 +86,17 @@ module _ (L : ℕ) (some : 1 ≤ L) (small : L < item_numbers) (ends : List ℕ)
         three = λ l. formed_limit L is vs item_numbers (value_at ws 2) (omega (arith, small)) (f.three l);
       }
 
-  pub called_numbers : L ≤ length oi → L ≤ length ov → (kind r : ℕ) (out : List ℕ) → OfNumbers ws o n kind
-      → ((u : ListDefinitions) (js : List ℕ) (zs : List ℤ) → Says (compute u o (take n (val_of js zs (value_at ws 0) ∷ val_of js zs (value_at ws 1) ∷ [])) (kind_at kind)) r out)
+  -- the answer on the kinds in the words
+  pub kinds_asked : length is < 2 ^ 64 → (x y z : Kind) → x ≡ kind_word ws 0 → y ≡ kind_word ws 1 → z ≡ kind_word ws 2
+      → (r : Answer Kind) → r ≡ kind_call o n (take n (x ∷ y ∷ z ∷ [])) → kind_call o n (map kind_of (take n (vals_at is vs ws))) ≡ r
+  kinds_asked h x y z ex ey ez r e =
+      ap (kind_call o n) (kinds_at is vs ws n (held h) ∙ sym (ap3 (λ (i j k : Kind). take n (i ∷ j ∷ k ∷ [])) ex ey ez)) ∙ sym e
+
+  pub called_numbers : L ≤ length oi → L ≤ length ov → (kind : Kind) (r : ℕ) (out : List ℕ) → OfNumbers ws o n kind
+      → ((u : ListDefinitions) (js : List ℕ) (zs : List ℤ) → Says (compute u o (take n (val_of js zs (value_at ws 0) ∷ val_of js zs (value_at ws 1) ∷ [])) kind) r out)
       → Calls (called is vs oi ov o n (operands_in ws) (definitions ends defined L)) r out oi oi ov ov
   called_numbers hi hv kind r out m says =
       let u = definitions ends defined L in
       calls_is (called_two L some small ends defined is vs oi ov (value_at ws 0) (value_at ws 1) (value_at ws 2) o n t ok hi hv kind
-      (m.answered is vs ∙ sym (decoded_kind kind (omega (arith, m.small)))) (omega (arith, m.small)) m.some m.few)
-      (said_calls u o _ kind (λ e. omega (arith, m.small)) _ _ _ _ (says u is vs))
+      (m.answered is vs) m.some m.few)
+      (said_calls u o _ kind (λ e. let z = ap code_of e in omega (arith, z, m.small)) _ _ _ _ (says u is vs))

@@ -1,3 +1,2 @@
 -- The laws of operators on words.
-pub mod WordParts
 pub mod Called

@@ -1,69 +1,43 @@
-// An operator from words to words. Where its result is no List the operands go to it in parts, as they stand in the words.
+// An operator from words to words.
 #![tactic(auto)]
 
-ghost use Rattle.std.specs.Prelude.{◌≡◌, ◌<◌, ◌≤◌};
+ghost use Rattle.std.specs.Prelude.{◌≡◌, ◌≤◌};
+ghost use Rattle.op.specs.Op.{op_number};
 ghost use Rattle.ink_list.specs.Entries.{item_numbers};
-ghost use Rattle.word_kinds.specs.Operands.{Held};
+ghost use Rattle.ink_value.specs.declared.Kind.TheVariants as K;
 ghost use Rattle.word_lists.specs.Operands.{FirstIn};
 ghost use Rattle.word_operators.specs.Operands.{OperandsOk, ResultsFit};
 ghost use Rattle.word_operators.specs.Slices.{ScalarSays, CallSays};
 ghost use Rattle.pack.specs.Read.{PackLists};
 
-use ink_value::{Value, kind_code};
-use native_function_call::{real, test, whole};
+use ink_value::Kind;
+use op::Op;
 use word_kinds::code_in;
 use word_lists::list;
-use word_numbers::{put_whole, real_in, whole_in};
 
 // A result that is no List.
 fn scalar(
-    op: u8,
-    kind: u8,
+    op: Op,
+    kind: Kind,
     n: usize,
     operands: &[u64; 9],
     items: &[u16],
     values: &[i32],
     answer: &mut [u64; 3],
 ) -> u32
-    requires kind_bound { (kind < 5) × (kind ≡ 3 → ⊥) × (1 ≤ n) × (n ≤ 2) }
-    requires held { Held operands.now n × FirstIn item_numbers items.now values.now n operands.now }
-    ensures { ScalarSays op n kind operands items values result answer }
+    requires fact { (kind ≡ K.List → ⊥) × (1 ≤ n) × (n ≤ 2) }
+    requires first_in { FirstIn item_numbers items.now values.now n operands.now }
+    ensures { ScalarSays (op_number op) n kind operands items values result answer }
 {
-    let ka = code_in(operands[0]);
-    let za = whole_in(operands[1]);
-    let xa = real_in(operands[1]);
-    let sa = words_in::start_in(operands[2]);
-    let na = words_in::len_in(operands[2]);
-    let kb = code_in(operands[3]);
-    let zb = whole_in(operands[4]);
-    let xb = real_in(operands[4]);
-    let sb = words_in::start_in(operands[5]);
-    let nb = words_in::len_in(operands[5]);
-    match kind {
-        kind_code::BOOL => {
-            let t = test(op, n, ka, za, xa, sa, na, kb, zb, xb, sb, nb, items, values);
-            words_out::put_value(answer, Value::Bool(t));
-            0
-        }
-        kind_code::INT => {
-            let d = whole(op, n, ka, za, xa, sa, na, kb, zb, xb, sb, nb, values);
-            put_whole(d, answer)
-        }
-        kind_code::FLOAT => {
-            let x = real(op, n, ka, za, xa, sa, na, kb, zb, xb, sb, nb, values);
-            words_out::put_value(answer, Value::Float(x));
-            0
-        }
-        _ => {
-            words_out::put_value(answer, Value::Void);
-            0
-        }
-    }
+    let a = words_in::operand_at(operands, 0);
+    let b = words_in::operand_at(operands, 1);
+    let outcome = native_function_call::scalar(op, kind, n, a, b, items, values);
+    value_words::outcome(outcome, answer)
 }
 
 // Questions 8, 10 to 13 and 15 of operands of which question 7 says yes, and the result.
 pub fn apply(
-    op: u8,
+    op: Op,
     count: usize,
     operands: &[u64; 9],
     items: &[u16],
@@ -78,7 +52,7 @@ pub fn apply(
     requires pack_lists { PackLists limit ends.now defined.now }
     requires operands_ok { OperandsOk limit ends.now defined.now items.now values.now count operands.now }
     requires results_fit { ResultsFit limit result_items.old result_values.old }
-    ensures { CallSays limit ends defined op count operands items values result answer result_items result_values }
+    ensures { CallSays limit ends defined (op_number op) count operands items values result answer result_items result_values }
 {
     let kind = operator_kinds::kinds(
         op,
@@ -87,12 +61,12 @@ pub fn apply(
         code_in(operands[3]),
         code_in(operands[6]),
     );
-    if kind_code::VOID < kind {
-        words_out::put_index(answer, 0);
-        return value_words::number(kind);
-    }
-    if kind == kind_code::LIST {
-        return list(
+    match kind {
+        Err(question) => {
+            words_out::put_index(answer, 0);
+            value_words::number(question)
+        }
+        Ok(Kind::List) => list(
             op,
             count,
             operands,
@@ -104,7 +78,7 @@ pub fn apply(
             result_items,
             result_values,
             answer,
-        );
+        ),
+        Ok(kind) => scalar(op, kind, count, operands, items, values, answer),
     }
-    scalar(op, kind, count, operands, items, values, answer)
 }

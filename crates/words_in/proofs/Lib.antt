@@ -1,2 +1,2 @@
--- The law of words that are no value's.
+-- The laws of words that are no value's, and of arrays made by a closure.
 pub mod Refused

@@ -2,21 +2,11 @@
 #![tactic(auto)]
 
 ghost use Rattle.std.specs.Prelude.{◌≡◌, ◌<◌, ◌/◌, ◌%◌, ◌^◌};
-ghost use Rattle.words_in.specs.Words.{unheld, bool_at, int_at, float_at, void_at, plain_at, value_of, value_at, slots_in};
+ghost use Rattle.ink_value.specs.Val.{code_of};
+ghost use Rattle.words_in.specs.Words.{Coded, unheld, bool_at, int_at, float_at, void_at, plain_at, value_of, value_at, slots_in};
 
-use ink_value::{Value, kind_code};
+use ink_value::{Kind, Value};
 use pack_sheets::SLOT_LIMIT;
-
-// The codes of the kinds, as words.
-const BOOL: u64 = kind_code::BOOL as u64;
-
-const INT: u64 = kind_code::INT as u64;
-
-const FLOAT: u64 = kind_code::FLOAT as u64;
-
-const LIST: u64 = kind_code::LIST as u64;
-
-const VOID: u64 = kind_code::VOID as u64;
 
 // A start and a length stand in one word, the start in the lower half.
 pub const HALF: u64 = 0x1_0000_0000;
@@ -32,12 +22,14 @@ fn unheld() -> Value
     }
 }
 
+#[tactic(auto, unfolding(crate::specs::Words::bool_at))]
 fn bool_at(w: u64) -> Value
     ensures { result ≡ bool_at w }
 {
     if w < 2 { Value::Bool(w == 1) } else { unheld() }
 }
 
+#[tactic(auto, unfolding(crate::specs::Words::int_at))]
 fn int_at(w: u64) -> Value
     ensures { result ≡ int_at w }
 {
@@ -48,6 +40,7 @@ fn int_at(w: u64) -> Value
     }
 }
 
+#[tactic(auto, unfolding(crate::specs::Words::float_at))]
 fn float_at(w: u64) -> Value
     ensures { result ≡ float_at w }
 {
@@ -58,22 +51,38 @@ fn float_at(w: u64) -> Value
     }
 }
 
+#[tactic(auto, unfolding(crate::specs::Words::void_at))]
 fn void_at(w: u64) -> Value
     ensures { result ≡ void_at w }
 {
     if w == 0 { Value::Void } else { unheld() }
 }
 
-// A value that is no List, by the code of its kind.
-fn plain_at(kind: u64, w: u64) -> Value
-    ensures { result ≡ plain_at kind w }
+// The kind whose code a word is, if there is one.
+fn kind_of(word: u64) -> Option<Kind>
+    ensures { Coded word result }
+{
+    match word {
+        0 => Some(Kind::Bool),
+        1 => Some(Kind::Int),
+        2 => Some(Kind::Float),
+        3 => Some(Kind::List),
+        4 => Some(Kind::Void),
+        _ => None,
+    }
+}
+
+// A value that is no List, by its kind.
+#[tactic(auto, unfolding(crate::specs::Words::plain_at))]
+fn plain_at(kind: Kind, w: u64) -> Value
+    ensures { result ≡ plain_at (code_of kind) w }
 {
     match kind {
-        BOOL => bool_at(w),
-        INT => int_at(w),
-        FLOAT => float_at(w),
-        VOID => void_at(w),
-        _ => unheld(),
+        Kind::Bool => bool_at(w),
+        Kind::Int => int_at(w),
+        Kind::Float => float_at(w),
+        Kind::List => unheld(),
+        Kind::Void => void_at(w),
     }
 }
 
@@ -97,21 +106,34 @@ pub fn low(w: u64) -> u32
     (w % HALF) as u32
 }
 
-// The value of three words.
-fn value_of(kind: u64, w: u64, place: u64) -> Value
-    ensures { result ≡ value_of kind w place }
+// A value by its kind: of one that is no List the third word is 0.
+#[tactic(auto, unfolding(crate::specs::Words::value_of))]
+fn value_of_kind(kind: Kind, w: u64, place: u64) -> Value
+    ensures { result ≡ value_of (code_of kind) w place }
 {
-    if kind == LIST {
-        return Value::List {
+    match kind {
+        Kind::List => Value::List {
             origins: w,
             start: start_in(place),
             len: len_in(place),
-        };
+        },
+        Kind::Bool | Kind::Int | Kind::Float | Kind::Void => {
+            if place == 0 {
+                plain_at(kind, w)
+            } else {
+                unheld()
+            }
+        }
     }
-    if place == 0 {
-        plain_at(kind, w)
-    } else {
-        unheld()
+}
+
+// The value of three words.
+fn value_of(code: u64, w: u64, place: u64) -> Value
+    ensures { result ≡ value_of code w place }
+{
+    match kind_of(code) {
+        Some(kind) => value_of_kind(kind, w, place),
+        None => unheld(),
     }
 }
 
@@ -142,13 +164,5 @@ fn slot_at(words: &[u64; 48], k: usize) -> Value
 pub fn slots_in(words: &[u64; 48]) -> [Value; 16]
     ensures { result ≡ slots_in words.now }
 {
-    let void = Value::Void;
-    let mut slots = [void; SLOT_LIMIT];
-    let mut k: usize = 0;
-    while k < SLOT_LIMIT {
-        let v = slot_at(words, k);
-        slots[k] = v;
-        k += 1;
-    }
-    slots
+    std::array::from_fn(|k| slot_at(words, k))
 }

@@ -3,28 +3,22 @@
 
 ghost use Rattle.std.specs.Prelude.{◌≡◌, [], ◌∷◌, ◌<◌, ◌+◌, ◌*◌, ◌^◌};
 ghost use Rattle.words_out.specs.Words.{words_of, Small};
-ghost use Rattle.ink_number.specs.Int.{bit_of};
+ghost use Rattle.ink_value.specs.Val.{code_of};
 
-use ink_value::Value;
+use ink_value::{Kind, Value};
 use words_in::HALF;
 
-fn bit(b: bool) -> u64
-    ensures { result ≡ bit_of b }
+fn put(words: &mut [u64; 3], kind: Kind, w: u64, place: u64)
+    ensures { words.new ≡ code_of kind ∷ w ∷ place ∷ [] }
 {
-    if b { 1 } else { 0 }
-}
-
-fn put(words: &mut [u64; 3], kind: u64, w: u64, place: u64)
-    ensures { words.new ≡ kind ∷ w ∷ place ∷ [] }
-{
-    *words = [kind, w, place];
+    *words = [u64::from(kind.code()), w, place];
 }
 
 // An index in an answer's words.
 pub fn put_index(words: &mut [u64; 3], index: usize)
     ensures { words.new ≡ index ∷ 0 ∷ 0 ∷ [] }
 {
-    put(words, index as u64, 0, 0);
+    *words = [index as u64, 0, 0];
 }
 
 // A value written as three words.
@@ -33,15 +27,25 @@ pub fn put_value(words: &mut [u64; 3], v: Value)
     ensures { words.new ≡ words_of v }
 {
     match v {
-        Value::Bool(b) => put(words, 0, bit(b), 0),
-        Value::Int(z) => put(words, 1, ink_number::int::pattern(z) as u64, 0),
-        Value::Float(x) => put(words, 2, float_conversions::float_to_bits(x) as u64, 0),
+        Value::Bool(b) => put(words, Kind::Bool, u64::from(b), 0),
+        Value::Int(z) => put(words, Kind::Int, u64::from(ink_number::int::pattern(z)), 0),
+        Value::Float(x) => put(
+            words,
+            Kind::Float,
+            u64::from(float_conversions::float_to_bits(x)),
+            0,
+        ),
         Value::List {
             origins,
             start,
             len,
-        } => put(words, 3, origins, place_of(start as u64, len as u64)),
-        Value::Void => put(words, 4, 0, 0),
+        } => put(
+            words,
+            Kind::List,
+            origins,
+            place_of(start as u64, len as u64),
+        ),
+        Value::Void => put(words, Kind::Void, 0, 0),
     }
 }
 

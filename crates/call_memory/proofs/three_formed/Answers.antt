@@ -1,13 +1,8 @@
 -- `call_memory::three_formed` meets its contract: question 7 of three operands, one after another. Assumes nothing.
 use mathlib.Core.Path.{sym, ◌∙◌}
-use mathlib.Core.List.{◌∷◌, []}
 use Rattle.slices.proofs.Every.{and_no_left, and_no_right}
-use Rattle.call_memory.proofs.UsedOperands.{unlike_long, all_three, third}
+use Rattle.call_memory.proofs.UsedOperands.{all_three, third}
 use Rattle.call_memory.proofs.three_formed.Goals as goal
-
-pub returns-then-items-values : goal.returns-then-items-values
-returns-then-items-values c =
-    sym (unlike_long c.args.total c.args.definitions c.args.items.now c.args.values.now (c.args.a ∷ c.args.b ∷ c.args.c ∷ []) c.if-items-values.true)
 
 pub returns-then-not-is_formed : goal.returns-then-not-is_formed
 returns-then-not-is_formed c =

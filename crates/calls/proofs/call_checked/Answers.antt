@@ -1,4 +1,5 @@
 -- `calls::call_checked` meets its contract: question 7, and then the operator. Assumes nothing.
+use Rattle.op.specs.Op.{op_number}
 use mathlib.Core.Path.{◌≡◌, sym, ap}
 use mathlib.Core.List.{List, [], ◌∷◌}
 use Prim.Native.Nat.{ℕ}
@@ -64,4 +65,4 @@ returns c =
     let f : take c.read_definitions-read.result.items c.read_definitions-read.new.defined ≡ defined_of d = defined_front t in
     let u : definitions (take c.read_definitions-read.result.definitions c.read_definitions-read.new.ends) (take c.read_definitions-read.result.items c.read_definitions-read.new.defined) c.args.format.limit ≡ definitions_of d c.args.format =
     ap2 (λ (x : List ℕ) (y : List ℤ). definitions x y c.args.format.limit) e f in
-    gave_is (ap (called c.args.items.now c.args.values.now c.args.oi.now c.args.ov.now c.args.op c.args.count (c.args.a ∷ c.args.b ∷ c.args.c ∷ [])) (sym u)) c.call_with.ensures
+    gave_is (ap (called c.args.items.now c.args.values.now c.args.oi.now c.args.ov.now (op_number c.args.op) c.args.count (c.args.a ∷ c.args.b ∷ c.args.c ∷ [])) (sym u)) c.call_with.ensures

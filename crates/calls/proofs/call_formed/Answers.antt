@@ -1,4 +1,5 @@
 -- `calls::call_formed` meets its contract: what question 7 said yes of is what the operator asks for. Assumes nothing.
+use Rattle.op.specs.Op.{op_number}
 use mathlib.Core.Path.{ap, ◌∙◌}
 use mathlib.Core.List.{[], ◌∷◌}
 use lib.ListN.{length}
@@ -30,5 +31,5 @@ returns c =
     let ov = c.args.ov.now in
     let l = c.args.a ∷ c.args.b ∷ c.args.c ∷ [] in
     let u = definitions c.args.ends.now c.args.defined.now c.args.limit in
-    gave_is (goes_on is vs oi ov c.args.op c.args.count l u c.requires.c_value (and_both _ _ (le-leb c.args.limit (length oi) c.requires.limit_in_bounds.0) (le-leb c.args.limit (length ov) c.requires.limit_in_bounds.1))
-    ∙ ap (call u c.args.op c.args.count) (map_take (val_of is vs) c.args.count l)) c.apply.ensures
+    gave_is (goes_on is vs oi ov (op_number c.args.op) c.args.count l u c.requires.c_value (and_both _ _ (le-leb c.args.limit (length oi) c.requires.limit_in_bounds.0) (le-leb c.args.limit (length ov) c.requires.limit_in_bounds.1))
+    ∙ ap (call u (op_number c.args.op) c.args.count) (map_take (val_of is vs) c.args.count l)) c.apply.ensures

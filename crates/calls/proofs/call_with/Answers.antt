@@ -1,4 +1,5 @@
 -- `calls::call_with` meets its contract: question 7, and then `call_formed`. Assumes nothing.
+use Rattle.op.specs.Op.{op_number}
 use mathlib.Core.Path.{◌≡◌, refl, sym, ◌∙◌}
 use mathlib.Core.Bool.{true}
 use mathlib.Core.List.{[], ◌∷◌}
@@ -17,7 +18,7 @@ pub returns-then-not-lent_well : goal.returns-then-not-lent_well
 returns-then-not-lent_well c =
     let oi = c.args.oi.now in
     let ov = c.args.ov.now in
-    gave_is (ill_lent c.args.items.now c.args.values.now oi ov c.args.op c.args.count (c.args.a ∷ c.args.b ∷ c.args.c ∷ []) (definitions c.args.ends.now c.args.defined.now c.args.limit) (sym c.lent_well.ensures ∙ c.if-not-lent_well.true)) (gave_plain (refuses 7) _ oi ov refl refl)
+    gave_is (ill_lent c.args.items.now c.args.values.now oi ov (op_number c.args.op) c.args.count (c.args.a ∷ c.args.b ∷ c.args.c ∷ []) (definitions c.args.ends.now c.args.defined.now c.args.limit) (sym c.lent_well.ensures ∙ c.if-not-lent_well.true)) (gave_plain (refuses 7) _ oi ov refl refl)
 
 pub call_formed-requires : goal.call_formed-requires
 call_formed-requires c =

@@ -11,7 +11,6 @@ use borrow.Author.Tests.{le-leb, lt-leb}
 use Rattle.ink_number.specs.Answer.{Answer, refuses}
 use Rattle.ink_value.specs.Val.{Val}
 use Rattle.ink_value.specs.Value.{Gave}
-use Rattle.ink_value.specs.declared.Outcome.{Outcome}
 use Rattle.ink_list.specs.Entries.{room}
 use Rattle.slices.proofs.Every.{and_both, and_no_left, and_no_right, and_left, and_right}
 use Rattle.ink_value.proofs.Forming.{formed_yes}
@@ -22,9 +21,10 @@ use Rattle.pack.proofs.Values.{pack_tables}
 use Rattle.call_memory.specs.Lent.{operands_ok}
 use Rattle.calls.proofs.Forms.{cast_ill, cast_short, cast_goes}
 use Rattle.calls.proofs.cast_checked.Goals as goal
+use Rattle.ink_value.specs.declared.Value.{Value}
 
 -- the result slices are those that `cast` wrote to
-held : {A : Answer Val} {r : Outcome} {oi ois oi' : List ℕ} {ov ovs ov' : List ℤ} → Gave A r oi ois ov ovs → oi' ≡ ois → ov' ≡ ovs → Gave A r oi oi' ov ov'
+held : {A : Answer Val} {r : Answer Value} {oi ois oi' : List ℕ} {ov ovs ov' : List ℤ} → Gave A r oi ois ov ovs → oi' ≡ ois → ov' ≡ ovs → Gave A r oi oi' ov ov'
 held g ei ev = rw (ei, ev) g
 
 pub returns-then-not-operand_formed : goal.returns-then-not-operand_formed

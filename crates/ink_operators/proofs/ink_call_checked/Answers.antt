@@ -50,29 +50,10 @@ returns-then-not-lent_well c =
     let u = definitions c.args.ends.now c.args.defined.now _ in
     let k : c.operand_at-a.result ∷ c.operand_at-b.result ∷ c.operand_at-c.result ∷ [] ≡ operands_in ws = ap3 (λ (a b c : Value). a ∷ b ∷ c ∷ []) c.operand_at-a.ensures c.operand_at-b.ensures c.operand_at-c.ensures in
     calls_is (sym (ap (λ (l : List Value). called is vs c.args.result_items.now c.args.result_values.now c.args.op c.args.count l u) k))
-    (refused_calls _ 7 _ _ _ _ (ill_lent is vs c.args.result_items.now c.args.result_values.now c.args.op c.args.count (c.operand_at-a.result ∷ c.operand_at-b.result ∷ c.operand_at-c.result ∷ []) u (sym c.lent_well.ensures ∙ c.if-not-lent_well.true)) refl c.put_index.ensures)
-
-pub number_kind-kind-requires : goal.number_kind-kind-requires
-number_kind-kind-requires c =
-    let u = definitions c.args.ends.now c.args.defined.now _ in
-    let l = lent u c.args.items.now c.args.values.now c.args.result_items.now c.args.result_values.now c.args.count c.args.operands.now c.operand_at-a.ensures c.operand_at-b.ensures c.operand_at-c.ensures c.lent_well.ensures (c.if-not-lent_well.false) in
-    held _ (omega arith) (omega arith) c.args.ends.now c.args.defined.now c.args.items.now c.args.values.now c.args.result_items.now c.args.result_values.now c.args.operands.now c.args.op c.args.count c.requires l.formed (search rules)
-
-pub number-requires : goal.number-requires
-number-requires c = c.number_kind-kind.ensures.yes c.if-kind-lt-LIST.true
-
-pub returns-then-kind-lt-LIST : goal.returns-then-kind-lt-LIST
-returns-then-kind-lt-LIST c =
-    let u = definitions c.args.ends.now c.args.defined.now _ in
-    let l = lent u c.args.items.now c.args.values.now c.args.result_items.now c.args.result_values.now c.args.count c.args.operands.now c.operand_at-a.ensures c.operand_at-b.ensures c.operand_at-c.ensures c.lent_well.ensures (c.if-not-lent_well.false) in
-    called_numbers _ (omega arith) (omega arith) c.args.ends.now c.args.defined.now c.args.items.now c.args.values.now c.args.result_items.now c.args.result_values.now c.args.operands.now c.args.op c.args.count c.requires l.formed l.items_room l.values_room c.number_kind-kind.result _ _ (c.number_kind-kind.ensures.yes c.if-kind-lt-LIST.true) c.number.ensures
+    (refused_calls _ 7 _ _ _ _ (ill_lent is vs c.args.result_items.now c.args.result_values.now c.args.op c.args.count (c.operand_at-a.result ∷ c.operand_at-b.result ∷ c.operand_at-c.result ∷ []) u (sym c.lent_well.ensures ∙ c.if-not-lent_well.true)) c.number.ensures c.put_index.ensures)
 
 pub apply-requires : goal.apply-requires
 apply-requires c =
-    let u = definitions c.args.ends.now c.args.defined.now _ in
-    let l = lent u c.args.items.now c.args.values.now c.args.result_items.now c.args.result_values.now c.args.count c.args.operands.now c.operand_at-a.ensures c.operand_at-b.ensures c.operand_at-c.ensures c.lent_well.ensures (c.if-not-lent_well.false) in
-    record {
-      pack_lists = c.requires;
-      operands_ok = l.formed;
-      results_fit = (l.items_room, l.values_room, omega arith, omega arith);
-    }
+    let a = c.args in
+    let l = lent (definitions a.ends.now a.defined.now _) a.items.now a.values.now a.result_items.now a.result_values.now a.count a.operands.now c.operand_at-a.ensures c.operand_at-b.ensures c.operand_at-c.ensures c.lent_well.ensures c.if-not-lent_well.false in
+    record { lists = c.requires; formed = l.formed; items_room = l.items_room; values_room = l.values_room }

@@ -4,6 +4,7 @@ use Rattle.ink_list.specs.Entries.{item_numbers}
 use Rattle.list_operators.specs.Lists.{unary_l}
 use Rattle.slices.proofs.Lists.{ap2}
 use Rattle.ink_value.proofs.Reading.{entries_in_lem, set_in_lem, formed_limit, wrote_is}
+use Rattle.op.specs.Op.{op_number}
 use Rattle.list_operators.proofs.list1.Goals as goal
 
 pub unary-requires : goal.unary-requires
@@ -22,7 +23,7 @@ returns c =
     let is = a.items.now in
     let vs = a.values.now in (
       wrote_is
-          (ap2 (unary_l d.ends.now d.defined.now a.op) (set_in_lem is vs a.a ∙ sym c.origins_in.ensures) (entries_in_lem is vs a.a))
+          (ap2 (unary_l d.ends.now d.defined.now (op_number a.op)) (set_in_lem is vs a.a ∙ sym c.origins_in.ensures) (entries_in_lem is vs a.a))
           (rw (c.entries_of-list.ensures.items, c.entries_of-list.ensures.values) at c.unary.ensures.0),
       c.unary.ensures.1,
     )

@@ -5,6 +5,7 @@ use Rattle.ink_value.specs.Value.{val_of}
 use Rattle.ink_value.proofs.Reading.{formed_limit, wrote_is}
 use Rattle.list_operators.specs.Lists.{definitions_of}
 use Rattle.list_operators.proofs.Listing.{right_list}
+use Rattle.op.specs.Op.{op_number}
 use Rattle.list_operators.proofs.list2.Goals as goal
 
 pub list_list-requires : goal.list_list-requires
@@ -16,13 +17,13 @@ list_list-requires c =
       formed_b = formed_limit a.limit a.items.now a.values.now (places a.out.now) a.b h c.requires.formed.1;
     }
 
-pub returns-then-kind-eq-LIST : goal.returns-then-kind-eq-LIST
-returns-then-kind-eq-LIST c =
+pub returns-in-List : goal.returns-in-List
+returns-in-List c =
     let a = c.args in
     let is = a.items.now in
     let vs = a.values.now in
     let w = c.list_list.ensures a.limit c.requires.formed.0 c.requires.formed.1 in (
-      wrote_is (right_list (definitions_of a.definitions a.limit) a.op (val_of is vs a.a) is vs a.b (sym c.kind.ensures.0 ∙ c.if-kind-eq-LIST.true)) w.0,
+      wrote_is (right_list (definitions_of a.definitions a.limit) (op_number a.op) (val_of is vs a.a) is vs a.b (sym c.kind.ensures ∙ c.in-List.is)) w.0,
       w.1,
     )
 
@@ -31,5 +32,5 @@ list_int-requires c =
     record {
       room = c.requires.room;
       formed = c.requires.formed;
-      no_list = λ e. c.if-kind-eq-LIST.false (c.kind.ensures.0 ∙ e);
+      no_list = λ e. c.in_default.not-List (c.kind.ensures ∙ e);
     }

@@ -7,6 +7,7 @@ use Rattle.slices.proofs.Lists.{ap3}
 use Rattle.ink_number.proofs.Signed.{returned}
 use Rattle.ink_value.proofs.Reading.{entries_in_lem, set_in_lem, formed_limit, wrote_is}
 use Rattle.list_operators.proofs.Listing.{right_int}
+use Rattle.op.specs.Op.{op_number}
 use Rattle.list_operators.proofs.list_int.Goals as goal
 
 pub shift-requires : goal.shift-requires
@@ -25,8 +26,8 @@ returns c =
     let is = a.items.now in
     let vs = a.values.now in (
       wrote_is
-          (right_int (definitions_of d a.limit) a.op (val_of is vs a.a) is vs a.b c.requires.no_list
-          ∙ ap3 (shift_l d.ends.now d.defined.now a.op) (set_in_lem is vs a.a ∙ sym c.origins_in-set.ensures)
+          (right_int (definitions_of d a.limit) (op_number a.op) (val_of is vs a.a) is vs a.b c.requires.no_list
+          ∙ ap3 (shift_l d.ends.now d.defined.now (op_number a.op)) (set_in_lem is vs a.a ∙ sym c.origins_in-set.ensures)
           (sym (returned c.to_int-by.type_inv ∙ c.to_int-by.ensures is c.requires.formed.1.items_in))
           (entries_in_lem is vs a.a))
           (rw (c.entries_of-list.ensures.items, c.entries_of-list.ensures.values) at c.shift.ensures.0),

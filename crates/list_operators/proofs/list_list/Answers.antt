@@ -2,6 +2,7 @@
 use Rattle.slices.proofs.Lists.{ap2}
 use Rattle.ink_value.proofs.Reading.{entries_in_lem, wrote_is}
 use Rattle.list_pairs.specs.Pairs.{merge_l}
+use Rattle.op.specs.Op.{op_number}
 use Rattle.list_operators.proofs.list_list.Goals as goal
 
 pub merge_held-requires : goal.merge_held-requires
@@ -17,6 +18,6 @@ returns c =
     let vs = c.args.values.now in
     λ limit a b.
     let w = rw (c.start_of-i.ensures, c.len_of-m.ensures, c.start_of-j.ensures, c.len_of-n.ensures) at (c.merge_held.ensures limit) a b in (
-      wrote_is (ap2 (merge_l limit c.args.op) (entries_in_lem is vs c.args.a) (entries_in_lem is vs c.args.b)) w.0,
+      wrote_is (ap2 (merge_l limit (op_number c.args.op)) (entries_in_lem is vs c.args.a) (entries_in_lem is vs c.args.b)) w.0,
       w.1,
     )

@@ -1,18 +1,18 @@
--- `pack_sheets::question5` meets its contract. Assumes nothing.
-use mathlib.Core.Path.{◌≡◌, sym, ◌∙◌}
-use native.Mathlib.Omega.{arith}
-use Rattle.slices.proofs.Every.{every_fails}
+-- `pack_sheets::question5` meets its contract: every sheet answered yes, or one answered no. Assumes nothing.
+use Rattle.std.proofs.Common.{rules, tests, ◌≡◌, ℕ, true, false, refl, arith}
+use Rattle.std.proofs.lemmas.Iterator.{cases_from_all, YieldsList-from_range}
+use Rattle.slices.proofs.Ranged.{every_ranged}
 use Rattle.pack.specs.Bodies.{sheet}
-use Rattle.pack.specs.Contents.{sheet_body}
+use Rattle.pack.specs.Contents.{sheet_body, sheet_count}
 use Rattle.pack.specs.Instruction.{is_some}
 use Rattle.pack.specs.Judge as J
 use Rattle.pack_sheets.proofs.question5.Goals as goal
 
-pub returns-then-not-sheet_ok : goal.returns-then-not-sheet_ok
+pub returns : goal.returns
 unfolding J.question5
-returns-then-not-sheet_ok c =
+returns c =
     let p = c.args.p.now in
-    let l = c.loop-s in
-    let told : c.sheet_ok.result ≡ is_some (sheet p (sheet_body p l.s)) =
-    c.sheet_ok.ensures ∙ rw (c.byte_at.ensures.0, c.byte_at-2.ensures.0) in
-    sym (every_fails _ _ l.s (omega arith) (sym told ∙ c.if-not-sheet_ok.true))
+    let t = λ (k : ℕ). is_some (sheet p (sheet_body p k)) in
+    every_ranged t _ c.all.result
+    (cases_from_all _ _ c.all.result (λ k. t k ≡ true) (λ k. t k ≡ false) c.all.ensures.ran (YieldsList-from_range 0 c.byte_at-3.result (sheet_count p) refl (omega (arith, c.byte_at-3.ensures.0)))
+    (λ x q k. search (rules, tests)) (λ x q k. search (rules, tests)))

@@ -1,16 +1,10 @@
 -- `run_checked::clear` meets its contract. The invariant: the places passed are zero as far as they were used, and the others as they were.
 -- Assumes nothing.
 use mathlib.Core.Path.{◌≡◌}
-use Prim.Native.Nat.{◌-◌, ◌≤◌}
 use lib.IntN.{pos}
-use Rattle.machine.specs.Machine.{stack_limit}
 use Rattle.run_checked.specs.Clear.{cleared}
 use Rattle.run_checked.proofs.clear.Given as goal
 
 abbrev pub invariant-loop-q : goal.invariant-loop-q
 invariant-loop-q l =
-    (l.q ≤ stack_limit) × (l.work_items ≡ cleared l.format 0 l.used l.q l.initial.work_items) × (l.work_values ≡ cleared l.format (pos 0) l.used l.q l.initial.work_values)
-
-abbrev pub decreases-loop-q : goal.decreases-loop-q
-decreases-loop-q l =
-    stack_limit - l.q
+    (l.work_items ≡ cleared l.format 0 l.used l.q l.initial.work_items) × (l.work_values ≡ cleared l.format (pos 0) l.used l.q l.initial.work_values)

@@ -19,7 +19,7 @@ returns-then-sheet_count-sheet c =
     let p = c.args.pack.now in
     let r = c.requires.0 in
     record {
-      runs_any = runs_stopped _ 6 _ _ _ _ _ _ (opened_passed c.args.format p c.args.sheet _ _ r.passed ∙ sheet_no c.args.format p c.args.sheet _ (omega (arith, c.sheet_count.ensures, c.if-sheet_count-sheet.true, sheets_long p c.args.format)));
+      runs_any = rw c.from.ensures (runs_stopped _ 6 _ _ _ _ _ _ (opened_passed c.args.format p c.args.sheet _ _ r.passed ∙ sheet_no c.args.format p c.args.sheet _ (omega (arith, c.sheet_count.ensures, c.if-sheet_count-sheet.true, sheets_long p c.args.format))));
       kept = (refl, refl);
     }
 
@@ -28,7 +28,7 @@ returns-then-not-all_formed c =
     let p = c.args.pack.now in
     let r = c.requires.0 in
     record {
-      runs_any = runs_stopped _ 7 _ _ _ _ _ _ (opened_passed c.args.format p c.args.sheet _ _ r.passed ∙ sheet_yes c.args.format p c.args.sheet _ (omega (arith, c.sheet_count.ensures, c.if-sheet_count-sheet.false, sheets_long p c.args.format)) ∙ slots_no c.args.format p c.args.ends.now c.args.defined.now c.args.slots c.args.slot_items.now c.args.slot_values.now c.args.work_items.now c.args.work_values.now c.args.result_items.now c.args.result_values.now r.ends_are r.defined_are (sym c.all_formed.ensures ∙ c.if-not-all_formed.true));
+      runs_any = rw c.from-then-not-all_formed.ensures (runs_stopped _ 7 _ _ _ _ _ _ (opened_passed c.args.format p c.args.sheet _ _ r.passed ∙ sheet_yes c.args.format p c.args.sheet _ (omega (arith, c.sheet_count.ensures, c.if-sheet_count-sheet.false, sheets_long p c.args.format)) ∙ slots_no c.args.format p c.args.ends.now c.args.defined.now c.args.slots c.args.slot_items.now c.args.slot_values.now c.args.work_items.now c.args.work_values.now c.args.result_items.now c.args.result_values.now r.ends_are r.defined_are (sym c.all_formed.ensures ∙ c.if-not-all_formed.true)));
       kept = (refl, refl);
     }
 
@@ -37,7 +37,7 @@ returns-then-not-long_enough c =
     let p = c.args.pack.now in
     let r = c.requires.0 in
     record {
-      runs_any = runs_stopped _ 7 _ _ _ _ _ _ (opened_passed c.args.format p c.args.sheet _ _ r.passed ∙ sheet_yes c.args.format p c.args.sheet _ (omega (arith, c.sheet_count.ensures, c.if-sheet_count-sheet.false, sheets_long p c.args.format)) ∙ room_no c.args.format p c.args.ends.now c.args.defined.now c.args.slots c.args.slot_items.now c.args.slot_values.now c.args.work_items.now c.args.work_values.now c.args.result_items.now c.args.result_values.now r.ends_are r.defined_are (sym c.long_enough.ensures ∙ c.if-not-long_enough.true));
+      runs_any = rw c.from-then-not-long_enough.ensures (runs_stopped _ 7 _ _ _ _ _ _ (opened_passed c.args.format p c.args.sheet _ _ r.passed ∙ sheet_yes c.args.format p c.args.sheet _ (omega (arith, c.sheet_count.ensures, c.if-sheet_count-sheet.false, sheets_long p c.args.format)) ∙ room_no c.args.format p c.args.ends.now c.args.defined.now c.args.slots c.args.slot_items.now c.args.slot_values.now c.args.work_items.now c.args.work_values.now c.args.result_items.now c.args.result_values.now r.ends_are r.defined_are (sym c.long_enough.ensures ∙ c.if-not-long_enough.true)));
       kept = (refl, refl);
     }
 

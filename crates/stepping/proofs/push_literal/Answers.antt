@@ -1,24 +1,16 @@
 -- `stepping::push_literal` meets its contract: question 9, and then the literal's entries read to their place. Assumes nothing.
 use Rattle.pack.specs.Bodies.{decoded}
 use Rattle.pack.specs.Read.{literal_of}
-use mathlib.Core.List.{[]}
 use mathlib.Core.Path.{ap}
-use Prim.Native.Nat.{ℕ, ◌*◌, zero-le}
+use Prim.Native.Nat.{ℕ, ◌*◌}
 use native.Mathlib.Omega.{arith}
 use Rattle.pack.proofs.Listed.{literal_formed}
 use Rattle.pack.proofs.Values.{pack_tables}
 use Rattle.ink_list.proofs.Laws.{rising_limit}
 use Rattle.ink_value.specs.declared.Value.TheVariants as Is
-use Rattle.stepping.proofs.Pushing.{put_literal, push_put, push_no}
+use Rattle.stepping.proofs.Pushing.{put_literal, push_put}
 use Rattle.operating.proofs.Putting.{place_fits}
 use Rattle.stepping.proofs.push_literal.Goals as goal
-
-pub returns-then-n-ge-STACK_LIMIT : goal.returns-then-n-ge-STACK_LIMIT
-returns-then-n-ge-STACK_LIMIT c =
-    push_no _ _ _ [] _ [] c.if-n-ge-STACK_LIMIT.true
-
-pub overflow_mul-to : goal.overflow_mul-to
-overflow_mul-to c = omega (arith, place_fits c.args.format c.args.n 0 (omega (arith, c.if-n-ge-STACK_LIMIT.false)) zero-le, c.requires.roomy.format.few)
 
 pub read_literal-len-requires : goal.read_literal-len-requires
 read_literal-len-requires c =

@@ -1,19 +1,10 @@
 -- `stepping::push_slot` meets its contract: question 9, and then the slot's entries copied to their place. Assumes nothing.
-use mathlib.Core.List.{[]}
 use native.Mathlib.Omega.{arith}
 use Rattle.ink_list.specs.Entries.{item_numbers}
-use Prim.Native.Nat.{zero-le}
 use Rattle.ink_value.proofs.Reading.{few_in, formed_limit}
-use Rattle.stepping.proofs.Pushing.{push_put, push_no}
+use Rattle.stepping.proofs.Pushing.{push_put}
 use Rattle.operating.proofs.Putting.{place_fits}
 use Rattle.stepping.proofs.push_slot.Goals as goal
-
-pub returns-then-n-ge-STACK_LIMIT : goal.returns-then-n-ge-STACK_LIMIT
-returns-then-n-ge-STACK_LIMIT c =
-    push_no _ _ _ [] _ [] c.if-n-ge-STACK_LIMIT.true
-
-pub overflow_mul-to : goal.overflow_mul-to
-overflow_mul-to c = omega (arith, place_fits c.args.format c.args.n 0 (omega (arith, c.if-n-ge-STACK_LIMIT.false)) zero-le, c.requires.roomy.format.few)
 
 pub store-value-requires : goal.store-value-requires
 store-value-requires c =

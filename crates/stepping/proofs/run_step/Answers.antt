@@ -1,8 +1,8 @@
 -- `stepping::run_step` meets its contract: each kind of instruction is its case of the definition. Assumes nothing.
 use mathlib.Core.Path.{refl, ap, subst, ◌∙◌}
 use mathlib.Core.List.{[], map}
-use mir.ValLaws.{to_z-of_z}
-use mir.Syntax.{w32}
+use Rattle.std.proofs.Common.{rules}
+use Rattle.ink_number.proofs.Signed.{back32}
 use Rattle.ink_value.specs.Val.{bool, int, float, void}
 use Rattle.ink_value.specs.Value.{val_of}
 use Rattle.operator_kinds.specs.Kinds.{operand_count}
@@ -21,10 +21,9 @@ use Rattle.stepping.proofs.run_step.Goals as goal
 pub run_op-requires : goal.run_op-requires
 run_op-requires c =
     let e = c.in-Op.is in
-    let a = subst (λ (x : Instruction). Allowed (literal_count c.args.pack.now) (instr_of x)) e c.requires.allowed.0 in
     let t = subst (λ (x : Instruction). IfOp (instr_of x) (λ o. OperandsFormed c.args.format c.args.work_items.now c.args.work_values.now c.args.a c.args.b c.args.c c.args.n (operand_count o))) e c.requires.roomy.1 in
     record {
-      op_bound = (a, c.requires.allowed.1, known_of c.args.format c.requires.roomy.0.format.narrow _ _ _ _ _ _ c.requires.inputs.0);
+      op_bound = (c.requires.allowed.1, known_of c.args.format c.requires.roomy.0.format.narrow _ _ _ _ _ _ c.requires.inputs.0);
       roomy = (c.requires.roomy.0, t);
     }
 
@@ -47,7 +46,7 @@ returns-in-Bool c =
 
 pub returns-in-Int : goal.returns-in-Int
 returns-in-Int c =
-    λ slots q f t. push_steps (value_pushed (literal_of (decoded c.args.format c.args.pack.now)) (map (val_of c.args.slot_items.now c.args.slot_values.now) slots)) (apply_op (definitions c.args.ends.now c.args.defined.now c.args.format.limit)) c.args.n f _ _ _ _ _ (instr_of c.args.i) (push_int c.in-Int.z) (ap instr_of c.in-Int.is) (_) (ap int (to_z-of_z w32 c.in-Int.z (record { sfits = c.in-Int.known_told-in-Int-1-own.given.0.1 }))) (c.push_value-in-Int.ensures [] [] c.args.format c.args.work_items.now c.args.work_values.now)
+    λ slots q f t. push_steps (value_pushed (literal_of (decoded c.args.format c.args.pack.now)) (map (val_of c.args.slot_items.now c.args.slot_values.now) slots)) (apply_op (definitions c.args.ends.now c.args.defined.now c.args.format.limit)) c.args.n f _ _ _ _ _ (instr_of c.args.i) (push_int c.in-Int.z) (ap instr_of c.in-Int.is) (_) (ap int (back32 c.in-Int.z (search rules))) (c.push_value-in-Int.ensures [] [] c.args.format c.args.work_items.now c.args.work_values.now)
 
 pub returns-in-Float : goal.returns-in-Float
 returns-in-Float c =

@@ -1,33 +1,40 @@
--- `value_conversions::convert` meets its contract: by the kind and the target's code. Assumes nothing.
-use mathlib.Core.Path.{refl, ap, ◌∙◌}
-use mathlib.Core.Bool.{Bool}
-use Prim.Native.Nat.{ℕ}
-use lib.IntN.{ℤ}
+-- `value_conversions::convert` meets its contract: by the target. Assumes nothing.
+use Rattle.std.proofs.Common.{refl, ap, ◌∙◌, ℤ, Bool}
 use lib.Ieee.{Float}
 use Rattle.ink_number.specs.Answer.{gives}
-use Rattle.value_conversions.specs.Convert.{converted}
-use Rattle.ink_value.specs.Value.{val_of, code_of_value}
-use Rattle.value_conversions.proofs.Casting.{cast_list, same_kind}
-use Rattle.ink_value.proofs.Given.{gave_is, gave_plain}
 use Rattle.ink_number.proofs.Signed.{returned}
+use Rattle.ink_value.specs.Value.{kind_in}
 use Rattle.ink_value.specs.declared.Value.TheVariants as Is
-use Rattle.ink_value.specs.declared.Outcome.TheVariants as Out
+use Rattle.ink_value.proofs.Given.{gave_plain}
+use Rattle.value_conversions.specs.Convert.{converted}
+use Rattle.value_conversions.proofs.Casting.{cast_list, cast_void}
 use Rattle.value_conversions.proofs.convert.Goals as goal
 
 pub copied-requires : goal.copied-requires
-copied-requires c = (c.requires.0, cast_list c.args.to (code_of_value c.args.v) c.in_default.in_default-own.rest.0.0.1 c.in_default.in_default-own.rest.0.1 c.in_default.in_default-own.rest.1 c.requires.1)
+copied-requires c = (c.requires.0, cast_list (kind_in c.args.v) (rw c.in-List.is at c.requires.1))
 
-pub returns-in-0 : goal.returns-in-0
+pub returns-in-Bool : goal.returns-in-Bool
 unfolding converted
-returns-in-0 c = (gave_is (ap (λ (t : ℕ). gives (converted t (val_of c.args.items.now c.args.values.now c.args.v))) c.in-0.is) (gave_plain (gives (converted 0 (val_of c.args.items.now c.args.values.now c.args.v))) _ _ _ refl (ap (λ (t : Bool). Out.Value (Is.Bool t)) (c.is_truthy.ensures c.args.items.now c.args.values.now (c.requires.0.items_in, c.requires.0.values_in)))), (refl, refl))
+returns-in-Bool c =
+    let f = c.requires.0 in
+    let e = c.is_truthy.ensures c.args.items.now c.args.values.now (f.items_in, f.values_in) in
+    (rw c.in-Bool.is (gave_plain (gives _) _ _ _ refl (ap (λ (t : Bool). gives (Is.Bool t)) e)), (refl, refl))
 
-pub returns-in-1 : goal.returns-in-1
+pub returns-in-Int : goal.returns-in-Int
 unfolding converted
-returns-in-1 c = (gave_is (ap (λ (t : ℕ). gives (converted t (val_of c.args.items.now c.args.values.now c.args.v))) c.in-1.is) (gave_plain (gives (converted 1 (val_of c.args.items.now c.args.values.now c.args.v))) _ _ _ refl (ap (λ (z : ℤ). Out.Value (Is.Int z)) (returned c.to_int.type_inv ∙ c.to_int.ensures c.args.items.now c.requires.0.items_in))), (refl, refl))
+returns-in-Int c =
+    let e = returned c.to_int.type_inv ∙ c.to_int.ensures c.args.items.now c.requires.0.items_in in
+    (rw c.in-Int.is (gave_plain (gives _) _ _ _ refl (ap (λ (z : ℤ). gives (Is.Int z)) e)), (refl, refl))
 
-pub returns-in-2 : goal.returns-in-2
+pub returns-in-Float : goal.returns-in-Float
 unfolding converted
-returns-in-2 c = (gave_is (ap (λ (t : ℕ). gives (converted t (val_of c.args.items.now c.args.values.now c.args.v))) c.in-2.is) (gave_plain (gives (converted 2 (val_of c.args.items.now c.args.values.now c.args.v))) _ _ _ refl (ap (λ (x : Float). Out.Value (Is.Float x)) (c.to_float.ensures c.args.items.now c.requires.0.items_in))), (refl, refl))
+returns-in-Float c =
+    let e = c.to_float.ensures c.args.items.now c.requires.0.items_in in
+    (rw c.in-Float.is (gave_plain (gives _) _ _ _ refl (ap (λ (x : Float). gives (Is.Float x)) e)), (refl, refl))
 
-pub returns-in_default : goal.returns-in_default
-returns-in_default c = (gave_is (ap gives (same_kind c.args.to (val_of c.args.items.now c.args.values.now c.args.v) c.in_default.in_default-own.rest.0.0.1 c.in_default.in_default-own.rest.0.1 c.in_default.in_default-own.rest.1)) c.copied.ensures.0, c.copied.ensures.1)
+pub returns-in-List : goal.returns-in-List
+unfolding converted
+returns-in-List c = rw c.in-List.is c.copied.ensures
+
+pub returns-in-Void : goal.returns-in-Void
+returns-in-Void c = absurd (cast_void (kind_in c.args.v) (rw c.in-Void.is at c.requires.1))

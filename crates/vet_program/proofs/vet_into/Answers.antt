@@ -2,12 +2,12 @@
 -- vetting the sheet, and the bytes written are the forecast of the instructions passed. The measure is what is left of the sheet's bytes.
 -- Assumes nothing.
 use mathlib.Core.Path.{◌≡◌, sym, ap, ◌∙◌}
-use mathlib.Core.List.{◌∷◌, map}
+use mathlib.Core.List.{◌∷◌}
 use Prim.Native.Nat.{◌<◌}
 use native.Mathlib.Omega.{arith}
 use lib.ListN.{get_or}
 use Rattle.ink_number.specs.Answer.{gives, refuses}
-use Rattle.ink_value.specs.Val.{kind_at}
+use Rattle.ink_number.specs.Question.{number}
 use Rattle.operator_kinds.specs.Kinds.{kind_apply}
 use Rattle.pack.specs.Contents.{literal_count}
 use Rattle.pack.specs.Instruction.{Instr, instr_of, push, push_void}
@@ -33,7 +33,7 @@ sheet_span-span-requires c =
 pub loop-at-init : goal.loop-at-init
 loop-at-init c =
     let sp = c.sheet_span-span.ensures in
-    (begin (program c.args.pack.now c.args.sheet) (map kind_at c.args.kinds) c.args.out.now c.requires.out_len.0, sp.starts, sp.ends, sp.within)
+    (begin (program c.args.pack.now c.args.sheet) c.args.kinds c.args.out.now c.requires.out_len, sp.starts, sp.ends, sp.within)
 
 pub read_instruction-instruction-requires : goal.read_instruction-instruction-requires
 read_instruction-instruction-requires c =
@@ -44,22 +44,19 @@ read_instruction-instruction-requires c =
 pub vet_step-step-requires : goal.vet_step-step-requires
 vet_step-step-requires c =
     let l = c.loop-at in
-    record {
-      by_index = (literal_count c.args.pack.now, allowed (literal_count c.args.pack.now) c.args.pack.now l.at _ c.read_instruction-instruction.ensures.stands);
-      codes = (c.requires.out_len.1, l.invariant.0.depth, l.invariant.0.codes, c.requires.out_len.2);
-    }
+    ((literal_count c.args.pack.now, allowed (literal_count c.args.pack.now) c.args.pack.now l.at _ c.read_instruction-instruction.ensures.stands), l.invariant.0.depth)
 
-pub bounds-stack-place : goal.bounds-stack-place
-bounds-stack-place c =
-    (rw c.in-Put.is at c.vet_step-step.ensures.1).0
+pub bounds-stack-top : goal.bounds-stack-top
+bounds-stack-top c =
+    (rw c.in-Ok.is at c.vet_step-step.ensures.1).0
 
 pub overflow_add-n : goal.overflow_add-n
 overflow_add-n c =
-    omega (arith, (rw c.in-Put.is at c.vet_step-step.ensures.1).0)
+    omega (arith, (rw c.in-Ok.is at c.vet_step-step.ensures.1).0)
 
 pub overflow_cast-out : goal.overflow_cast-out
 overflow_cast-out c =
-    omega (arith, (rw c.in-Put.is at c.vet_step-step.ensures.1).0)
+    omega (arith, (rw c.in-Ok.is at c.vet_step-step.ensures.1).0)
 
 pub overflow_mul-out : goal.overflow_mul-out
 overflow_mul-out c =
@@ -77,8 +74,8 @@ bounds-out-i c =
     let next = c.read_instruction-instruction.ensures.each c.args.sheet l.i l.invariant.1 t in
     omega (arith, next.few)
 
-pub overflow_mul-out-in-Put : goal.overflow_mul-out-in-Put
-overflow_mul-out-in-Put c =
+pub overflow_mul-out-in-Ok : goal.overflow_mul-out-in-Ok
+overflow_mul-out-in-Ok c =
     let p = c.args.pack.now in
     let l = c.loop-at in
     let t : l.at < sheet_end p c.args.sheet = omega (arith, c.loop-at-test.true, l.invariant.2) in
@@ -93,8 +90,8 @@ overflow_add-out c =
     let next = c.read_instruction-instruction.ensures.each c.args.sheet l.i l.invariant.1 t in
     omega (arith, next.few)
 
-pub bounds-out-i-in-Put : goal.bounds-out-i-in-Put
-bounds-out-i-in-Put c =
+pub bounds-out-i-in-Ok : goal.bounds-out-i-in-Ok
+bounds-out-i-in-Ok c =
     let p = c.args.pack.now in
     let l = c.loop-at in
     let t : l.at < sheet_end p c.args.sheet = omega (arith, c.loop-at-test.true, l.invariant.2) in
@@ -129,23 +126,23 @@ loop-at-preserved c =
     let next = c.read_instruction-instruction.ensures.each c.args.sheet l.i l.invariant.1 t in
     let r = c.read_instruction-instruction.ensures in
     let k = next.kth in
-    let e : gives (kind_at c.in-Put.kind ∷ stack_of (kind_on l.stack) c.in-Put.place) ≡ step (kind_pushed (map kind_at c.args.kinds)) kind_apply (get_or (program p c.args.sheet) l.i (push push_void)) (stack_of (kind_on l.stack) l.n) =
-    rw c.in-Put.is at c.vet_step-step.ensures.0 ∙ ap (λ (x : Instr). step (kind_pushed (map kind_at c.args.kinds)) kind_apply x (stack_of (kind_on l.stack) l.n)) (sym k) in
-    let w = (rw c.in-Put.is at c.vet_step-step.ensures.1) in (
-      advance (program p c.args.sheet) (map kind_at c.args.kinds) l.out l.stack l.n l.i c.in-Put.place c.in-Put.kind l.invariant.0 next.below next.few w.0 w.2 e,
+    let e : gives (c.in-Ok.top.value ∷ stack_of (kind_on l.stack) c.in-Ok.top.place) ≡ step (kind_pushed c.args.kinds) kind_apply (get_or (program p c.args.sheet) l.i (push push_void)) (stack_of (kind_on l.stack) l.n) =
+    rw c.in-Ok.is at c.vet_step-step.ensures.0 ∙ ap (λ (x : Instr). step (kind_pushed c.args.kinds) kind_apply x (stack_of (kind_on l.stack) l.n)) (sym k) in
+    let w = (rw c.in-Ok.is at c.vet_step-step.ensures.1) in (
+      rw c.code.ensures (advance (program p c.args.sheet) c.args.kinds l.out l.stack l.n l.i c.in-Ok.top.place c.in-Ok.top.value l.invariant.0 next.below next.few w.0 e),
       rw c.instruction_width-width.ensures next.next,
       l.invariant.2,
       l.invariant.3,
     )
 
-pub returns-in-No : goal.returns-in-No
-returns-in-No c =
+pub returns-in-Err : goal.returns-in-Err
+returns-in-Err c =
     let p = c.args.pack.now in
     let l = c.loop-at in
     let t : l.at < sheet_end p c.args.sheet = omega (arith, c.loop-at-test.true, l.invariant.2) in
     let next = c.read_instruction-instruction.ensures.each c.args.sheet l.i l.invariant.1 t in
     let r = c.read_instruction-instruction.ensures in
     let k = next.kth in
-    let e : refuses c.in-No.number ≡ step (kind_pushed (map kind_at c.args.kinds)) kind_apply (get_or (program p c.args.sheet) l.i (push push_void)) (stack_of (kind_on l.stack) l.n) =
-    rw c.in-No.is at c.vet_step-step.ensures.0 ∙ ap (λ (x : Instr). step (kind_pushed (map kind_at c.args.kinds)) kind_apply x (stack_of (kind_on l.stack) l.n)) (sym k) in
-    (refused (program p c.args.sheet) (map kind_at c.args.kinds) l.out l.stack l.n l.i l.invariant.0 c.in-No.number next.below e, tt, l.invariant.0.out_is)
+    let e : refuses (number c.in-Err.question) ≡ step (kind_pushed c.args.kinds) kind_apply (get_or (program p c.args.sheet) l.i (push push_void)) (stack_of (kind_on l.stack) l.n) =
+    rw c.in-Err.is at c.vet_step-step.ensures.0 ∙ ap (λ (x : Instr). step (kind_pushed c.args.kinds) kind_apply x (stack_of (kind_on l.stack) l.n)) (sym k) in
+    (refused (program p c.args.sheet) c.args.kinds l.out l.stack l.n l.i l.invariant.0 (number c.in-Err.question) next.below e, tt, l.invariant.0.out_is)

@@ -1,21 +1,14 @@
--- `words_in::value_of` meets its contract: a List, or the third word is 0, or neither. Assumes nothing.
-use borrow.Author.Tests.{eq-eqb, ne_eqb}
-use Rattle.ink_value.specs.declared.Value.TheVariants as Is
-use Rattle.slices.proofs.Lists.{ap2}
-use Rattle.words_in.specs.Words.{value_of}
+-- `words_in::value_of` meets its contract: a word that is no kind's code has no value. Assumes nothing.
+use mathlib.Core.Path.{subst, ◌∙◌, sym}
+use native.Mathlib.Omega.{arith}
+use borrow.Author.Tests.{ne_eqb}
+use Prim.Native.Nat.{◌≤◌}
+use Rattle.slices.proofs.Every.{cond_same}
+use Rattle.words_in.specs.Words.{Coded, value_of, plain_at}
 use Rattle.words_in.proofs.value_of.Goals as goal
 
-pub returns-then-kind-eq-LIST : goal.returns-then-kind-eq-LIST
-unfolding value_of
-returns-then-kind-eq-LIST c =
-    rw (eq-eqb c.args.kind 3 c.if-kind-eq-LIST.true) (ap2 (Is.List c.args.w) c.start_in.ensures c.len_in.ensures)
-
-pub returns-then-place-eq0 : goal.returns-then-place-eq0
-unfolding value_of
-returns-then-place-eq0 c =
-    rw (ne_eqb c.args.kind 3 c.if-kind-eq-LIST.false, eq-eqb c.args.place 0 c.if-place-eq0.true) c.plain_at.ensures
-
-pub returns-else-place-eq0 : goal.returns-else-place-eq0
-unfolding value_of
-returns-else-place-eq0 c =
-    rw (ne_eqb c.args.kind 3 c.if-kind-eq-LIST.false, ne_eqb c.args.place 0 c.if-place-eq0.false) c.unheld.ensures
+pub returns-in-None : goal.returns-in-None
+unfolding value_of plain_at
+returns-in-None c =
+    let h : 5 ≤ c.args.code = subst (Coded c.args.code) c.in-None.is c.kind_of.ensures in
+    c.unheld.ensures ∙ sym (rw (ne_eqb c.args.code 3 (omega arith), ne_eqb c.args.code 0 (omega arith), ne_eqb c.args.code 1 (omega arith), ne_eqb c.args.code 2 (omega arith), ne_eqb c.args.code 4 (omega arith)) (cond_same _ _))

@@ -1,0 +1,2 @@
+-- A law of the instructions of a sheet.
+pub mod Few

@@ -1,0 +1,2 @@
+-- The text of values and refusals.
+pub mod Text
