@@ -229,6 +229,7 @@ fn operand_asked(pack: &[u8], v: Value, items: &[u16], values: &[i32]) -> Result
 }
 
 // `coerce_to_bool`: Bool and Int only, and only Int 1 is true.
+// The C interface names the three.
 #[tactic(auto, using(crate::proofs::Standing::coerced_returned, crate::proofs::Standing::bool_plain))]
 pub fn coerce_to_bool(
     pack: &[u8],

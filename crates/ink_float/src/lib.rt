@@ -1,4 +1,4 @@
-// The operators on Float. A Float is an f32. Each contract says over whole numbers what the answer is, by a definition of
+// The operators on Float, each under a name for the definition that its contract cites, and for its edits. A Float is an f32. Each contract says over whole numbers what the answer is, by a definition of
 // binary32's specs/Operations.antt. Where that is a relation it also gives the answer the name that other definitions cite.
 #![tactic(auto)]
 

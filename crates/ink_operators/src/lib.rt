@@ -149,7 +149,7 @@ pub extern "C" fn ink_cast(
     value_words::outcome(outcome, answer)
 }
 
-// The three `coerce_to_`, with a pack of any bytes.
+// The three `coerce_to_`, with a pack of any bytes. The C interface names the three.
 #[unsafe(no_mangle)]
 pub extern "C" fn ink_coerce_to_bool(
     pack: &[u8],

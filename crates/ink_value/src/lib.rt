@@ -8,7 +8,6 @@ ghost use Rattle.slices.specs.Filled.{part};
 ghost use Rattle.ink_value.specs.Value.{val_of, formed_in, kind_in, start_of, len_of, set_in, whole_in, real_in, number_of, of_parts, Stand};
 ghost use Rattle.ink_value.specs.Val.{code_of, kind_at, is_list};
 ghost use Rattle.ink_value.specs.declared.Value.{Value};
-ghost use Rattle.ink_list.specs.Ops.{value_of_list};
 
 use ink_list::entries::Entries;
 
@@ -87,6 +86,7 @@ impl Value {
     }
 
     // Where a list's entries start, how many there are, and its origin set; 0 for other values.
+    // Each reads a field of its own; a closure that picks the field would be no plainer.
     pub fn start_of(self) -> usize
         ensures { result ≡ start_of self }
     {
@@ -136,6 +136,7 @@ impl Value {
     }
 
     // A value as an Int, a Float and a truth.
+    // Each calls a function of its own with a type of its own; a closure for it would be no plainer.
     pub fn to_int(self, values: &[i32]) -> i32
         requires { start_of self + len_of self ≤ length values.now }
         ensures { (is : List ℕ) → start_of self + len_of self ≤ length is → result ≡ as_int (val_of is values.now self) }
@@ -204,15 +205,6 @@ pub fn bit(b: bool) -> i32
     if b { 1 } else { 0 }
 }
 
-// The greatest of the values that stand from `start` on, or 0.
-fn greatest(values: &[i32], start: usize, len: usize) -> i32
-    requires { start + len ≤ length values.now }
-    ensures { result ≡ value_of_list (part start len values.now) }
-{
-    let end = start + len;
-    extreme_values::value_of_list(&values[start..end])
-}
-
 // ---- a value in parts: its kind, what it holds as an Int or as a Float, and where its entries stand
 
 // A number in parts as an Int, as a Float, and as a truth.
@@ -244,18 +236,20 @@ pub fn number_truth(kind: Kind, whole: i32, real: f32) -> bool
 }
 
 // A value in parts as an Int, whatever items stand beside its entries' values.
+#[tactic(auto, using(crate::proofs::Reading::values_at, slices::proofs::Filled::cut))]
 pub fn int_from(kind: Kind, whole: i32, real: f32, start: usize, len: usize, values: &[i32]) -> i32
     requires { start + len ≤ length values.now }
     ensures { (is : List ℕ) → start + len ≤ length is → result ≡ as_int (parts_with is values kind whole real start len) }
 {
     match kind {
         Kind::Bool | Kind::Int | Kind::Float => number_int(kind, whole, real),
-        Kind::List => greatest(values, start, len),
+        Kind::List => extreme_values::value_of_list(&values[start..start + len]),
         Kind::Void => 0,
     }
 }
 
 // As a Float.
+#[tactic(auto, using(crate::proofs::Reading::values_at, slices::proofs::Filled::cut))]
 pub fn float_from(
     kind: Kind,
     whole: i32,
@@ -269,7 +263,10 @@ pub fn float_from(
 {
     match kind {
         Kind::Bool | Kind::Int | Kind::Float => number_float(kind, whole, real),
-        Kind::List => float_conversions::int_to_float(greatest(values, start, len)),
+        Kind::List => {
+            let greatest = extreme_values::value_of_list(&values[start..start + len]);
+            float_conversions::int_to_float(greatest)
+        }
         Kind::Void => float_conversions::int_to_float(0),
     }
 }

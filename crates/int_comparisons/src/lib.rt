@@ -1,4 +1,5 @@
-// The comparisons of two Ints, the smaller and the greater of them, and an Int's truth.
+// The comparisons of two Ints, the smaller and the greater of them, and an Int's truth. They are the language's and the library's own: each
+// has a name here for the definition that its contract cites, and for its edits.
 #![tactic(auto)]
 
 ghost use Rattle.std.specs.Prelude.{◌≡◌, not};

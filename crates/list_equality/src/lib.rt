@@ -15,6 +15,7 @@ pub fn equal(a: &[u16], b: &[u16]) -> bool
 }
 
 // NotEquals: the opposite.
+// By name, as the field has it: one line over `equal`, which a const parameter would make no plainer.
 pub fn not_equals(a: &[u16], b: &[u16]) -> bool
     requires rising_a { Ascends 0 item_numbers a.now }
     requires rising_b { Ascends 0 item_numbers b.now }

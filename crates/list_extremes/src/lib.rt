@@ -37,6 +37,7 @@ fn list_extreme(least: bool, a: Entries<'_>, out: &mut EntriesMut<'_>) -> usize
 }
 
 // ListMin: a list of one, or empty.
+// By name, as the field has it: one line over `list_extreme`, which a const parameter would make no plainer.
 pub fn list_min(a: Entries<'_>, out: &mut EntriesMut<'_>) -> usize
     requires { 1 ≤ places out.old }
     ensures { Fills (list_min (list_of a.entry)) result out.old out.new }

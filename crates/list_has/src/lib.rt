@@ -27,6 +27,7 @@ pub fn has(a: &[u16], b: &[u16]) -> bool
 }
 
 // Hasnt: the opposite.
+// By name, as the field has it: one line over `has`, which a const parameter would make no plainer.
 pub fn hasnt(a: &[u16], b: &[u16]) -> bool
     requires rising_a { Ascends 0 item_numbers a.now }
     requires rising_b { Ascends 0 item_numbers b.now }

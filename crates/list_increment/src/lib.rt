@@ -45,6 +45,7 @@ pub fn increment(
 }
 
 // The same with `by` taken from each value.
+// By name, as the field has it: one line over `increment`, which a const parameter would make no plainer.
 pub fn decrement(
     a: Entries<'_>,
     by: i32,

@@ -30,6 +30,7 @@ fn matching(want: bool, a: Entries<'_>, b: &[u16], out: &mut EntriesMut<'_>) -> 
 }
 
 // Subtract: a's entries whose items are not b's.
+// By name, as the field has it: one line over `matching`, which a const parameter would make no plainer.
 pub fn without(a: Entries<'_>, b: &[u16], out: &mut EntriesMut<'_>) -> usize
     requires rising_a { Ascends 0 (places out.old) a.items.now }
     requires rising_b { Ascends 0 (places out.old) b.now }

@@ -207,7 +207,8 @@ pub fn real(
 
 // ---- an operator, by the kind of its result
 
-// A result that is no List: no slice is written.
+// A result that is no List: no slice is written. A run's step ends in it: as a call it would have the operands in memory.
+#[inline(always)]
 pub fn scalar(
     op: Op,
     kind: Kind,

@@ -146,6 +146,7 @@ fn second(count: usize, left: Kind, middle: Kind) -> Kind
 }
 
 // Questions 11 to 13 of an operator and as many kinds as it takes, of three: the answer.
+#[inline(always)]
 pub fn answer(op: Op, count: usize, left: Kind, middle: Kind, right: Kind) -> Result<Kind, Question>
     requires { (count ≡ operand_count (op_number op)) × (1 ≤ count) }
     ensures { KindsGiven (op_number op) count (take count (left ∷ middle ∷ right ∷ [])) (answer_of result) }

@@ -1,4 +1,4 @@
-// Little-endian numbers at a position of a run of bytes.
+// Little-endian numbers at a position of a run of bytes, read by the library: a name for each, as the definitions have one.
 #![tactic(auto, unfolding(crate::specs::Bytes::number))]
 
 ghost use Rattle.std.specs.Prelude.{◌≡◌, ◌+◌, ◌<◌, ◌≤◌, length};

@@ -36,12 +36,8 @@ fn report_slots() -> fmt::Result {
     out.flush()
 }
 
-fn report() -> fmt::Result {
-    named_reports::report_input()?;
-    report_slots()
-}
-
 fn main() {
+    named_reports::report_input();
     // what could not be written is missed where the output is compared
-    let _told = report();
+    let _told = report_slots();
 }

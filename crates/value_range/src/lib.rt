@@ -2,9 +2,8 @@
 #![tactic(auto)]
 
 ghost use Rattle.std.specs.Prelude.{◌≡◌, List, ℕ, ◌≤◌, ◌+◌, length};
-ghost use Rattle.slices.specs.Filled.{part};
 ghost use Rattle.ink_list.specs.Lists.{places, Fills};
-ghost use Rattle.ink_list.specs.Ops.{lower_bound, upper_bound, range};
+ghost use Rattle.ink_list.specs.Ops.{range};
 ghost use Rattle.ink_value.specs.Convert.{entries_of};
 ghost use Rattle.ink_value.specs.Slices.{val_in};
 ghost use Rattle.ink_value.specs.Value.{val_of, start_of, len_of, Formed};
@@ -13,51 +12,32 @@ ghost use Rattle.value_range.specs.Bounds.{lower_of, upper_of};
 use ink_list::entries_mut::EntriesMut;
 use ink_value::Value;
 
-// The least of the values that stand from `start` on, or 0.
-#[tactic(auto, using(slices::proofs::Filled::cut))]
-fn least(values: &[i32], start: usize, len: usize) -> i32
-    requires { start + len ≤ length values.now }
-    ensures { result ≡ lower_bound (part start len values.now) }
-{
-    let end = start + len;
-    extreme_values::lower_bound(&values[start..end])
-}
-
-// The greatest of the values that stand from `start` on, or 2147483647.
-#[tactic(auto, using(slices::proofs::Filled::cut))]
-fn highest(values: &[i32], start: usize, len: usize) -> i32
-    requires { start + len ≤ length values.now }
-    ensures { result ≡ upper_bound (part start len values.now) }
-{
-    let end = start + len;
-    extreme_values::upper_bound(&values[start..end])
-}
-
 // Range's bounds where neither an Int nor a list that has entries gives one.
 const LOWER_BOUND: i32 = 0;
 
 const UPPER_BOUND: i32 = 2147483647;
 
-#[tactic(auto, using(ink_value::proofs::Reading::values_at))]
+// Two functions: they call different readers and have different defaults; one with both as parameters would be no plainer.
+#[tactic(auto, using(ink_value::proofs::Reading::values_at, slices::proofs::Filled::cut))]
 pub fn lower_bound(v: Value, values: &[i32]) -> i32
     requires { start_of v + len_of v ≤ length values.now }
     ensures { (is : List ℕ) → start_of v + len_of v ≤ length is → result ≡ lower_of (val_of is values.now v) }
 {
     match v {
         Value::Int(z) => z,
-        Value::List { start, len, .. } => least(values, start, len),
+        Value::List { start, len, .. } => extreme_values::lower_bound(&values[start..start + len]),
         Value::Bool(_) | Value::Float(_) | Value::Void => LOWER_BOUND,
     }
 }
 
-#[tactic(auto, using(ink_value::proofs::Reading::values_at))]
+#[tactic(auto, using(ink_value::proofs::Reading::values_at, slices::proofs::Filled::cut))]
 pub fn upper_bound(v: Value, values: &[i32]) -> i32
     requires { start_of v + len_of v ≤ length values.now }
     ensures { (is : List ℕ) → start_of v + len_of v ≤ length is → result ≡ upper_of (val_of is values.now v) }
 {
     match v {
         Value::Int(z) => z,
-        Value::List { start, len, .. } => highest(values, start, len),
+        Value::List { start, len, .. } => extreme_values::upper_bound(&values[start..start + len]),
         Value::Bool(_) | Value::Float(_) | Value::Void => UPPER_BOUND,
     }
 }

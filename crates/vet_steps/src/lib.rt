@@ -61,7 +61,8 @@ fn vet_op(op: Op, table: &KindTable, stack: &[Kind; 64], n: usize) -> Result<Top
     })
 }
 
-// A push of a kind on a stack of n: question 9.
+// A push of a kind on a stack of n: question 9. A run's push is as short and promises another thing, of entries in slices: one function for
+// both would leave each its proof.
 #[tactic(auto, using(machine::proofs::Stack::push_fits, machine::proofs::Stack::push_full))]
 fn vet_push(value: Kind, n: usize) -> Result<Top<Kind>, Question>
     requires { n ≤ 64 }

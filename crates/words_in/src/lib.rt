@@ -1,7 +1,8 @@
-// Words read as values: three for each, the code of its kind, what it holds, and where a List's entries stand.
+// Words read as values: three for each, the code of its kind, what it holds, and where a List's entries stand. They are not converted by
+// From or TryFrom: words that are no value's read as a value that question 7 turns away, each kind by a test of its own.
 #![tactic(auto)]
 
-ghost use Rattle.std.specs.Prelude.{◌≡◌, ◌<◌, ◌/◌, ◌%◌, ◌^◌};
+ghost use Rattle.std.specs.Prelude.{◌≡◌, ◌<◌, ◌+◌, ◌*◌, ◌/◌, ◌%◌, ◌^◌};
 ghost use Rattle.ink_value.specs.Val.{code_of};
 ghost use Rattle.words_in.specs.Words.{Coded, unheld, bool_at, int_at, float_at, void_at, plain_at, value_of, value_at, slots_in};
 
@@ -141,7 +142,15 @@ fn value_of(code: u64, w: u64, place: u64) -> Value
 pub fn value_in(words: &[u64; 3]) -> Value
     ensures { result ≡ value_at words.now 0 }
 {
-    value_of(words[0], words[1], words[2])
+    value_at(words, 0)
+}
+
+// The value of the three words from 3 * k on.
+fn value_at<const N: usize>(words: &[u64; N], k: usize) -> Value
+    requires { 3 * k + 2 < N }
+    ensures { result ≡ value_at words.now k }
+{
+    value_of(words[3 * k], words[3 * k + 1], words[3 * k + 2])
 }
 
 // The value of operand k.
@@ -149,20 +158,12 @@ pub fn operand_at(words: &[u64; 9], k: usize) -> Value
     requires { k < 3 }
     ensures { result ≡ value_at words.now k }
 {
-    value_of(words[3 * k], words[3 * k + 1], words[3 * k + 2])
-}
-
-// The value of slot k.
-fn slot_at(words: &[u64; 48], k: usize) -> Value
-    requires { k < 16 }
-    ensures { result ≡ value_at words.now k }
-{
-    value_of(words[3 * k], words[3 * k + 1], words[3 * k + 2])
+    value_at(words, k)
 }
 
 // The slots of a run.
 pub fn slots_in(words: &[u64; 48]) -> [Value; 16]
     ensures { result ≡ slots_in words.now }
 {
-    std::array::from_fn(|k| slot_at(words, k))
+    std::array::from_fn(|k| value_at(words, k))
 }
