@@ -39,6 +39,9 @@ kind_in_lem is vs (Is.Float x) = refl
 kind_in_lem is vs (Is.List o s n) = refl
 kind_in_lem is vs Is.Void = refl
 
+pub code_of_lem : (is : List ℕ) (vs : List ℤ) (v : Value) → code_of (kind_of (val_of is vs v)) ≡ code_of (kind_in v)
+code_of_lem is vs v = sym (ap code_of (kind_in_lem is vs v))
+
 -- n entries that stand whole in two lists: their values, and how many they are
 module _ (is : List ℕ) (vs : List ℤ) (s n : ℕ) (h : s + n ≤ length is) (k : s + n ≤ length vs) where
   long : length (part s n is) ≡ length (part s n vs)

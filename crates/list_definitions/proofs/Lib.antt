@@ -1,5 +1,6 @@
 -- The laws that the functions' proofs, and those of crates above, cite.
 pub mod DefLaws
+pub mod Passed
 pub mod OriginLaws
 pub mod Order
 pub mod Raised

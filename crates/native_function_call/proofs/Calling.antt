@@ -20,6 +20,7 @@ use Rattle.ink_value.proofs.Given.{gave_plain}
 use Rattle.number_operators.specs.Numbers.{arith_z}
 use Rattle.operator_kinds.specs.Kinds.{known, arity, kind_apply, kind_call}
 use Rattle.list_definitions.specs.Defs.{ListDefinitions}
+use Rattle.list_operators.specs.Lists.{list_result}
 use Rattle.native_function_call.specs.Apply.{of_int, whole, apply_op, compute, call}
 
 pub apply_gives : (u : ListDefinitions) (o : ℕ) (vs : List Val) (k : Kind) → kind_apply o (map kind_of vs) ≡ gives k → apply_op u o vs ≡ compute u o vs k
@@ -98,6 +99,10 @@ pub scalar_gave : (u : ListDefinitions) (o : ℕ) (k : Kind) (n : ℕ) (a b c : 
 scalar_gave u o k n a b c {r} {oi} {ov} h l m e =
     gave_plain (compute u o (take n (a ∷ b ∷ c ∷ [])) k) r oi ov (scalar_none u o (take n (a ∷ b ∷ c ∷ [])) k h)
     (e ∙ ap (λ (vs : List Val). placed (compute u o vs k)) (two_of n a b c l m))
+
+pub compute_list : (u : ListDefinitions) (o : ℕ) (k : Kind) (vs : List Val) → k ≡ K.List → compute u o vs k ≡ gives (list_result u o vs)
+unfolding compute
+compute_list u o k vs e = ap (compute u o vs) e
 
 -- ---- what `apply` comes to
 

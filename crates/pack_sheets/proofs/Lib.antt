@@ -1,0 +1,2 @@
+-- The laws of a sheet's instructions.
+pub mod Alone
