@@ -229,7 +229,7 @@ fn operand_asked(pack: &[u8], v: Value, items: &[u16], values: &[i32]) -> Result
 }
 
 // `coerce_to_bool`: Bool and Int only, and only Int 1 is true.
-// The C interface names the three.
+// There is one for each kind, as the Rust has them and as C calls them by `ink_coerce_to_bool` and the like.
 #[tactic(auto, using(crate::proofs::Standing::coerced_returned, crate::proofs::Standing::bool_plain))]
 pub fn coerce_to_bool(
     pack: &[u8],

@@ -100,6 +100,7 @@ pub fn work(
     let mut stack = [void; STACK_LIMIT];
     let mut n: usize = 0;
     let mut i: usize = 0;
+    // The next instruction starts where this one's width ends.
     while at < end {
         let instruction = pack::instruction::read_instruction(pack, at);
         let width = pack::instruction::instruction_width(instruction);

@@ -31,7 +31,7 @@ pub fn vet_into(
     let mut stack = [Kind::Void; 64];
     let mut n: usize = 0;
     let mut i: usize = 0;
-    // A step moves the height of the stack and, by the instruction's width, the place in the pack: no iterator holds both.
+    // The next instruction starts where this one's width ends.
     while at < end {
         let instruction = pack::instruction::read_instruction(pack, at);
         let width = pack::instruction::instruction_width(instruction);
