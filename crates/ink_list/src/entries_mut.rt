@@ -4,6 +4,7 @@ ghost use Rattle.std.specs.Prelude.{◌≡◌, [], ◌∷◌, ◌+◌, ◌<◌, 
 ghost use Rattle.ink_list.specs.Lists.{list_of, places, AppendsTo, Fills};
 
 use crate::entries::Entries;
+use crate::lists::Lists;
 
 // Two slices that entries are written into, side by side.
 #[derive(Drop)]
@@ -49,5 +50,16 @@ impl<'a> EntriesMut<'a> {
         ensures { result.now ≡ take n self.now.items.now }
     {
         &self.items[..n]
+    }
+
+    // Both, to read.
+    pub fn lists(&self) -> Lists<'_>
+        ensures items { result.items.now ≡ self.now.items.now }
+        ensures values { result.values.now ≡ self.now.values.now }
+    {
+        Lists {
+            items: &self.items[..],
+            values: &self.values[..],
+        }
     }
 }

@@ -1,7 +1,16 @@
-// Is a lent list formed as a literal of a pack.
+// What it is that a list is formed as a literal of a pack.
 
 ghost use Rattle.std.specs.Prelude.{◌≡◌};
 ghost use Rattle.ink_list.specs.Entries.{ascends, bits_below, formed_lent};
+
+use crate::lists::Lists;
+
+// How many definitions, and how many items in all, a pack has.
+#[derive(Clone, Copy)]
+pub struct Counts {
+    pub definitions: usize,
+    pub items: usize,
+}
 
 // Has an origin set bits below d alone.
 #[tactic(auto, using(crate::proofs::Formed::all_fit))]
@@ -32,15 +41,17 @@ fn ascends(items: &[u16], limit: usize) -> bool
     true
 }
 
-// Is a lent list formed as a literal of a pack with this many items and definitions, and are its slices equally long.
-pub fn is_formed(items: &[u16], values: &[i32], set: u64, total: usize, definitions: usize) -> bool
-    ensures { result ≡ formed_lent total definitions set items.now values.now }
-{
-    if items.len() != values.len() {
-        return false;
+impl Lists<'_> {
+    // Are the two, as one list with these origins, formed as a literal of a pack with so many, and are they equally long.
+    pub fn is_formed(self, origins: u64, counts: Counts) -> bool
+        ensures { result ≡ formed_lent counts.items counts.definitions origins self.entry.items.now self.entry.values.now }
+    {
+        if self.items.len() != self.values.len() {
+            return false;
+        }
+        if !bits_below(origins, counts.definitions) {
+            return false;
+        }
+        ascends(self.items, counts.items)
     }
-    if !bits_below(set, definitions) {
-        return false;
-    }
-    ascends(items, total)
 }

@@ -7,19 +7,19 @@ use Rattle.slices.proofs.Lists.{ap3}
 use Rattle.ink_value.proofs.Forming.{past_items, inside, lent_alike}
 use Rattle.ink_value.proofs.Value.is_formed.Goals as goal
 
-pub returns-then-items-start : goal.returns-then-items-start
-returns-then-items-start c =
-    sym (past_items c.args.total c.args.definitions c.args.items.now c.args.values.now c.args.self (omega (arith, c.start_of-start.ensures, c.if-items-start.true)))
+pub returns-then-lists-start : goal.returns-then-lists-start
+returns-then-lists-start c =
+    sym (past_items c.args.counts.items c.args.counts.definitions c.args.lists.items.now c.args.lists.values.now c.args.self (omega (arith, c.start_of-start.ensures, c.if-lists-start.true)))
 
-pub returns-then-items-start-2 : goal.returns-then-items-start-2
-returns-then-items-start-2 c =
-    sym (past_items c.args.total c.args.definitions c.args.items.now c.args.values.now c.args.self (omega (arith, c.start_of-start.ensures, c.len_of-len.ensures, c.if-items-start.false, c.if-items-start-2.true)))
+pub returns-then-lists-start-2 : goal.returns-then-lists-start-2
+returns-then-lists-start-2 c =
+    sym (past_items c.args.counts.items c.args.counts.definitions c.args.lists.items.now c.args.lists.values.now c.args.self (omega (arith, c.start_of-start.ensures, c.len_of-len.ensures, c.if-lists-start.false, c.if-lists-start-2.true)))
 
 pub returns : goal.returns
 returns c =
-    let i = lends c.args.items.now c.start_of-start.result c.len_of-len.result c.args.self c.start_of-start.ensures c.len_of-len.ensures in
-    let v = lends c.args.values.now c.start_of-start.result c.len_of-len.result c.args.self c.start_of-start.ensures c.len_of-len.ensures in
+    let i = lends c.args.lists.items.now c.start_of-start.result c.len_of-len.result c.args.self c.start_of-start.ensures c.len_of-len.ensures in
+    let v = lends c.args.lists.values.now c.start_of-start.result c.len_of-len.result c.args.self c.start_of-start.ensures c.len_of-len.ensures in
     c.is_formed.ensures
-    ∙ ap3 (formed_lent c.args.total c.args.definitions) c.origins_in.ensures i v
-    ∙ lent_alike c.args.total c.args.definitions c.args.items.now c.args.values.now c.args.self (omega (arith, c.start_of-start.ensures, c.len_of-len.ensures, c.if-items-start.false, c.if-items-start-2.false)) (omega (arith, c.start_of-start.ensures, c.len_of-len.ensures))
-    ∙ sym (inside c.args.total c.args.definitions c.args.items.now c.args.values.now c.args.self (omega (arith, c.start_of-start.ensures, c.len_of-len.ensures, c.if-items-start.false, c.if-items-start-2.false)) (omega (arith, c.start_of-start.ensures, c.len_of-len.ensures)))
+    ∙ ap3 (formed_lent c.args.counts.items c.args.counts.definitions) c.origins_in.ensures i v
+    ∙ lent_alike c.args.counts.items c.args.counts.definitions c.args.lists.items.now c.args.lists.values.now c.args.self (omega (arith, c.start_of-start.ensures, c.len_of-len.ensures, c.if-lists-start.false, c.if-lists-start-2.false)) (omega (arith, c.start_of-start.ensures, c.len_of-len.ensures))
+    ∙ sym (inside c.args.counts.items c.args.counts.definitions c.args.lists.items.now c.args.lists.values.now c.args.self (omega (arith, c.start_of-start.ensures, c.len_of-len.ensures, c.if-lists-start.false, c.if-lists-start-2.false)) (omega (arith, c.start_of-start.ensures, c.len_of-len.ensures)))

@@ -1,12 +1,9 @@
--- `ink_value::is_truthy` meets its contract. Assumes nothing.
-use mathlib.Core.Path.{refl, ◌∙◌}
+-- `ink_value::is_truthy` meets its contract: a list's entries that stand whole are as many as it says. Assumes nothing.
+use mathlib.Core.Path.{◌≡◌, ap, sym, ◌∙◌}
 use native.Mathlib.Omega.{arith}
-use Rattle.ink_value.specs.Value.{start_of}
-use Rattle.ink_number.proofs.Signed.{returned}
-use Rattle.ink_value.proofs.Parts.{parts_of, truth_parts}
+use lib.Dec.{ltb}
+use Rattle.ink_value.proofs.Reading.{length_at}
 use Rattle.ink_value.proofs.Value.is_truthy.Goals as goal
 
-pub returns : goal.returns
-returns c =
-    let p = parts_of c.args.self _ _ _ _ _ c.kind.ensures (returned c.whole_in.type_inv ∙ c.whole_in.ensures) c.real_in.ensures refl c.len_of.ensures in
-    λ is vs h. c.truth_from.ensures is vs (start_of c.args.self) (omega (arith, h.0, c.len_of.ensures), omega (arith, h.1, c.len_of.ensures)) ∙ truth_parts is vs c.args.self p
+pub returns-in-List : goal.returns-in-List
+returns-in-List c = rw c.in-List.is (λ is vs h. sym (ap (ltb 0) (length_at is vs c.in-List.start c.in-List.len h.0 h.1)))

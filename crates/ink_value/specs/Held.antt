@@ -1,0 +1,41 @@
+-- The words of the contracts for values whose entries stand in lent slices, and for numbers in parts. Assumes nothing.
+use Rattle.std.specs.Prelude.{List, ℕ, Result, Ok}
+use Rattle.ink_number.specs.Answer.{Answer, gives}
+use Rattle.ink_number.specs.Question.{answer}
+use Rattle.ink_number.specs.declared.question.Question.{Question}
+use Rattle.ink_list.specs.declared.entries_mut.EntriesMut.{EntriesMut}
+use Rattle.ink_list.specs.declared.lists.Lists.{Lists}
+use Rattle.ink_list.specs.Lists.{Same}
+use Rattle.ink_value.specs.Val.{Val}
+use Rattle.ink_value.specs.Value.{val_of, first_of, number_of, Formed, FirstFormed, Gave}
+use Rattle.ink_value.specs.declared.Value.{Value}
+use Rattle.ink_value.specs.declared.number_parts.NumberParts.{NumberParts}
+use Rattle.ink_value.specs.declared.operands.Operands.{Operands}
+
+-- the value, its entries in the two slices
+abbrev pub val_in : Lists → Value → Val
+val_in lists v = val_of lists.items.now lists.values.now v
+
+-- the operands that are used
+abbrev pub operands_in : Lists → Operands → List Val
+operands_in lists o = first_of lists.items.now lists.values.now o.count o.first o.second o.third
+
+-- a list's entries stand whole in the two slices, and their items rise below the limit
+abbrev pub FormedIn : ℕ → Lists → Value → Type 0
+FormedIn limit lists v = Formed limit lists.items.now lists.values.now v
+
+-- so do those of the operands that are used
+abbrev pub OperandsFormed : ℕ → Lists → Operands → Type 0
+OperandsFormed limit lists o = FirstFormed limit lists.items.now lists.values.now o.count o.first o.second o.third
+
+-- a number in parts
+abbrev pub number_in : NumberParts → Val
+number_in p = number_of p.kind p.whole p.real
+
+-- the answer is returned, and its entries are written from the start of two slices, which are else as they were
+abbrev pub GivesTo : Answer Val → Result Value Question → EntriesMut → EntriesMut → Type 0
+GivesTo a r before after = Gave a (answer r) before.items.now after.items.now before.values.now after.values.now × Same before after
+
+-- the same of a call that refuses nothing: it returns the value
+abbrev pub MakesTo : Val → Value → EntriesMut → EntriesMut → Type 0
+MakesTo v r before after = GivesTo (gives v) (Ok r) before after
