@@ -1,6 +1,6 @@
 -- The pack's definitions, as two tables, and the list operators that go by them. `ends` has for each definition the number one past its
 -- last item, and `defined` each item's value.
-use Rattle.std.specs.Prelude.{◌≡◌, Bool, true, false, cond, List, [], ◌∷◌, ℕ, zero, suc, ◌+◌, ◌*◌, ◌/◌, ◌%◌, ◌<◌, eqb, ltb, ℤ, pos, ◌+ℤ◌, ◌-ℤ◌, length, get_or}
+use Rattle.std.specs.Prelude.{◌≡◌, Bool, true, false, cond, List, [], ◌∷◌, ℕ, zero, suc, ◌+◌, ◌*◌, ◌/◌, ◌%◌, ◌<◌, ◌≤◌, eqb, ltb, ℤ, pos, ◌+ℤ◌, ◌-ℤ◌, length, get_or}
 use Rattle.std.specs.Coded.{×_prop, le_prop}
 use Rattle.std.proofs.Math.Nat.{ℕ_set}
 use Rattle.std.proofs.Math.Option.{Option, none, some}
@@ -32,6 +32,22 @@ pub Tables-prop : (ends : List ℕ) (defined : List ℤ) → IsProp (Tables ends
 Tables-prop ends defined p q = λ i. record {
   numbered = Ends-prop 0 (length defined) ends p.numbered q.numbered i;
   few = le_prop p.few q.few i;
+}
+
+-- "definitions D (at most 64)", and items at most as many as the format allows, of which each has a number
+pub record Bounded (ends : List ℕ) (defined : List ℤ) (limit : ℕ) : Type 0 where
+  pub few : length ends ≤ 64
+  pub within : length defined ≤ limit
+  pub some : 1 ≤ limit
+  pub small : limit < item_numbers
+
+-- in one way
+pub Bounded-prop : (ends : List ℕ) (defined : List ℤ) (limit : ℕ) → IsProp (Bounded ends defined limit)
+Bounded-prop ends defined limit p q = λ i. record {
+  few = le_prop p.few q.few i;
+  within = le_prop p.within q.within i;
+  some = le_prop p.some q.some i;
+  small = le_prop p.small q.small i;
 }
 
 -- the definition of an item, its origin: how many definitions end at or before it

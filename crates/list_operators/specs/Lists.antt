@@ -3,10 +3,9 @@
 use Rattle.std.specs.Prelude.{cond, List, [], ◌∷◌, ℕ, ◌≤◌, ◌<◌, eqb, ℤ, length}
 use Rattle.op.specs.Op.{op_add, op_subtract, op_list_min, op_list_max, op_all, op_invert}
 use Rattle.slices.specs.Slices.{Slice}
-use Rattle.ink_list.specs.declared.entries_mut.EntriesMut.{EntriesMut}
 use Rattle.ink_list.specs.Entries.{Entry, items, item_numbers}
 use Rattle.ink_list.specs.Ops.{range, list_min, list_max}
-use Rattle.list_definitions.specs.declared.definitions.Definitions.{Definitions}
+use Rattle.list_definitions.specs.declared.definitions.PackDefinitions.{PackDefinitions}
 use Rattle.list_definitions.specs.Defs.{ListDefinitions, Tables, all, invert, increment, decrement}
 use Rattle.list_pairs.specs.Pairs.{merge_l}
 use Rattle.ink_value.specs.Val.{Val, list, kind_of, is_list}
@@ -56,23 +55,9 @@ abbrev pub definitions : List ℕ → List ℤ → ℕ → ListDefinitions
 definitions ends defined limit = record { ends = ends; defined = defined; limit = limit }
 
 -- the same of definitions that are held as one value
-abbrev pub definitions_of : Definitions → ℕ → ListDefinitions
-definitions_of d limit = definitions d.ends.now d.defined.now limit
+abbrev pub definitions_of : PackDefinitions → ListDefinitions
+definitions_of d = definitions d.tables.ends.now d.tables.defined.now d.limit
 
 -- the same of two lent slices
 abbrev pub definitions_in : Slice ℕ → Slice ℤ → ℕ → ListDefinitions
 definitions_in ends defined limit = definitions ends.entry.now defined.entry.now limit
-
--- the definitions' tables, and output slices with places for as many entries as there may be items
-pub record Room (u : ListDefinitions) (oi : List ℕ) (ov : List ℤ) : Type 0 where
-  pub tables : Tables u.ends u.defined
-  pub few : length u.ends ≤ 64
-  pub within : length u.defined ≤ u.limit
-  pub some : 1 ≤ u.limit
-  pub small : u.limit < item_numbers
-  pub items_room : u.limit ≤ length oi
-  pub values_room : u.limit ≤ length ov
-
--- the same of values that hold the definitions and the output slices
-abbrev pub RoomFor : Definitions → ℕ → EntriesMut → Type 0
-RoomFor d limit out = Room (definitions_of d limit) out.items.now out.values.now

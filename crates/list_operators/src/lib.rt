@@ -6,16 +6,18 @@ ghost use Rattle.ink_list.specs.Entries.{Ascends, item_numbers};
 ghost use Rattle.ink_list.specs.Lists.{list_of, places, Fills};
 ghost use Rattle.ink_value.specs.declared.Kind.TheVariants as K;
 ghost use Rattle.ink_value.specs.Convert.{entries_of};
-ghost use Rattle.ink_value.specs.Value.{kind_in, Formed, FirstFormed};
-ghost use Rattle.ink_value.specs.Slices.{val_in, first_in, MakesTo};
+ghost use Rattle.ink_value.specs.Value.{kind_in};
+ghost use Rattle.ink_value.specs.Held.{val_in, operands_in, FormedIn, OperandsFormed, MakesTo};
 ghost use Rattle.op.specs.Op.{op_number};
 ghost use Rattle.list_pairs.specs.Pairs.{merge_l};
-ghost use Rattle.list_operators.specs.Lists.{unary_l, shift_l, entries_for, list_result, definitions_of, RoomFor};
+ghost use Rattle.list_operators.specs.Lists.{unary_l, shift_l, entries_for, list_result, definitions_of};
 
 use ink_list::entries::Entries;
 use ink_list::entries_mut::EntriesMut;
+use ink_list::lists::Lists;
+use ink_value::operands::Operands;
 use ink_value::{Kind, Value};
-use list_definitions::definitions::Definitions;
+use list_definitions::definitions::{Definitions, PackDefinitions};
 use op::Op;
 
 #[tactic(auto, unfolding(crate::specs::Lists::unary_l), using(ink_list::proofs::Rests::items_entries))]
@@ -65,42 +67,26 @@ fn shift(
 fn list1(
     op: Op,
     a: Value,
-    items: &[u16],
-    values: &[i32],
-    definitions: Definitions<'_>,
-    limit: usize,
+    lists: Lists<'_>,
+    pack: PackDefinitions<'_>,
     out: &mut EntriesMut<'_>,
 ) -> usize
-    requires room { RoomFor definitions limit out.old }
-    requires formed { Formed limit items.now values.now a }
-    ensures { Fills (entries_for (definitions_of definitions.entry limit) (op_number op)
-        (val_in items values a ∷ [])) result out.old out.new }
+    requires room { pack.limit ≤ places out.old }
+    requires formed { FormedIn pack.limit lists a }
+    ensures { Fills (entries_for (definitions_of pack.entry) (op_number op) (val_in lists.entry a ∷ [])) result out.old out.new }
 {
-    let list = a.entries_of(items, values);
-    unary(op, list, a.origins_in(), definitions, out)
+    unary(op, a.entries_of(lists), a.origins_in(), pack.tables, out)
 }
 
 // Add, Subtract and Intersect of two lists.
-fn list_list(
-    op: Op,
-    a: Value,
-    b: Value,
-    items: &[u16],
-    values: &[i32],
-    out: &mut EntriesMut<'_>,
-) -> usize
-    requires formed_a { Formed (places out.old) items.now values.now a }
-    requires formed_b { Formed (places out.old) items.now values.now b }
-    ensures { (limit : ℕ) → Formed limit items.now values.now a
-        → Formed limit items.now values.now b
-        → Fills (merge_l limit (op_number op) (entries_of (val_in items values a)) (entries_of (val_in items values b)))
+fn list_list(op: Op, a: Value, b: Value, lists: Lists<'_>, out: &mut EntriesMut<'_>) -> usize
+    requires formed_a { FormedIn (places out.old) lists a }
+    requires formed_b { FormedIn (places out.old) lists b }
+    ensures { (limit : ℕ) → FormedIn limit lists.entry a → FormedIn limit lists.entry b
+        → Fills (merge_l limit (op_number op) (entries_of (val_in lists.entry a)) (entries_of (val_in lists.entry b)))
         result out.old out.new }
 {
-    let i = a.start_of();
-    let m = a.len_of();
-    let j = b.start_of();
-    let n = b.len_of();
-    list_pairs::merge_held(op, i, m, j, n, items, values, out)
+    list_pairs::merge(op, a.entries_of(lists), b.entries_of(lists), out)
 }
 
 // Add and Subtract of a list and an Int.
@@ -108,93 +94,84 @@ fn list_int(
     op: Op,
     a: Value,
     b: Value,
-    items: &[u16],
-    values: &[i32],
-    definitions: Definitions<'_>,
-    limit: usize,
+    lists: Lists<'_>,
+    pack: PackDefinitions<'_>,
     out: &mut EntriesMut<'_>,
 ) -> usize
-    requires room { RoomFor definitions limit out.old }
-    requires formed { Formed limit items.now values.now a × Formed limit items.now values.now b }
+    requires room { pack.limit ≤ places out.old }
+    requires formed { FormedIn pack.limit lists a × FormedIn pack.limit lists b }
     requires no_list { kind_in b ≡ K.List → ⊥ }
-    ensures { Fills (entries_for (definitions_of definitions.entry limit) (op_number op)
-        (val_in items values a ∷ val_in items values b ∷ [])) result out.old out.new }
+    ensures { Fills (entries_for (definitions_of pack.entry) (op_number op) (val_in lists.entry a ∷ val_in lists.entry b ∷ []))
+        result out.old out.new }
 {
-    let list = a.entries_of(items, values);
-    let set = a.origins_in();
-    let by = b.to_int(values);
-    shift(op, list, by, set, definitions, out)
+    let by = b.to_int(lists.values);
+    shift(
+        op,
+        a.entries_of(lists),
+        by,
+        a.origins_in(),
+        pack.tables,
+        out,
+    )
 }
 
 fn list2(
     op: Op,
     a: Value,
     b: Value,
-    items: &[u16],
-    values: &[i32],
-    definitions: Definitions<'_>,
-    limit: usize,
+    lists: Lists<'_>,
+    pack: PackDefinitions<'_>,
     out: &mut EntriesMut<'_>,
 ) -> usize
-    requires room { RoomFor definitions limit out.old }
-    requires formed { Formed limit items.now values.now a × Formed limit items.now values.now b }
-    ensures { Fills (entries_for (definitions_of definitions.entry limit) (op_number op)
-        (val_in items values a ∷ val_in items values b ∷ [])) result out.old out.new }
+    requires room { pack.limit ≤ places out.old }
+    requires formed { FormedIn pack.limit lists a × FormedIn pack.limit lists b }
+    ensures { Fills (entries_for (definitions_of pack.entry) (op_number op) (val_in lists.entry a ∷ val_in lists.entry b ∷ []))
+        result out.old out.new }
 {
     match b.kind() {
-        Kind::List => list_list(op, a, b, items, values, out),
-        _ => list_int(op, a, b, items, values, definitions, limit, out),
+        Kind::List => list_list(op, a, b, lists, out),
+        _ => list_int(op, a, b, lists, pack, out),
     }
 }
 
 // The entries of a result that is a List.
 fn entries_for(
     op: Op,
-    count: usize,
-    a: Value,
-    b: Value,
-    c: Value,
-    items: &[u16],
-    values: &[i32],
-    definitions: Definitions<'_>,
-    limit: usize,
+    operands: Operands,
+    lists: Lists<'_>,
+    pack: PackDefinitions<'_>,
     out: &mut EntriesMut<'_>,
 ) -> usize
-    requires room { RoomFor definitions limit out.old }
-    requires first_formed { FirstFormed limit items.now values.now count a b c }
-    requires le_count { (1 ≤ count) × (count ≤ 3) }
-    ensures { Fills (entries_for (definitions_of definitions.entry limit) (op_number op)
-        (first_in items values count a b c)) result out.old out.new }
+    requires room { pack.limit ≤ places out.old }
+    requires formed { OperandsFormed pack.limit lists operands }
+    requires le_count { (1 ≤ operands.count) × (operands.count ≤ 3) }
+    ensures { Fills (entries_for (definitions_of pack.entry) (op_number op) (operands_in lists.entry operands)) result out.old out.new }
 {
-    match count {
-        1 => list1(op, a, items, values, definitions, limit, out),
-        2 => list2(op, a, b, items, values, definitions, limit, out),
-        _ => value_range::range(a, b, c, items, values, out),
+    let a = operands.first;
+    let b = operands.second;
+    match operands.count {
+        1 => list1(op, a, lists, pack, out),
+        2 => list2(op, a, b, lists, pack, out),
+        _ => value_range::range(a, b, operands.third, lists, out),
     }
 }
 
 // A result that is a List, written from the start of the two output slices.
 pub fn list(
     op: Op,
-    count: usize,
-    a: Value,
-    b: Value,
-    c: Value,
-    items: &[u16],
-    values: &[i32],
-    definitions: Definitions<'_>,
-    limit: usize,
+    operands: Operands,
+    lists: Lists<'_>,
+    pack: PackDefinitions<'_>,
     out: &mut EntriesMut<'_>,
 ) -> Value
-    requires room { RoomFor definitions limit out.old }
-    requires first_formed { FirstFormed limit items.now values.now count a b c }
-    requires le_count { (1 ≤ count) × (count ≤ 3) }
-    ensures { MakesTo (list_result (definitions_of definitions.entry limit) (op_number op)
-        (first_in items values count a b c)) result out.old out.new }
+    requires room { pack.limit ≤ places out.old }
+    requires formed { OperandsFormed pack.limit lists operands }
+    requires le_count { (1 ≤ operands.count) × (operands.count ≤ 3) }
+    ensures { MakesTo (list_result (definitions_of pack.entry) (op_number op) (operands_in lists.entry operands)) result out.old out.new }
 {
-    let len = entries_for(op, count, a, b, c, items, values, definitions, limit, out);
+    let len = entries_for(op, operands, lists, pack, out);
     let items = out.first_items(len);
-    let origins = result_origins::origins_after(op, count, a, b, items, definitions.ends);
+    let origins = result_origins::origins_after(op, operands, items, pack.tables.ends);
     Value::List {
         origins,
         start: 0,

@@ -4,8 +4,6 @@
 ghost use Rattle.std.specs.Prelude.{◌≡◌, ℕ};
 ghost use Rattle.ink_list.specs.Entries.{item_numbers, Ascends, Rising};
 ghost use Rattle.ink_list.specs.Lists.{list_of, places, Fills};
-ghost use Rattle.ink_value.specs.Value.{Spans};
-ghost use Rattle.ink_value.specs.Slices.{entries_in};
 ghost use Rattle.op.specs.Op.{op_number};
 ghost use Rattle.list_pairs.specs.Pairs.{test_l, merge_l};
 
@@ -47,61 +45,4 @@ pub fn merge(op: Op, a: Entries<'_>, b: Entries<'_>, out: &mut EntriesMut<'_>) -
         Op::Intersect => list_sift::intersect(a, b.items, out),
         _ => 0,
     }
-}
-
-// ---- the same on entries that stand in lent slices: m from i on, and n from j on
-
-pub fn test_held(
-    op: Op,
-    i: usize,
-    m: usize,
-    j: usize,
-    n: usize,
-    items: &[u16],
-    values: &[i32],
-) -> bool
-    requires spans_a { Spans item_numbers items.now values.now i m }
-    requires spans_b { Spans item_numbers items.now values.now j n }
-    ensures { result ≡ test_l (op_number op) (entries_in items values i m) (entries_in items values j n) }
-{
-    let e = i + m;
-    let f = j + n;
-    let a = Entries {
-        items: &items[i..e],
-        values: &values[i..e],
-    };
-    let b = Entries {
-        items: &items[j..f],
-        values: &values[j..f],
-    };
-    test_entries(op, a, b)
-}
-
-pub fn merge_held(
-    op: Op,
-    i: usize,
-    m: usize,
-    j: usize,
-    n: usize,
-    items: &[u16],
-    values: &[i32],
-    out: &mut EntriesMut<'_>,
-) -> usize
-    requires spans_a { Spans (places out.old) items.now values.now i m }
-    requires spans_b { Spans (places out.old) items.now values.now j n }
-    ensures { (limit : ℕ) → Spans limit items.now values.now i m
-        → Spans limit items.now values.now j n
-        → Fills (merge_l limit (op_number op) (entries_in items values i m) (entries_in items values j n)) result out.old out.new }
-{
-    let e = i + m;
-    let f = j + n;
-    let a = Entries {
-        items: &items[i..e],
-        values: &values[i..e],
-    };
-    let b = Entries {
-        items: &items[j..f],
-        values: &values[j..f],
-    };
-    merge(op, a, b, out)
 }

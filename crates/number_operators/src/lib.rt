@@ -7,13 +7,14 @@ ghost use Rattle.op.specs.Op.{op_number};
 ghost use Rattle.ink_value.specs.Val.{code_of};
 ghost use Rattle.ink_value.specs.declared.Kind.TheVariants as K;
 ghost use Rattle.ink_value.specs.Convert.{as_int, as_float, truthy};
-ghost use Rattle.ink_value.specs.Value.{number_of};
+ghost use Rattle.ink_value.specs.Held.{number_in};
 ghost use Rattle.number_operators.specs.Numbers.{arith_z, arith_f, unary_f, test_z, test_f, test_two, whole_unary, real_unary};
 
 use crate::number::Number;
 use ink_number::int;
 use ink_number::question::Question;
 use ink_value::Kind;
+use ink_value::number_parts::NumberParts;
 use op::Op;
 
 pub mod number;
@@ -65,13 +66,13 @@ pub fn test<N: Number>(op: Op, x: N, y: N) -> bool
     }
 }
 
-// ---- numbers in parts: kind k, and the number z or x that a value of that kind holds
+// ---- numbers in parts
 
 // A result that is a Bool, of one number and of two.
-pub fn number_test1(ka: Kind, za: i32, xa: f32) -> bool
-    ensures { result ≡ not (truthy (number_of ka za xa)) }
+pub fn number_test1(a: NumberParts) -> bool
+    ensures { result ≡ not (truthy (number_in a)) }
 {
-    !ink_value::number_truth(ka, za, xa)
+    !a.is_truthy()
 }
 
 // Is one of two numbers a Float, by their kinds.
@@ -85,68 +86,44 @@ fn any_float(left: Kind, right: Kind) -> bool
     }
 }
 
-pub fn number_test2(op: Op, ka: Kind, za: i32, xa: f32, kb: Kind, zb: i32, xb: f32) -> bool
-    ensures { result ≡ test_two (op_number op) (number_of ka za xa) (number_of kb zb xb) }
+pub fn number_test2(op: Op, a: NumberParts, b: NumberParts) -> bool
+    ensures { result ≡ test_two (op_number op) (number_in a) (number_in b) }
 {
-    if any_float(ka, kb) {
-        return test(
-            op,
-            ink_value::number_float(ka, za, xa),
-            ink_value::number_float(kb, zb, xb),
-        );
+    if any_float(a.kind, b.kind) {
+        return test(op, a.to_float(), b.to_float());
     }
-    test(
-        op,
-        ink_value::number_int(ka, za, xa),
-        ink_value::number_int(kb, zb, xb),
-    )
+    test(op, a.to_int(), b.to_int())
 }
 
 // A result that is an Int.
 #[tactic(auto, unfolding(crate::specs::Numbers::whole_unary))]
-pub fn number_whole1(op: Op, ka: Kind, za: i32, xa: f32) -> i32
-    ensures { result ≡ whole_unary (op_number op) (number_of ka za xa) }
+pub fn number_whole1(op: Op, a: NumberParts) -> i32
+    ensures { result ≡ whole_unary (op_number op) (number_in a) }
 {
     match op {
-        Op::Negate => int::wrapping_neg(ink_value::number_int(ka, za, xa)),
-        Op::Not => ink_value::bit(!ink_value::number_truth(ka, za, xa)),
-        Op::Floor | Op::Ceiling | Op::Int | Op::ValueOfList => ink_value::number_int(ka, za, xa),
+        Op::Negate => int::wrapping_neg(a.to_int()),
+        Op::Not => ink_value::bit(!a.is_truthy()),
+        Op::Floor | Op::Ceiling | Op::Int | Op::ValueOfList => a.to_int(),
         _ => 0,
     }
 }
 
-pub fn number_whole2(
-    op: Op,
-    ka: Kind,
-    za: i32,
-    xa: f32,
-    kb: Kind,
-    zb: i32,
-    xb: f32,
-) -> Result<i32, Question>
-    ensures { answer result ≡ arith_z (op_number op) (as_int (number_of ka za xa)) (as_int (number_of kb zb xb)) }
+pub fn number_whole2(op: Op, a: NumberParts, b: NumberParts) -> Result<i32, Question>
+    ensures { answer result ≡ arith_z (op_number op) (as_int (number_in a)) (as_int (number_in b)) }
 {
-    arith(
-        op,
-        ink_value::number_int(ka, za, xa),
-        ink_value::number_int(kb, zb, xb),
-    )
+    arith(op, a.to_int(), b.to_int())
 }
 
 // A result that is a Float.
 #[tactic(auto, unfolding(crate::specs::Numbers::real_unary))]
-pub fn number_real1(op: Op, ka: Kind, za: i32, xa: f32) -> f32
-    ensures { result ≡ real_unary (op_number op) (number_of ka za xa) }
+pub fn number_real1(op: Op, a: NumberParts) -> f32
+    ensures { result ≡ real_unary (op_number op) (number_in a) }
 {
-    unary_float(op, ink_value::number_float(ka, za, xa))
+    unary_float(op, a.to_float())
 }
 
-pub fn number_real2(op: Op, ka: Kind, za: i32, xa: f32, kb: Kind, zb: i32, xb: f32) -> f32
-    ensures { result ≡ arith_f (op_number op) (as_float (number_of ka za xa)) (as_float (number_of kb zb xb)) }
+pub fn number_real2(op: Op, a: NumberParts, b: NumberParts) -> f32
+    ensures { result ≡ arith_f (op_number op) (as_float (number_in a)) (as_float (number_in b)) }
 {
-    arith(
-        op,
-        ink_value::number_float(ka, za, xa),
-        ink_value::number_float(kb, zb, xb),
-    )
+    arith(op, a.to_float(), b.to_float())
 }

@@ -8,6 +8,7 @@ ghost use Rattle.ink_value.specs.declared.Value.{Value};
 ghost use Rattle.op.specs.Op.{op_number};
 ghost use Rattle.result_origins.specs.Origins.{origins_kept, origins_after};
 
+use ink_value::operands::Operands;
 use ink_value::{Kind, Value};
 use op::Op;
 
@@ -26,18 +27,18 @@ fn origins_kept(op: Op, a: Value, b: Value) -> u64
     }
 }
 
-// The origin set of a result with these items, of the first `count` of a, b and any third operand.
+// The origin set of a result with these items, of these operands, whatever the third is.
 #[tactic(auto, using(crate::proofs::Rule::some_items, crate::proofs::Rule::no_items, crate::proofs::Rule::not_two))]
-pub fn origins_after(op: Op, count: usize, a: Value, b: Value, items: &[u16], ends: &[u16]) -> u64
+pub fn origins_after(op: Op, operands: Operands, items: &[u16], ends: &[u16]) -> u64
     requires { Ascends 0 item_numbers items.now × (length ends.now ≤ 64) }
     ensures { (is : List ℕ) (vs : List ℤ) (c : Value)
-        → result ≡ origins_after ends.now (op_number op) (first_of is vs count a b c) items.now }
+        → result ≡ origins_after ends.now (op_number op) (first_of is vs operands.count operands.first operands.second c) items.now }
 {
     if 0 < items.len() {
         return list_definitions::origins_of(items, ends);
     }
-    if count != 2 {
+    if operands.count != 2 {
         return 0;
     }
-    origins_kept(op, a, b)
+    origins_kept(op, operands.first, operands.second)
 }

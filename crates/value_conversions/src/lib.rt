@@ -5,11 +5,12 @@ ghost use Rattle.std.specs.Prelude.{◌≡◌, true, List, ℕ, ◌+◌, ℤ};
 ghost use Rattle.ink_number.specs.Question.{answer};
 ghost use Rattle.ink_list.specs.Lists.{places};
 ghost use Rattle.ink_value.specs.declared.Kind.TheVariants as K;
-ghost use Rattle.ink_value.specs.Value.{val_of, kind_in, Formed, placed};
-ghost use Rattle.ink_value.specs.Slices.{val_in, GivesTo, MakesTo};
+ghost use Rattle.ink_value.specs.Value.{val_of, kind_in, placed};
+ghost use Rattle.ink_value.specs.Held.{val_in, FormedIn, GivesTo, MakesTo};
 ghost use Rattle.value_conversions.specs.Convert.{castable, converted, cast, coerce_bool, coerce_int, coerce_float};
 
 use ink_list::entries_mut::EntriesMut;
+use ink_list::lists::Lists;
 use ink_number::question::Question;
 use ink_value::{Kind, Value, bit};
 
@@ -27,11 +28,11 @@ fn castable(to: Kind, from: Kind) -> bool
 }
 
 // A list, copied to the output.
-fn copied(v: Value, items: &[u16], values: &[i32], out: &mut EntriesMut<'_>) -> Value
-    requires { Formed (places out.old) items.now values.now v × (kind_in v ≡ K.List) }
-    ensures { MakesTo (val_in items values v) result out.old out.new }
+fn copied(v: Value, lists: Lists<'_>, out: &mut EntriesMut<'_>) -> Value
+    requires { FormedIn (places out.old) lists v × (kind_in v ≡ K.List) }
+    ensures { MakesTo (val_in lists.entry v) result out.old out.new }
 {
-    let len = out.copy(v.entries_of(items, values));
+    let len = out.copy(v.entries_of(lists));
     Value::List {
         origins: v.origins_in(),
         start: 0,
@@ -40,15 +41,15 @@ fn copied(v: Value, items: &[u16], values: &[i32], out: &mut EntriesMut<'_>) -> 
 }
 
 // A value of a kind that may be cast, cast. Nothing is cast to Void.
-fn convert(to: Kind, v: Value, items: &[u16], values: &[i32], out: &mut EntriesMut<'_>) -> Value
-    requires { Formed (places out.old) items.now values.now v × (castable to (kind_in v) ≡ true) }
-    ensures { MakesTo (converted to (val_in items values v)) result out.old out.new }
+fn convert(to: Kind, v: Value, lists: Lists<'_>, out: &mut EntriesMut<'_>) -> Value
+    requires { FormedIn (places out.old) lists v × (castable to (kind_in v) ≡ true) }
+    ensures { MakesTo (converted to (val_in lists.entry v)) result out.old out.new }
 {
     match to {
         Kind::Bool => Value::Bool(v.is_truthy()),
-        Kind::Int => Value::Int(v.to_int(values)),
-        Kind::Float => Value::Float(v.to_float(values)),
-        Kind::List => copied(v, items, values, out),
+        Kind::Int => Value::Int(v.to_int(lists.values)),
+        Kind::Float => Value::Float(v.to_float(lists.values)),
+        Kind::List => copied(v, lists, out),
         Kind::Void => Value::Void,
     }
 }
@@ -57,15 +58,14 @@ fn convert(to: Kind, v: Value, items: &[u16], values: &[i32], out: &mut EntriesM
 pub fn cast(
     to: Kind,
     v: Value,
-    items: &[u16],
-    values: &[i32],
+    lists: Lists<'_>,
     out: &mut EntriesMut<'_>,
 ) -> Result<Value, Question>
-    requires { Formed (places out.old) items.now values.now v }
-    ensures { GivesTo (cast to (val_in items values v)) result out.old out.new }
+    requires { FormedIn (places out.old) lists v }
+    ensures { GivesTo (cast to (val_in lists.entry v)) result out.old out.new }
 {
     if castable(to, v.kind()) {
-        return Ok(convert(to, v, items, values, out));
+        return Ok(convert(to, v, lists, out));
     }
     Err(Question::Conversion)
 }

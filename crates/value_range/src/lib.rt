@@ -5,11 +5,12 @@ ghost use Rattle.std.specs.Prelude.{◌≡◌, List, ℕ, ◌≤◌, ◌+◌, le
 ghost use Rattle.ink_list.specs.Lists.{places, Fills};
 ghost use Rattle.ink_list.specs.Ops.{range};
 ghost use Rattle.ink_value.specs.Convert.{entries_of};
-ghost use Rattle.ink_value.specs.Slices.{val_in};
-ghost use Rattle.ink_value.specs.Value.{val_of, start_of, len_of, Formed};
+ghost use Rattle.ink_value.specs.Held.{val_in, FormedIn};
+ghost use Rattle.ink_value.specs.Value.{val_of, start_of, len_of};
 ghost use Rattle.value_range.specs.Bounds.{lower_of, upper_of};
 
 use ink_list::entries_mut::EntriesMut;
+use ink_list::lists::Lists;
 use ink_value::Value;
 
 // Range's bounds where neither an Int nor a list that has entries gives one.
@@ -43,22 +44,15 @@ pub fn upper_bound(v: Value, values: &[i32]) -> i32
 }
 
 // Range on a list, its lower and its upper bound.
-pub fn range(
-    a: Value,
-    b: Value,
-    c: Value,
-    items: &[u16],
-    values: &[i32],
-    out: &mut EntriesMut<'_>,
-) -> usize
-    requires formed_a { Formed (places out.old) items.now values.now a }
-    requires formed_b { Formed (places out.old) items.now values.now b }
-    requires formed_c { Formed (places out.old) items.now values.now c }
-    ensures { (limit : ℕ) → Formed limit items.now values.now a
-        → Fills (range limit (lower_of (val_in items values b)) (upper_of (val_in items values c)) (entries_of (val_in items values a)))
+pub fn range(a: Value, b: Value, c: Value, lists: Lists<'_>, out: &mut EntriesMut<'_>) -> usize
+    requires formed_a { FormedIn (places out.old) lists a }
+    requires formed_b { FormedIn (places out.old) lists b }
+    requires formed_c { FormedIn (places out.old) lists c }
+    ensures { (limit : ℕ) → FormedIn limit lists.entry a
+        → Fills (range limit (lower_of (val_in lists.entry b)) (upper_of (val_in lists.entry c)) (entries_of (val_in lists.entry a)))
         result out.old out.new }
 {
-    let lower = lower_bound(b, values);
-    let upper = upper_bound(c, values);
-    list_range::range(a.entries_of(items, values), lower, upper, out)
+    let lower = lower_bound(b, lists.values);
+    let upper = upper_bound(c, lists.values);
+    list_range::range(a.entries_of(lists), lower, upper, out)
 }
