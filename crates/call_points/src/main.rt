@@ -79,7 +79,7 @@ fn call_into(s: &[u8], pack: &[u8], values: &[i32], oi: &mut [u16], ov: &mut [i3
     let b = operand(s, SECOND);
     let c = operand(s, THIRD);
     let count = number(s, COUNT);
-    let op = Op::numbered(byte(s, WHICH));
+    let op = Op::from(byte(s, WHICH));
     let r = calls::call(pack, op, count, a, b, c, &ITEMS, values, oi, ov);
     report(s, r, oi, ov);
 }
@@ -123,7 +123,7 @@ fn cast(s: &[u8]) {
     let mut oi = [UNWRITTEN_ITEM; 256];
     let mut ov = [UNWRITTEN_VALUE; 256];
     let v = operand(s, FIRST);
-    let to = Kind::coded(byte(s, WHICH));
+    let to = Kind::from(byte(s, WHICH));
     let r = calls::cast(&PACK, to, v, &ITEMS, &VALUES, &mut oi, &mut ov);
     report(s, r, &oi, &ov);
 }
@@ -146,7 +146,7 @@ fn coerced(
 fn coerce(s: &[u8]) {
     let items = ITEMS;
     let values = VALUES;
-    let to = Kind::coded(byte(s, WHICH));
+    let to = Kind::from(byte(s, WHICH));
     let r = coerced(&PACK, to, operand(s, FIRST), &items, &values);
     print_name(s);
     show(r, &items, &values);

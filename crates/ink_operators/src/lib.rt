@@ -109,7 +109,7 @@ pub extern "C" fn ink_call(
     let c = words_in::operand_at(operands, 2);
     let outcome = calls::call(
         pack,
-        Op::numbered(op),
+        Op::from(op),
         count,
         a,
         b,
@@ -139,7 +139,7 @@ pub extern "C" fn ink_cast(
     let v = words_in::value_in(operand);
     let outcome = calls::cast(
         pack,
-        Kind::coded(code),
+        Kind::from(code),
         v,
         items,
         values,
@@ -323,7 +323,7 @@ pub extern "C" fn ink_call_checked(
         return value_words::number(Question::Memory);
     }
     apply(
-        Op::numbered(op),
+        Op::from(op),
         count,
         operands,
         items,
@@ -355,7 +355,7 @@ pub extern "C" fn ink_apply(
     ensures { CallSays format1.limit ends defined op count operands items values result answer result_items result_values }
 {
     apply(
-        Op::numbered(op),
+        Op::from(op),
         count,
         operands,
         items,

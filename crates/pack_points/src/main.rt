@@ -76,7 +76,7 @@ fn show_literals(p: &[u8])
 fn show_instruction(i: Instruction) {
     match i {
         Instruction::Op(op) => {
-            let n = op.number();
+            let n = usize::from(op);
             print(format_args!(" op {n}"));
         }
         Instruction::Bool(b) => {
@@ -134,7 +134,7 @@ fn report(p: &[u8]) {
     match pack_check::check(p) {
         Ok(()) => show(p),
         Err(question) => {
-            let number = question.number();
+            let number = u8::from(question);
             print(format_args!(" {number}"));
         }
     }

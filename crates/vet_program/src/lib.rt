@@ -41,7 +41,7 @@ pub fn vet_into(
                 stack[top.place] = top.value;
                 n = top.place + 1;
                 out[2 * i] = n as u8;
-                out[2 * i + 1] = top.value.code();
+                out[2 * i + 1] = u8::from(top.value);
                 at += width;
                 i += 1;
             }
