@@ -12,12 +12,12 @@ convert-requires c = (c.requires, rw c.kind.ensures at (sym c.castable.ensures â
 pub returns-then-castable : goal.returns-then-castable
 unfolding cast
 returns-then-castable c =
-    let same = sym (kind_in_lem c.args.items.now c.args.values.now c.args.v) in
+    let same = sym (kind_in_lem c.args.lists.items.now c.args.lists.values.now c.args.v) in
     (rw (same, sym c.kind.ensures, sym c.castable.ensures, c.if-castable.true) c.convert.ensures.0, c.convert.ensures.1)
 
 pub returns : goal.returns
 unfolding cast
 returns c =
-    let same = sym (kind_in_lem c.args.items.now c.args.values.now c.args.v) in
+    let same = sym (kind_in_lem c.args.lists.items.now c.args.lists.values.now c.args.v) in
     let left = gave_plain (refuses 18) _ _ _ refl refl in
     (rw (same, sym c.kind.ensures, sym c.castable.ensures, c.if-castable.false) left, (refl, refl))

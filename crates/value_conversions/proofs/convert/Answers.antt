@@ -17,19 +17,19 @@ pub returns-in-Bool : goal.returns-in-Bool
 unfolding converted
 returns-in-Bool c =
     let f = c.requires.0 in
-    let e = c.is_truthy.ensures c.args.items.now c.args.values.now (f.items_in, f.values_in) in
+    let e = c.is_truthy.ensures c.args.lists.items.now c.args.lists.values.now (f.items_in, f.values_in) in
     (rw c.in-Bool.is (gave_plain (gives _) _ _ _ refl (ap (λ (t : Bool). gives (Is.Bool t)) e)), (refl, refl))
 
 pub returns-in-Int : goal.returns-in-Int
 unfolding converted
 returns-in-Int c =
-    let e = returned c.to_int.type_inv ∙ c.to_int.ensures c.args.items.now c.requires.0.items_in in
+    let e = returned c.to_int.type_inv ∙ c.to_int.ensures c.args.lists.items.now c.requires.0.items_in in
     (rw c.in-Int.is (gave_plain (gives _) _ _ _ refl (ap (λ (z : ℤ). gives (Is.Int z)) e)), (refl, refl))
 
 pub returns-in-Float : goal.returns-in-Float
 unfolding converted
 returns-in-Float c =
-    let e = c.to_float.ensures c.args.items.now c.requires.0.items_in in
+    let e = c.to_float.ensures c.args.lists.items.now c.requires.0.items_in in
     (rw c.in-Float.is (gave_plain (gives _) _ _ _ refl (ap (λ (x : Float). gives (Is.Float x)) e)), (refl, refl))
 
 pub returns-in-List : goal.returns-in-List
