@@ -28,6 +28,7 @@ fn castable(to: Kind, from: Kind) -> bool
 }
 
 // A list, copied to the output.
+#[tactic(auto, using(ink_value::proofs::Reading::part_few))]
 fn copied(v: Value, lists: Lists<'_>, out: &mut EntriesMut<'_>) -> Value
     requires { FormedIn (places out.old) lists v × (kind_in v ≡ K.List) }
     ensures { MakesTo (val_in lists.entry v) result out.old out.new }
@@ -41,6 +42,7 @@ fn copied(v: Value, lists: Lists<'_>, out: &mut EntriesMut<'_>) -> Value
 }
 
 // A value of a kind that may be cast, cast. Nothing is cast to Void.
+#[tactic(auto, unfolding(crate::specs::Convert::converted), using(crate::proofs::Casting::cast_list, crate::proofs::Casting::cast_void, ink_value::proofs::Given::gave_plain))]
 fn convert(to: Kind, v: Value, lists: Lists<'_>, out: &mut EntriesMut<'_>) -> Value
     requires { FormedIn (places out.old) lists v × (castable to (kind_in v) ≡ true) }
     ensures { MakesTo (converted to (val_in lists.entry v)) result out.old out.new }
@@ -55,6 +57,7 @@ fn convert(to: Kind, v: Value, lists: Lists<'_>, out: &mut EntriesMut<'_>) -> Va
 }
 
 // `Value::cast` to the kind `to`.
+#[tactic(auto, unfolding(crate::specs::Convert::cast), using(ink_value::proofs::Reading::kind_in_lem, ink_value::proofs::Given::gave_plain))]
 pub fn cast(
     to: Kind,
     v: Value,
