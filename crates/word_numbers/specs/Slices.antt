@@ -1,7 +1,9 @@
 -- The words of the contracts of operators on numbers in words. Assumes nothing.
-use Rattle.std.specs.Prelude.{◌≡◌, List, [], ◌∷◌, ℕ, ℤ, take, Result}
+use Rattle.std.specs.Prelude.{◌≡◌, List, [], ◌∷◌, ℕ, ◌+◌, ◌*◌, ◌%◌, ◌^◌, ℤ, take, get_or, Result}
+use Rattle.ink_number.specs.Int.{signed}
 use Rattle.ink_number.specs.Question.{answer}
 use Rattle.ink_number.specs.declared.question.Question.{Question}
+use Rattle.binary32.specs.Real.{of_bits32}
 use Rattle.slices.specs.Slices.{Slice, MutSlice}
 use Rattle.ink_value.specs.Val.{Val}
 use Rattle.list_definitions.specs.Defs.{ListDefinitions}
@@ -10,7 +12,18 @@ use Rattle.value_words.specs.Slices.{SaysIn}
 use Rattle.ink_value.specs.Value.{val_of, placed}
 use Rattle.ink_value.specs.declared.Kind.{Kind}
 use Rattle.ink_value.specs.declared.Value.{Value}
+use Rattle.ink_value.specs.declared.number_parts.NumberParts.{NumberParts}
 use Rattle.words_in.specs.Words.{value_at}
+use Rattle.word_kinds.specs.Operands.{kind_word}
+
+-- operand k as a number in parts: its kind is that of its first word, and its second is read as an Int and as a Float
+abbrev pub number_at : List ℕ → ℕ → NumberParts
+number_at ws k =
+    record {
+      kind = kind_word ws k;
+      whole = signed (get_or ws (3 * k + 1) 0 % 2 ^ 32);
+      real = of_bits32 (get_or ws (3 * k + 1) 0 % 2 ^ 32);
+    }
 
 -- the values of the first two operands
 abbrev pub two_at : List ℕ → List ℤ → List ℕ → List Val
