@@ -24,9 +24,9 @@ use Rattle.list_definitions.specs.Defs.{ListDefinitions}
 use Rattle.number_operators.specs.Numbers.{arith_z, arith_f, test_two, whole_unary, real_unary}
 use Rattle.native_function_call.specs.Apply.{test_lists, test, of_int, compute}
 use Rattle.words_in.specs.Words.{unheld, value_at}
-use Rattle.word_kinds.specs.Operands.{OfNumbers}
+use Rattle.word_kinds.specs.Operands.{OfNumbers, vals_at}
 use Rattle.word_kinds.proofs.Operands.{Parts, word_parts}
-use Rattle.word_numbers.specs.Slices.{number_at, two_at}
+use Rattle.word_numbers.specs.Slices.{number_at}
 
 -- ---- the parts of a number
 
@@ -114,22 +114,22 @@ float_left k h (inr (inl e)) = absurd (omega (arith, h, ap code_of e))
 float_left k h (inr (inr e)) = absurd (omega (arith, h, ap code_of e))
 
 module _ (u : ListDefinitions) (o : ℕ) (is : List ℕ) (vs : List ℤ) (ws : List ℕ) (k : Kind) where
-  pub test_one : OfNumbers ws o 1 k → k ≡ K.Bool → placed (compute u o (take 1 (two_at is vs ws)) k) ≡ gives (Is.Bool (not (truthy (number_in (number_at ws 0)))))
+  pub test_one : OfNumbers ws o 1 k → k ≡ K.Bool → placed (compute u o (take 1 (vals_at is vs ws)) k) ≡ gives (Is.Bool (not (truthy (number_in (number_at ws 0)))))
   unfolding compute
   test_one m e = rw e (ap (λ (t : Bool). gives (Is.Bool (not t))) (sym (of_number truthy bit_truth is vs (value_at ws 0) (number ws 0 m.left))))
 
-  pub whole_one : OfNumbers ws o 1 k → k ≡ K.Int → placed (compute u o (take 1 (two_at is vs ws)) k) ≡ gives (Is.Int (whole_unary o (number_in (number_at ws 0))))
+  pub whole_one : OfNumbers ws o 1 k → k ≡ K.Int → placed (compute u o (take 1 (vals_at is vs ws)) k) ≡ gives (Is.Int (whole_unary o (number_in (number_at ws 0))))
   unfolding compute
   whole_one m e = rw e (ap (λ (z : ℤ). gives (Is.Int z)) (sym (of_number (whole_unary o) (whole_bool o) is vs (value_at ws 0) (number ws 0 m.left))))
 
   pub real_one : OfNumbers ws o 1 k → (k ≡ K.Float) ⊎ ((k ≡ K.List) ⊎ (k ≡ K.Void))
-      → placed (compute u o (take 1 (two_at is vs ws)) k) ≡ gives (Is.Float (real_unary o (number_in (number_at ws 0))))
+      → placed (compute u o (take 1 (vals_at is vs ws)) k) ≡ gives (Is.Float (real_unary o (number_in (number_at ws 0))))
   unfolding compute
   real_one m e =
       rw (float_left k m.small e) (ap (λ (x : Float). gives (Is.Float x)) (sym (of_number (real_unary o) (real_bool o) is vs (value_at ws 0) (number ws 0 m.left))))
 
   pub test_both : OfNumbers ws o 2 k → k ≡ K.Bool
-      → placed (compute u o (take 2 (two_at is vs ws)) k) ≡ gives (Is.Bool (test_two o (number_in (number_at ws 0)) (number_in (number_at ws 1))))
+      → placed (compute u o (take 2 (vals_at is vs ws)) k) ≡ gives (Is.Bool (test_two o (number_in (number_at ws 0)) (number_in (number_at ws 1))))
   unfolding compute
   test_both m e =
       let a = number_at ws 0 in
@@ -142,7 +142,7 @@ module _ (u : ListDefinitions) (o : ℕ) (is : List ℕ) (vs : List ℤ) (ws : L
       ∙ of_number (λ (v : Val). test o (val_of is vs (value_at ws 0) ∷ v ∷ [])) (second_bool o (val_of is vs (value_at ws 0))) is vs (value_at ws 1) (number ws 1 (m.right refl)))))
 
   pub whole_both : OfNumbers ws o 2 k → k ≡ K.Int
-      → placed (compute u o (take 2 (two_at is vs ws)) k) ≡ placed (of_int (arith_z o (as_int (number_in (number_at ws 0))) (as_int (number_in (number_at ws 1)))))
+      → placed (compute u o (take 2 (vals_at is vs ws)) k) ≡ placed (of_int (arith_z o (as_int (number_in (number_at ws 0))) (as_int (number_in (number_at ws 1)))))
   unfolding compute
   whole_both m e =
       rw e
@@ -152,7 +152,7 @@ module _ (u : ListDefinitions) (o : ℕ) (is : List ℕ) (vs : List ℤ) (ws : L
       (of_number as_int (λ b. refl) is vs (value_at ws 1) (number ws 1 (m.right refl)))))
 
   pub real_both : OfNumbers ws o 2 k → (k ≡ K.Float) ⊎ ((k ≡ K.List) ⊎ (k ≡ K.Void))
-      → placed (compute u o (take 2 (two_at is vs ws)) k) ≡ gives (Is.Float (arith_f o (as_float (number_in (number_at ws 0))) (as_float (number_in (number_at ws 1)))))
+      → placed (compute u o (take 2 (vals_at is vs ws)) k) ≡ gives (Is.Float (arith_f o (as_float (number_in (number_at ws 0))) (as_float (number_in (number_at ws 1)))))
   unfolding compute
   real_both m e =
       rw (float_left k m.small e)
