@@ -23,9 +23,9 @@ use Rattle.operator_kinds.specs.Kinds.{kind_call}
 use Rattle.list_operators.specs.Lists.{definitions_of}
 use Rattle.native_function_call.specs.Apply.{call, compute}
 use Rattle.native_function_call.proofs.Calling.{call_gives, call_refuses}
-use Rattle.calls.specs.Call.{called}
+use Rattle.calls.specs.Slices.{called_in}
 use Rattle.call_memory.proofs.UsedOperands.{first_of_lem}
-use Rattle.calls.proofs.Forms.{goes_on}
+use Rattle.calls.proofs.Forms.{goes_used}
 use Rattle.slices.proofs.Lists.{map_take}
 use Rattle.list_definitions.specs.Defs.{ListDefinitions}
 use Rattle.list_definitions.specs.declared.definitions.PackDefinitions.{PackDefinitions}
@@ -67,12 +67,11 @@ module _ (pack : PackDefinitions) (lists : Lists) (n : ℕ) (ws : List ℕ) (ok 
 
     module _ (out : EntriesMut) (room : pack.limit ≤ places out) (o : ℕ) where
       abbrev pub asked : Answer Val
-      asked = called lists.items.now lists.values.now out.items.now out.values.now o n (operands_in ws) (definitions_of pack)
+      asked = called_in lists out o (operands_at n ws) (definitions_of pack)
 
       goes : asked ≡ call (definitions_of pack) o n (vals_in lists (operands_at n ws))
       goes =
-          goes_on lists.items.now lists.values.now out.items.now out.values.now o n (operands_in ws) (definitions_of pack) ok (and_both _ _ (le-leb pack.limit (length out.items.now) (omega (arith, room))) (le-leb pack.limit (length out.values.now) (omega (arith, room))))
-          ∙ ap (call (definitions_of pack) o n) (map_take (val_of lists.items.now lists.values.now) n (operands_in ws))
+          goes_used lists.items.now lists.values.now out.items.now out.values.now o n (value_at ws 0) (value_at ws 1) (value_at ws 2) pack.tables.ends.now pack.tables.defined.now pack.limit ok room
 
       -- the call's, by the answer on the kinds in the words
       pub refused : (q : ℕ) → refuses q ≡ kind_call o n (take n (kind_word ws 0 ∷ kind_word ws 1 ∷ kind_word ws 2 ∷ [])) → (r : ℕ) (answer : List ℕ) → r ≡ q → answer ≡ index_words 0

@@ -24,9 +24,11 @@ ScalarSays op n kind ws lists r answer =
 -- an operator on the first n of three operands, with the tables of a pack: questions 7, 8, 10 to 13 and 15
 abbrev pub CallSays : ℕ → Slice ℕ → Slice ℤ → ℕ → ℕ → Slice ℕ → Slice ℕ → Slice ℤ → ℕ → MutSlice ℕ → MutSlice ℕ → MutSlice ℤ → Type 0
 CallSays limit ends defined op n ws is vs r answer ri rv =
-    CallsIn (called_in is vs ri rv op n (operands_in ws.entry.now) (definitions_in ends defined limit)) r answer ri rv
+    CallsIn
+    (called is.entry.now vs.entry.now ri.entry.now rv.entry.now op n (operands_in ws.entry.now) (definitions_in ends defined limit))
+    r answer ri rv
 
 -- the same with the result slices held as one value
 abbrev pub CallSaysTo : PackDefinitions → ℕ → ℕ → Slice ℕ → Lists → ℕ → MutSlice ℕ → EntriesMut → EntriesMut → Type 0
 CallSaysTo pack op n ws lists r answer before after =
-    CallsTo (called lists.items.now lists.values.now before.items.now before.values.now op n (operands_in ws.entry.now) (definitions_of pack)) r answer before after
+    CallsTo (called_in lists before op (operands_at n ws.entry.now) (definitions_of pack)) r answer before after
