@@ -4,19 +4,17 @@
 // Values and Floats are printed as their bits, in hexadecimal.
 #![tactic(auto)]
 
-mod instructions;
-
 ghost use Rattle.std.specs.Prelude.{◌≡◌, ◌<◌, ◌≤◌, length};
 ghost use Rattle.pack.specs.Contents.{literal_count, sheet_count};
 ghost use Rattle.pack.specs.Read.{program};
 ghost use Rattle.pack_points.specs.Passed.{Passed};
 
-use instructions::instructions_of;
 use named_packs::NamedPacks;
 use pack::format::Format;
 use pack::instruction::Instruction;
 use pack_check::format::{DEFINITION_LIMIT, FORMAT1};
 use pack_literals::{literal_count, literal_len, literal_origins, read_literal};
+use pack_read::instructions::instructions_of;
 use pack_read::{read_definitions, sheet_count};
 use test_output::{bytes, print, println};
 
