@@ -8,7 +8,7 @@ use lib.ListN.{length, take, drop}
 use Rattle.ink_list.specs.Entries.{Entry, entries, Rising, Lent, Wrote, values}
 use Rattle.ink_value.specs.Val.{list, kind_of, code_of}
 use Rattle.ink_value.specs.Convert.{entries_of, origins_in}
-use Rattle.ink_value.specs.Value.{val_of, kind_in, start_of, len_of, set_in, held, Formed, entries_at}
+use Rattle.ink_value.specs.Value.{val_of, kind_in, start_of, len_of, set_in, held, Formed, FirstFormed, entries_at}
 use Rattle.slices.specs.Filled.{part}
 use Rattle.ink_value.specs.declared.Kind.TheVariants as K
 use Rattle.ink_value.specs.declared.Value.{Value}
@@ -52,6 +52,11 @@ module _ (is : List ℕ) (vs : List ℤ) (s n : ℕ) (h : s + n ≤ length is) (
 
   pub length_at : length (entries_at is vs s n) ≡ n
   length_at = length_entries (part s n is) (part s n vs) long ∙ length_part s n is h
+
+-- how many entries a value has
+pub count_of : (is : List ℕ) (vs : List ℤ) (v : Value) → start_of v + len_of v ≤ length is → start_of v + len_of v ≤ length vs
+    → len_of v ≡ length (entries_of (val_of is vs v))
+count_of is vs v h k = sym (ap length (entries_in_lem is vs v) ∙ length_at is vs (start_of v) (len_of v) h k)
 
 module _ (limit : ℕ) (is : List ℕ) (vs : List ℤ) where
   pub len_in : (v : Value) → Formed limit is vs v → length (held is vs v) ≡ len_of v
@@ -105,3 +110,12 @@ list_in is vs (Is.Int z) e = absurd (omega (arith, ap code_of e))
 list_in is vs (Is.Float x) e = absurd (omega (arith, ap code_of e))
 list_in is vs (Is.List o s n) e = refl
 list_in is vs Is.Void e = absurd (omega (arith, ap code_of e))
+
+-- what the first n of three values keep of a lower limit
+pub first_limit : (limit : ℕ) (is : List ℕ) (vs : List ℤ) (m n : ℕ) (a b c : Value) → limit ≤ m → FirstFormed limit is vs n a b c → FirstFormed m is vs n a b c
+first_limit limit is vs m n a b c h f =
+    record {
+      one = λ k. formed_limit limit is vs m a h (f.one k);
+      two = λ k. formed_limit limit is vs m b h (f.two k);
+      three = λ k. formed_limit limit is vs m c h (f.three k);
+    }

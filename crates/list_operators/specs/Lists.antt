@@ -1,12 +1,12 @@
 -- The operators on Lists, by operator number, and the definitions that they go by. A number that is none of the operators listed gives no,
 -- or an empty List. Assumes nothing.
-use Rattle.std.specs.Prelude.{cond, List, [], ◌∷◌, ℕ, ◌≤◌, ◌<◌, eqb, ℤ, length}
+use Rattle.std.specs.Prelude.{cond, List, [], ◌∷◌, ℕ, eqb, ℤ}
 use Rattle.op.specs.Op.{op_add, op_subtract, op_list_min, op_list_max, op_all, op_invert}
 use Rattle.slices.specs.Slices.{Slice}
-use Rattle.ink_list.specs.Entries.{Entry, items, item_numbers}
+use Rattle.ink_list.specs.Entries.{Entry, items}
 use Rattle.ink_list.specs.Ops.{range, list_min, list_max}
 use Rattle.list_definitions.specs.declared.definitions.PackDefinitions.{PackDefinitions}
-use Rattle.list_definitions.specs.Defs.{ListDefinitions, Tables, all, invert, increment, decrement}
+use Rattle.list_definitions.specs.Defs.{ListDefinitions, all, invert, increment, decrement}
 use Rattle.list_pairs.specs.Pairs.{merge_l}
 use Rattle.ink_value.specs.Val.{Val, list, kind_of, is_list}
 use Rattle.ink_value.specs.Convert.{as_int, entries_of, origins_in}

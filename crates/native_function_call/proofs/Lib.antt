@@ -1,5 +1,4 @@
 pub mod Agree
-pub mod InParts
 pub mod Results
 pub mod Known
 pub mod Calling

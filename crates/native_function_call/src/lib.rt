@@ -64,7 +64,7 @@ pub fn test(op: Op, operands: Operands, lists: Lists<'_>) -> bool
     test2(op, operands.first, operands.second, lists)
 }
 
-#[tactic(auto, unfolding(number_operators::specs::Numbers::whole_unary))]
+#[tactic(auto, unfolding(number_operators::specs::Numbers::whole_unary), using(ink_value::proofs::Reading::count_of))]
 fn whole1(op: Op, a: Value, values: &[i32]) -> i32
     requires { (start_of a + len_of a ≤ length values.now) × (len_of a ≤ item_numbers) }
     ensures { (is : List ℕ) → start_of a + len_of a ≤ length is → result ≡ whole_unary (op_number op) (val_of is values.now a) }
@@ -148,7 +148,7 @@ fn computed(
 {
     match kind {
         Kind::List => Ok(list_operators::list(op, operands, lists, pack, out)),
-        Kind::Bool | Kind::Int | Kind::Float | Kind::Void => scalar(op, kind, operands, lists),
+        _ => scalar(op, kind, operands, lists),
     }
 }
 
@@ -165,12 +165,9 @@ pub fn apply(
     requires formed { OperandsFormed pack.limit lists operands }
     ensures { GivesTo (call (definitions_of pack.entry) (op_number op) operands.count (operands_in lists.entry operands)) result out.old out.new }
 {
-    let kind = operator_kinds::kinds(
-        op,
-        operands.count,
-        operands.first.kind(),
-        operands.second.kind(),
-        operands.third.kind(),
-    )?;
+    let a = operands.first.kind();
+    let b = operands.second.kind();
+    let c = operands.third.kind();
+    let kind = operator_kinds::kinds(op, operands.count, a, b, c)?;
     computed(op, kind, operands, lists, pack, out)
 }

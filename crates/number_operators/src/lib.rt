@@ -86,6 +86,7 @@ fn any_float(left: Kind, right: Kind) -> bool
     }
 }
 
+#[tactic(auto, using(crate::proofs::Parts::test_ints))]
 pub fn number_test2(op: Op, a: NumberParts, b: NumberParts) -> bool
     ensures { result ≡ test_two (op_number op) (number_in a) (number_in b) }
 {

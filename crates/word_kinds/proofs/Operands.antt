@@ -22,7 +22,7 @@ use Rattle.ink_value.specs.Val.{kind_of, kind_at, code_of, is_list}
 use Rattle.ink_value.specs.declared.Kind.{Kind}
 use Rattle.ink_value.specs.declared.Kind.TheVariants as K
 use Rattle.ink_value.specs.Value.{val_of, kind_in}
-use Rattle.ink_value.proofs.Parts.{Parts}
+use Rattle.ink_value.specs.declared.number_parts.NumberParts.{NumberParts}
 use Rattle.ink_value.specs.declared.Value.{Value}
 use Rattle.ink_value.specs.declared.Value.TheVariants as Is
 use Rattle.slices.proofs.Lists.{ap2, ap3, map_take}
@@ -32,11 +32,28 @@ use Rattle.operator_kinds.specs.Kinds.{is_void, common, available, result_kind, 
 use Rattle.operator_kinds.proofs.Counting.{takes, none_taken, miscounted, below_range, entry_given}
 use Rattle.word_kinds.specs.Operands.{kind_word, is_number, numbers, kind_given, number_kind, Held, OfNumbers, NumberKind, vals_at}
 
--- ---- the parts of a value that is held
+-- ---- the parts of a number that is held
+
+-- the number that a value holds is z or x, by its kind
+abbrev pub Holds : Value → ℤ → Float → Type 0
+Holds (Is.Bool b) z x = z ≡ bit_z b
+Holds (Is.Int y) z x = z ≡ y
+Holds (Is.Float y) z x = x ≡ y
+Holds (Is.List o s n) z x = Unit {0}
+Holds Is.Void z x = Unit {0}
+
+-- the parts are this value's: its kind, and the number that it holds
+pub record Parts (v : Value) (p : NumberParts) : Type 0 where
+  pub kind_is : p.kind ≡ kind_in v
+  pub holds : Holds v p.whole p.real
 
 -- a value's words, that are not those of none
 module _ (w : ℕ) where
-  bool_parts : (bool_at w ≡ unheld → ⊥) → Parts (bool_at w) K.Bool (signed (w % 2 ^ 32)) (of_bits32 (w % 2 ^ 32)) 0 0
+  -- what its second word holds, with a kind
+  abbrev pub parts : Kind → NumberParts
+  parts k = record { kind = k; whole = signed (w % 2 ^ 32); real = of_bits32 (w % 2 ^ 32) }
+
+  bool_parts : (bool_at w ≡ unheld → ⊥) → Parts (bool_at w) (parts K.Bool)
   unfolding bool_at signed
   bool_parts h = go (ltb w 2) refl h
     where
@@ -45,65 +62,62 @@ module _ (w : ℕ) where
       bit (suc zero) l = refl
       bit (suc (suc n)) l = absurd (omega arith)
 
-      go : (t : Bool) → ltb w 2 ≡ t → (cond t (Is.Bool (eqb w 1)) unheld ≡ unheld → ⊥) → Parts (cond t (Is.Bool (eqb w 1)) unheld) K.Bool (signed (w % 2 ^ 32)) (of_bits32 (w % 2 ^ 32)) 0 0
-      go true e g = record { kind_is = refl; holds = bit w (ltb-true w 2 e); start_is = refl; len_is = refl }
+      go : (t : Bool) → ltb w 2 ≡ t → (cond t (Is.Bool (eqb w 1)) unheld ≡ unheld → ⊥) → Parts (cond t (Is.Bool (eqb w 1)) unheld) (parts K.Bool)
+      go true e g = record { kind_is = refl; holds = bit w (ltb-true w 2 e) }
       go false e g = absurd (g refl)
 
   small : w < 2 ^ 32 → w % 2 ^ 32 ≡ w
   small l = omega arith
 
-  int_parts : (int_at w ≡ unheld → ⊥) → Parts (int_at w) K.Int (signed (w % 2 ^ 32)) (of_bits32 (w % 2 ^ 32)) 0 0
+  int_parts : (int_at w ≡ unheld → ⊥) → Parts (int_at w) (parts K.Int)
   unfolding int_at
   int_parts h = go (ltb w (2 ^ 32)) refl h
     where
-      go : (t : Bool) → ltb w (2 ^ 32) ≡ t → (cond t (Is.Int (signed w)) unheld ≡ unheld → ⊥) → Parts (cond t (Is.Int (signed w)) unheld) K.Int (signed (w % 2 ^ 32)) (of_bits32 (w % 2 ^ 32)) 0 0
-      go true e g = record { kind_is = refl; holds = ap signed (small (ltb-true w (2 ^ 32) e)); start_is = refl; len_is = refl }
+      go : (t : Bool) → ltb w (2 ^ 32) ≡ t → (cond t (Is.Int (signed w)) unheld ≡ unheld → ⊥) → Parts (cond t (Is.Int (signed w)) unheld) (parts K.Int)
+      go true e g = record { kind_is = refl; holds = ap signed (small (ltb-true w (2 ^ 32) e)) }
       go false e g = absurd (g refl)
 
-  float_parts : (float_at w ≡ unheld → ⊥) → Parts (float_at w) K.Float (signed (w % 2 ^ 32)) (of_bits32 (w % 2 ^ 32)) 0 0
+  float_parts : (float_at w ≡ unheld → ⊥) → Parts (float_at w) (parts K.Float)
   unfolding float_at
   float_parts h = go (ltb w (2 ^ 32)) refl h
     where
-      go : (t : Bool) → ltb w (2 ^ 32) ≡ t → (cond t (Is.Float (of_bits32 w)) unheld ≡ unheld → ⊥) → Parts (cond t (Is.Float (of_bits32 w)) unheld) K.Float (signed (w % 2 ^ 32)) (of_bits32 (w % 2 ^ 32)) 0 0
-      go true e g = record { kind_is = refl; holds = ap of_bits32 (small (ltb-true w (2 ^ 32) e)); start_is = refl; len_is = refl }
+      go : (t : Bool) → ltb w (2 ^ 32) ≡ t → (cond t (Is.Float (of_bits32 w)) unheld ≡ unheld → ⊥) → Parts (cond t (Is.Float (of_bits32 w)) unheld) (parts K.Float)
+      go true e g = record { kind_is = refl; holds = ap of_bits32 (small (ltb-true w (2 ^ 32) e)) }
       go false e g = absurd (g refl)
 
-  void_parts : (void_at w ≡ unheld → ⊥) → Parts (void_at w) K.Void (signed (w % 2 ^ 32)) (of_bits32 (w % 2 ^ 32)) 0 0
+  void_parts : (void_at w ≡ unheld → ⊥) → Parts (void_at w) (parts K.Void)
   unfolding void_at
   void_parts h = go (eqb w 0) h
     where
-      go : (t : Bool) → (cond t Is.Void unheld ≡ unheld → ⊥) → Parts (cond t Is.Void unheld) K.Void (signed (w % 2 ^ 32)) (of_bits32 (w % 2 ^ 32)) 0 0
-      go true g = record { kind_is = refl; holds = tt; start_is = refl; len_is = refl }
+      go : (t : Bool) → (cond t Is.Void unheld ≡ unheld → ⊥) → Parts (cond t Is.Void unheld) (parts K.Void)
+      go true g = record { kind_is = refl; holds = tt }
       go false g = absurd (g refl)
 
-  at_code : (k j : ℕ) {v : Value} {z : ℤ} {x : Float} {s n : ℕ} → k ≡ j → Parts v (kind_at j) z x s n → Parts v (kind_at k) z x s n
+  at_code : (k j : ℕ) {v : Value} → k ≡ j → Parts v (parts (kind_at j)) → Parts v (parts (kind_at k))
   at_code k j e p = rw e p
 
-  plain_parts : (k : ℕ) → (plain_at k w ≡ unheld → ⊥) → Parts (plain_at k w) (kind_at k) (signed (w % 2 ^ 32)) (of_bits32 (w % 2 ^ 32)) 0 0
+  plain_parts : (k : ℕ) → (plain_at k w ≡ unheld → ⊥) → Parts (plain_at k w) (parts (kind_at k))
   unfolding plain_at
   plain_parts k h = go (eqb k 0) (eqb k 1) (eqb k 2) (eqb k 4) refl refl refl refl h
     where
       go : (a b c d : Bool) → eqb k 0 ≡ a → eqb k 1 ≡ b → eqb k 2 ≡ c → eqb k 4 ≡ d
           → (cond a (bool_at w) (cond b (int_at w) (cond c (float_at w) (cond d (void_at w) unheld))) ≡ unheld → ⊥)
-          → Parts (cond a (bool_at w) (cond b (int_at w) (cond c (float_at w) (cond d (void_at w) unheld)))) (kind_at k) (signed (w % 2 ^ 32)) (of_bits32 (w % 2 ^ 32)) 0 0
+          → Parts (cond a (bool_at w) (cond b (int_at w) (cond c (float_at w) (cond d (void_at w) unheld)))) (parts (kind_at k))
       go true b c d ea eb ec ed g = at_code k 0 (eqb-true k 0 ea) (bool_parts g)
       go false true c d ea eb ec ed g = at_code k 1 (eqb-true k 1 eb) (int_parts g)
       go false false true d ea eb ec ed g = at_code k 2 (eqb-true k 2 ec) (float_parts g)
       go false false false true ea eb ec ed g = at_code k 4 (eqb-true k 4 ed) (void_parts g)
       go false false false false ea eb ec ed g = absurd (g refl)
 
-  pub word_parts : (k place : ℕ) → (value_of k w place ≡ unheld → ⊥)
-      → Parts (value_of k w place) (kind_at k) (signed (w % 2 ^ 32)) (of_bits32 (w % 2 ^ 32)) (place % 2 ^ 32) (place / 2 ^ 32)
+  pub word_parts : (k place : ℕ) → (value_of k w place ≡ unheld → ⊥) → Parts (value_of k w place) (parts (kind_at k))
   unfolding value_of
-  word_parts k place h = go (eqb k 3) (eqb place 0) refl refl h
+  word_parts k place h = go (eqb k 3) (eqb place 0) refl h
     where
-      go : (a b : Bool) → eqb k 3 ≡ a → eqb place 0 ≡ b
-          → (cond a (Is.List w (place % 2 ^ 32) (place / 2 ^ 32)) (cond b (plain_at k w) unheld) ≡ unheld → ⊥)
-          → Parts (cond a (Is.List w (place % 2 ^ 32) (place / 2 ^ 32)) (cond b (plain_at k w) unheld)) (kind_at k) (signed (w % 2 ^ 32)) (of_bits32 (w % 2 ^ 32)) (place % 2 ^ 32) (place / 2 ^ 32)
-      go true b ea eb g = at_code k 3 (eqb-true k 3 ea) (record { kind_is = refl; holds = tt; start_is = refl; len_is = refl })
-      go false true ea eb g =
-          subst (λ (p : ℕ). Parts (plain_at k w) (kind_at k) (signed (w % 2 ^ 32)) (of_bits32 (w % 2 ^ 32)) (p % 2 ^ 32) (p / 2 ^ 32)) (sym (eqb-true place 0 eb)) (plain_parts k g)
-      go false false ea eb g = absurd (g refl)
+      go : (a b : Bool) → eqb k 3 ≡ a → (cond a (Is.List w (place % 2 ^ 32) (place / 2 ^ 32)) (cond b (plain_at k w) unheld) ≡ unheld → ⊥)
+          → Parts (cond a (Is.List w (place % 2 ^ 32) (place / 2 ^ 32)) (cond b (plain_at k w) unheld)) (parts (kind_at k))
+      go true b ea g = at_code k 3 (eqb-true k 3 ea) (record { kind_is = refl; holds = tt })
+      go false true ea g = plain_parts k g
+      go false false ea g = absurd (g refl)
 
 -- ---- kinds
 

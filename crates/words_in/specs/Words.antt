@@ -8,6 +8,7 @@ use Rattle.ink_value.specs.declared.Kind.{Kind}
 use Rattle.ink_value.specs.declared.Kind.TheVariants as K
 use Rattle.ink_value.specs.declared.Value.{Value}
 use Rattle.ink_value.specs.declared.Value.TheVariants as Is
+use Rattle.ink_value.specs.declared.operands.Operands.{Operands}
 
 -- what words that are no value's read as: a List that no slices hold, so that question 7 says no
 abbrev pub unheld : Value
@@ -51,6 +52,10 @@ value_of kind w place =
 -- the value whose words are the three from 3 * k on
 abbrev pub value_at : List ℕ → ℕ → Value
 value_at ws k = value_of (get_or ws (3 * k) 0) (get_or ws (3 * k + 1) 0) (get_or ws (3 * k + 2) 0)
+
+-- the operands in nine words, of which the first n are used
+abbrev pub operands_at : ℕ → List ℕ → Operands
+operands_at n ws = record { count = n; first = value_at ws 0; second = value_at ws 1; third = value_at ws 2 }
 
 -- "A run gets 16 slot values"
 abbrev pub slots_in : List ℕ → List Value

@@ -4,8 +4,9 @@
 
 ghost use Rattle.std.specs.Prelude.{◌≡◌, ◌<◌, ◌+◌, ◌*◌, ◌/◌, ◌%◌, ◌^◌};
 ghost use Rattle.ink_value.specs.Val.{code_of};
-ghost use Rattle.words_in.specs.Words.{Coded, unheld, bool_at, int_at, float_at, void_at, plain_at, value_of, value_at, slots_in};
+ghost use Rattle.words_in.specs.Words.{Coded, unheld, bool_at, int_at, float_at, void_at, plain_at, value_of, value_at, operands_at, slots_in};
 
+use ink_value::operands::Operands;
 use ink_value::{Kind, Value};
 use pack_sheets::SLOT_LIMIT;
 
@@ -153,12 +154,16 @@ fn value_at<const N: usize>(words: &[u64; N], k: usize) -> Value
     value_of(words[3 * k], words[3 * k + 1], words[3 * k + 2])
 }
 
-// The value of operand k.
-pub fn operand_at(words: &[u64; 9], k: usize) -> Value
-    requires { k < 3 }
-    ensures { result ≡ value_at words.now k }
+// Three operands, of which the first `count` are used.
+pub fn operands_at(count: usize, words: &[u64; 9]) -> Operands
+    ensures { result ≡ operands_at count words.now }
 {
-    value_at(words, k)
+    Operands {
+        count,
+        first: value_at(words, 0),
+        second: value_at(words, 1),
+        third: value_at(words, 2),
+    }
 }
 
 // The slots of a run.

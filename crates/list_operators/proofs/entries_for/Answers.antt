@@ -7,14 +7,14 @@ use Rattle.list_operators.proofs.entries_for.Goals as goal
 pub range-requires-clause-formed_a : goal.range-requires-clause-formed_a
 range-requires-clause-formed_a c =
     let a = c.args in
-    formed_limit a.limit _ _ (places a.out.now) a.a (omega (arith, c.requires.room)) (c.requires.first_formed.one (omega arith))
+    formed_limit a.pack.limit _ _ (places a.out.now) a.operands.first c.requires.room (c.requires.formed.one (omega arith))
 
 pub range-requires-clause-formed_b : goal.range-requires-clause-formed_b
 range-requires-clause-formed_b c =
     let a = c.args in
-    formed_limit a.limit _ _ (places a.out.now) a.b (omega (arith, c.requires.room)) (c.requires.first_formed.two (omega arith))
+    formed_limit a.pack.limit _ _ (places a.out.now) a.operands.second c.requires.room (c.requires.formed.two (omega arith))
 
 pub range-requires-clause-formed_c : goal.range-requires-clause-formed_c
 range-requires-clause-formed_c c =
     let a = c.args in
-    formed_limit a.limit _ _ (places a.out.now) a.c (omega (arith, c.requires.room)) (c.requires.first_formed.three (omega arith))
+    formed_limit a.pack.limit _ _ (places a.out.now) a.operands.third c.requires.room (c.requires.formed.three (omega arith))

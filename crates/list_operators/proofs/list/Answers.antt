@@ -13,24 +13,24 @@ use Rattle.list_operators.proofs.list.Goals as goal
 
 pub first_items-items-requires : goal.first_items-items-requires
 first_items-items-requires c =
-    let e = written (definitions_of c.args.definitions c.args.limit) (op_number c.args.op) _ c.entries_for-len.ensures.0 in
+    let e = written (definitions_of c.args.pack) (op_number c.args.op) _ c.entries_for-len.ensures.0 in
     omega (arith, e, length-take {A = ℕ})
 
 pub origins_after-origins-requires : goal.origins_after-origins-requires
 origins_after-origins-requires c =
     let a = c.args in (
       rw c.first_items-items.ensures
-          (rises (definitions_of a.definitions a.limit) c.requires.room.within (op_number a.op) (first_of a.items.now a.values.now a.count a.a a.b a.c)
-          (first_wf a.limit a.items.now a.values.now a.count a.a a.b a.c c.requires.first_formed) c.entries_for-len.ensures.0 c.requires.room.small),
-      c.requires.room.few,
+          (rises (definitions_of a.pack) a.pack.bounded.within (op_number a.op) (first_of a.lists.items.now a.lists.values.now a.operands.count a.operands.first a.operands.second a.operands.third)
+          (first_wf a.pack.limit a.lists.items.now a.lists.values.now a.operands.count a.operands.first a.operands.second a.operands.third c.requires.formed) c.entries_for-len.ensures.0 a.pack.bounded.small),
+      a.pack.bounded.few,
     )
 
 pub returns : goal.returns
 returns c =
     let a = c.args in (
-      makes (definitions_of a.definitions a.limit) c.requires.room.within (op_number a.op) (first_of a.items.now a.values.now a.count a.a a.b a.c)
-          (first_wf a.limit a.items.now a.values.now a.count a.a a.b a.c c.requires.first_formed) c.entries_for-len.ensures.0 _
+      makes (definitions_of a.pack) a.pack.bounded.within (op_number a.op) (first_of a.lists.items.now a.lists.values.now a.operands.count a.operands.first a.operands.second a.operands.third)
+          (first_wf a.pack.limit a.lists.items.now a.lists.values.now a.operands.count a.operands.first a.operands.second a.operands.third c.requires.formed) c.entries_for-len.ensures.0 _
           (ap (λ (o : ℕ). Is.List o 0 c.entries_for-len.result)
-          (rw c.first_items-items.ensures at (c.origins_after-origins.ensures a.items.now a.values.now a.c))),
+          (rw c.first_items-items.ensures at (c.origins_after-origins.ensures a.lists.items.now a.lists.values.now a.operands.third))),
       c.entries_for-len.ensures.1,
     )

@@ -12,18 +12,18 @@ unary-requires c =
     let a = c.args in
     let h = c.requires.room in
     record {
-      ascends = rw c.entries_of-list.ensures.items (formed_limit a.limit a.items.now a.values.now item_numbers a.a (omega (arith, h.small)) c.requires.formed).lent.rising;
-      bound = (omega (arith, h), omega (arith, h));
+      ascends = rw c.entries_of.ensures.items (formed_limit a.pack.limit a.lists.items.now a.lists.values.now item_numbers a.a (omega (arith, a.pack.bounded.small)) c.requires.formed).lent.rising;
+      bound = (omega (arith, a.pack.bounded.some, h), omega (arith, a.pack.bounded.within, h));
     }
 
 pub returns : goal.returns
 returns c =
     let a = c.args in
-    let d = a.definitions in
-    let is = a.items.now in
-    let vs = a.values.now in (
+    let d = a.pack.tables in
+    let is = a.lists.items.now in
+    let vs = a.lists.values.now in (
       wrote_is
           (ap2 (unary_l d.ends.now d.defined.now (op_number a.op)) (set_in_lem is vs a.a ∙ sym c.origins_in.ensures) (entries_in_lem is vs a.a))
-          (rw (c.entries_of-list.ensures.items, c.entries_of-list.ensures.values) at c.unary.ensures.0),
+          (rw (c.entries_of.ensures.items, c.entries_of.ensures.values) at c.unary.ensures.0),
       c.unary.ensures.1,
     )

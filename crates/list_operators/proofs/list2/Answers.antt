@@ -1,5 +1,5 @@
 -- `list_operators::list2` meets its contract. Assumes nothing.
-use Rattle.std.proofs.Common.{sym, ◌∙◌, ◌≤◌, arith}
+use Rattle.std.proofs.Common.{sym, ◌∙◌, ◌≤◌}
 use Rattle.ink_list.specs.Lists.{places}
 use Rattle.ink_value.specs.Value.{val_of}
 use Rattle.ink_value.proofs.Reading.{formed_limit, wrote_is}
@@ -11,19 +11,19 @@ use Rattle.list_operators.proofs.list2.Goals as goal
 pub list_list-requires : goal.list_list-requires
 list_list-requires c =
     let a = c.args in
-    let h : a.limit ≤ places a.out.now = omega (arith, c.requires.room) in
+    let h : a.pack.limit ≤ places a.out.now = c.requires.room in
     record {
-      formed_a = formed_limit a.limit a.items.now a.values.now (places a.out.now) a.a h c.requires.formed.0;
-      formed_b = formed_limit a.limit a.items.now a.values.now (places a.out.now) a.b h c.requires.formed.1;
+      formed_a = formed_limit a.pack.limit a.lists.items.now a.lists.values.now (places a.out.now) a.a h c.requires.formed.0;
+      formed_b = formed_limit a.pack.limit a.lists.items.now a.lists.values.now (places a.out.now) a.b h c.requires.formed.1;
     }
 
 pub returns-in-List : goal.returns-in-List
 returns-in-List c =
     let a = c.args in
-    let is = a.items.now in
-    let vs = a.values.now in
-    let w = c.list_list.ensures a.limit c.requires.formed.0 c.requires.formed.1 in (
-      wrote_is (right_list (definitions_of a.definitions a.limit) (op_number a.op) (val_of is vs a.a) is vs a.b (sym c.kind.ensures ∙ c.in-List.is)) w.0,
+    let is = a.lists.items.now in
+    let vs = a.lists.values.now in
+    let w = c.list_list.ensures a.pack.limit c.requires.formed.0 c.requires.formed.1 in (
+      wrote_is (right_list (definitions_of a.pack) (op_number a.op) (val_of is vs a.a) is vs a.b (sym c.kind.ensures ∙ c.in-List.is)) w.0,
       w.1,
     )
 

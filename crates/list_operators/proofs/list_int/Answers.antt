@@ -15,21 +15,21 @@ shift-requires c =
     let a = c.args in
     let h = c.requires.room in
     record {
-      ascends = rw c.entries_of-list.ensures.items (formed_limit a.limit a.items.now a.values.now item_numbers a.a (omega (arith, h.small)) c.requires.formed.0).lent.rising;
-      defined_len_bound = omega (arith, h);
+      ascends = rw c.entries_of.ensures.items (formed_limit a.pack.limit a.lists.items.now a.lists.values.now item_numbers a.a (omega (arith, a.pack.bounded.small)) c.requires.formed.0).lent.rising;
+      defined_len_bound = omega (arith, a.pack.bounded.within, h);
     }
 
 pub returns : goal.returns
 returns c =
     let a = c.args in
-    let d = a.definitions in
-    let is = a.items.now in
-    let vs = a.values.now in (
+    let d = a.pack.tables in
+    let is = a.lists.items.now in
+    let vs = a.lists.values.now in (
       wrote_is
-          (right_int (definitions_of d a.limit) (op_number a.op) (val_of is vs a.a) is vs a.b c.requires.no_list
-          ∙ ap3 (shift_l d.ends.now d.defined.now (op_number a.op)) (set_in_lem is vs a.a ∙ sym c.origins_in-set.ensures)
+          (right_int (definitions_of a.pack) (op_number a.op) (val_of is vs a.a) is vs a.b c.requires.no_list
+          ∙ ap3 (shift_l d.ends.now d.defined.now (op_number a.op)) (set_in_lem is vs a.a ∙ sym c.origins_in.ensures)
           (sym (returned c.to_int-by.type_inv ∙ c.to_int-by.ensures is c.requires.formed.1.items_in))
           (entries_in_lem is vs a.a))
-          (rw (c.entries_of-list.ensures.items, c.entries_of-list.ensures.values) at c.shift.ensures.0),
+          (rw (c.entries_of.ensures.items, c.entries_of.ensures.values) at c.shift.ensures.0),
       c.shift.ensures.1,
     )

@@ -1,6 +1,5 @@
 -- `ink_value::is_truthy` meets its contract: a list's entries that stand whole are as many as it says. Assumes nothing.
-use mathlib.Core.Path.{◌≡◌, ap, sym, ◌∙◌}
-use native.Mathlib.Omega.{arith}
+use mathlib.Core.Path.{ap, sym}
 use lib.Dec.{ltb}
 use Rattle.ink_value.proofs.Reading.{length_at}
 use Rattle.ink_value.proofs.Value.is_truthy.Goals as goal
