@@ -11,7 +11,7 @@ use lib.Pow.{pow_pos}
 use borrow.Author.Tests.{lt-ltb, le-leb, eq-eqb, ne_eqb}
 use Rattle.slices.specs.Every.{◌and◌}
 use Rattle.ink_list.specs.Entries.{bits_below, formed}
-use Rattle.slices.proofs.Every.{and_on, and_true, and_left, and_right, and_no_left}
+use Rattle.slices.proofs.Every.{and_on, and_true, and_left, and_right, and_no_left, and_no_right}
 use Rattle.ink_value.specs.Value.{FirstFormed, formed_in, each_formed, all_formed}
 use Rattle.ink_value.specs.declared.Value.{Value}
 use Rattle.ink_value.proofs.Forming.{formed_yes}
@@ -54,11 +54,18 @@ module _ (total d : ℕ) (is : List ℕ) (vs : List ℤ) where
     pub all_one : (v : Value) → all_formed total d is vs (v ∷ []) ≡ formed_in total d is vs v
     all_one v = and_on _ _ (eq-eqb (length is) (length vs) long) ∙ and_true (formed_in total d is vs v)
 
-    pub all_three : (a b c : Value)
+    all_three : (a b c : Value)
         → all_formed total d is vs (a ∷ b ∷ c ∷ []) ≡ formed_in total d is vs a and (formed_in total d is vs b and formed_in total d is vs c)
     all_three a b c =
         and_on _ _ (eq-eqb (length is) (length vs) long)
         ∙ ap (λ (x : Bool). formed_in total d is vs a and (formed_in total d is vs b and x)) (and_true (formed_in total d is vs c))
+
+    -- where the first is not formed, or the second is not
+    pub first_no : (a b c : Value) → formed_in total d is vs a ≡ false → false ≡ all_formed total d is vs (a ∷ b ∷ c ∷ [])
+    first_no a b c p = sym (all_three a b c ∙ and_no_left _ _ p)
+
+    pub second_no : (a b c : Value) → formed_in total d is vs b ≡ false → false ≡ all_formed total d is vs (a ∷ b ∷ c ∷ [])
+    second_no a b c p = sym (all_three a b c ∙ and_no_right _ _ (and_no_left _ _ p))
 
     pub third : (a b c : Value) → formed_in total d is vs a ≡ true → formed_in total d is vs b ≡ true
         → all_formed total d is vs (a ∷ b ∷ c ∷ []) ≡ formed_in total d is vs c

@@ -1,10 +1,13 @@
 -- Question 7 of a direct call: of its operands, and of its result slices. Assumes nothing.
-use Rattle.std.specs.Prelude.{Bool, List, [], ◌∷◌, ℕ, leb, ℤ, length}
+use Rattle.std.specs.Prelude.{Bool, List, [], ◌∷◌, ℕ, leb, ℤ, length, take}
 use Rattle.slices.specs.Every.{◌and◌}
 use Rattle.slices.specs.Slices.{Slice}
+use Rattle.ink_list.specs.declared.lists.Lists.{Lists}
+use Rattle.ink_list.specs.declared.well_formed.Counts.{Counts}
 use Rattle.list_definitions.specs.Defs.{ListDefinitions}
 use Rattle.ink_value.specs.Value.{all_formed}
 use Rattle.ink_value.specs.declared.Value.{Value}
+use Rattle.ink_value.specs.declared.operands.Operands.{Operands}
 use Rattle.pack.specs.declared.format.Format.{Format}
 use Rattle.pack.specs.Bodies.{decoded}
 use Rattle.pack.specs.Read.{definitions_of}
@@ -17,20 +20,24 @@ operands_ok u is vs l = all_formed (length u.defined) (length u.ends) is vs l
 abbrev pub results_ok : ListDefinitions → List ℕ → List ℤ → Bool
 results_ok u oi ov = leb u.limit (length oi) and leb u.limit (length ov)
 
--- ---- of slices as they were lent
+-- ---- of operands, and of lists as they were lent
+
+-- the operands that are used
+abbrev pub used_of : Operands → List Value
+used_of o = take o.count (o.first ∷ o.second ∷ o.third ∷ [])
 
 -- 7, of values: their lists are formed as literals of a pack with so many items and definitions
-abbrev pub formed_in : ℕ → ℕ → Slice ℕ → Slice ℤ → List Value → Bool
-formed_in total definitions is vs = all_formed total definitions is.entry.now vs.entry.now
+abbrev pub formed_in : Counts → Lists → List Value → Bool
+formed_in counts lists = all_formed counts.items counts.definitions lists.items.now lists.values.now
 
 -- 7, of operands, and of result slices of these lengths: "result slices at least 256 entries"
-abbrev pub lent_well : ℕ → ℕ → Slice ℕ → Slice ℤ → List Value → ℕ → ℕ → ℕ → Bool
-lent_well total definitions is vs l limit m n = formed_in total definitions is vs l and (leb limit m and leb limit n)
+abbrev pub lent_well : Counts → Lists → List Value → ℕ → ℕ → ℕ → Bool
+lent_well counts lists l limit m n = formed_in counts lists l and (leb limit m and leb limit n)
 
 -- the definitions of a pack that passed
 abbrev pub pack_definitions : Format → Slice ℕ → ListDefinitions
 pack_definitions F pack = definitions_of (decoded F pack.entry.now) F
 
 -- 7, of one operand, with a pack that passed
-abbrev pub operand_ok : Format → Slice ℕ → Slice ℕ → Slice ℤ → Value → Bool
-operand_ok F pack is vs v = operands_ok (pack_definitions F pack) is.entry.now vs.entry.now (v ∷ [])
+abbrev pub operand_ok : Format → Slice ℕ → Lists → Value → Bool
+operand_ok F pack lists v = operands_ok (pack_definitions F pack) lists.items.now lists.values.now (v ∷ [])

@@ -1,51 +1,46 @@
 // Question 7 of a direct call: its operands are formed, and its result slices long enough.
 #![tactic(auto)]
 
-ghost use Rattle.std.specs.Prelude.{◌≡◌, cond, [], ◌∷◌, take};
+ghost use Rattle.std.specs.Prelude.{◌≡◌, cond, [], ◌∷◌};
 ghost use Rattle.ink_value.specs.declared.Value.TheVariants as Is;
 ghost use Rattle.pack.specs.Format.{Runnable};
 ghost use Rattle.pack.specs.Judge.{Sound};
-ghost use Rattle.call_memory.specs.Lent.{formed_in, lent_well, operand_ok};
+ghost use Rattle.call_memory.specs.Lent.{used_of, formed_in, lent_well, operand_ok};
 
+use ink_list::lists::Lists;
+use ink_list::well_formed::Counts;
 use ink_value::Value;
+use ink_value::operands::Operands;
 use pack::bytes::byte_at;
 use pack::format::Format;
 use pack_lists::definitions::total_items;
 
 // Question 7 of a value, with its two slices equally long.
 #[tactic(auto, using(crate::proofs::UsedOperands::uneven, crate::proofs::UsedOperands::all_one))]
-fn one_formed(v: Value, items: &[u16], values: &[i32], total: usize, definitions: usize) -> bool
-    ensures { result ≡ formed_in total definitions items values (v ∷ []) }
+fn one_formed(v: Value, lists: Lists<'_>, counts: Counts) -> bool
+    ensures { result ≡ formed_in counts lists.entry (v ∷ []) }
 {
-    if items.len() != values.len() {
+    if lists.items.len() != lists.values.len() {
         return false;
     }
-    v.is_formed(items, values, total, definitions)
+    v.is_formed(lists, counts)
 }
 
 // The same of three.
-#[tactic(auto, using(crate::proofs::UsedOperands::uneven))]
-fn three_formed(
-    a: Value,
-    b: Value,
-    c: Value,
-    items: &[u16],
-    values: &[i32],
-    total: usize,
-    definitions: usize,
-) -> bool
-    ensures { result ≡ formed_in total definitions items values (a ∷ b ∷ c ∷ []) }
+#[tactic(auto, using(crate::proofs::UsedOperands::uneven, crate::proofs::UsedOperands::first_no, crate::proofs::UsedOperands::second_no, crate::proofs::UsedOperands::third))]
+fn three_formed(a: Value, b: Value, c: Value, lists: Lists<'_>, counts: Counts) -> bool
+    ensures { result ≡ formed_in counts lists.entry (a ∷ b ∷ c ∷ []) }
 {
-    if items.len() != values.len() {
+    if lists.items.len() != lists.values.len() {
         return false;
     }
-    if !a.is_formed(items, values, total, definitions) {
+    if !a.is_formed(lists, counts) {
         return false;
     }
-    if !b.is_formed(items, values, total, definitions) {
+    if !b.is_formed(lists, counts) {
         return false;
     }
-    c.is_formed(items, values, total, definitions)
+    c.is_formed(lists, counts)
 }
 
 // An operand that is used, or Void in its place.
@@ -55,47 +50,32 @@ fn used(yes: bool, v: Value) -> Value
     if yes { v } else { Value::Void }
 }
 
-// Question 7 of the first `count` of three.
-fn used_formed(
-    count: usize,
-    a: Value,
-    b: Value,
-    c: Value,
-    items: &[u16],
-    values: &[i32],
-    total: usize,
-    definitions: usize,
-) -> bool
-    ensures { result ≡ formed_in total definitions items values (take count (a ∷ b ∷ c ∷ [])) }
+// Question 7 of the operands that are used.
+#[tactic(auto, using(crate::proofs::UsedOperands::kept_all))]
+fn used_formed(operands: Operands, lists: Lists<'_>, counts: Counts) -> bool
+    ensures { result ≡ formed_in counts lists.entry (used_of operands) }
 {
+    let count = operands.count;
     three_formed(
-        used(0 < count, a),
-        used(1 < count, b),
-        used(2 < count, c),
-        items,
-        values,
-        total,
-        definitions,
+        used(0 < count, operands.first),
+        used(1 < count, operands.second),
+        used(2 < count, operands.third),
+        lists,
+        counts,
     )
 }
 
-// Question 7 of the first `count` of three operands and of result slices of these lengths, which `limit` entries must fit.
+// Question 7 of the operands that are used, and of result slices of these lengths, which `limit` entries must fit.
 #[tactic(auto, using(crate::proofs::Rooms::short_items, crate::proofs::Rooms::short_values, crate::proofs::Rooms::rooms))]
 pub fn lent_well(
-    count: usize,
-    a: Value,
-    b: Value,
-    c: Value,
-    items: &[u16],
-    values: &[i32],
-    total: usize,
-    definitions: usize,
+    operands: Operands,
+    lists: Lists<'_>,
+    counts: Counts,
     limit: usize,
     result_items: usize,
     result_values: usize,
 ) -> bool
-    ensures { result ≡ lent_well total definitions items values (take count (a ∷ b ∷ c ∷ []))
-        limit result_items result_values }
+    ensures { result ≡ lent_well counts lists.entry (used_of operands) limit result_items result_values }
 {
     if result_items < limit {
         return false;
@@ -103,15 +83,15 @@ pub fn lent_well(
     if result_values < limit {
         return false;
     }
-    used_formed(count, a, b, c, items, values, total, definitions)
+    used_formed(operands, lists, counts)
 }
 
 // Question 7 of the operand of a conversion, with a pack that has passed.
-pub fn operand_formed(pack: &[u8], v: Value, items: &[u16], values: &[i32], format: Format) -> bool
+pub fn operand_formed(pack: &[u8], v: Value, lists: Lists<'_>, format: Format) -> bool
     requires { Sound format pack.now × Runnable format }
-    ensures { result ≡ operand_ok format pack items values v }
+    ensures { result ≡ operand_ok format pack lists.entry v }
 {
-    let n = byte_at(pack, 1);
-    let total = total_items(pack, format);
-    one_formed(v, items, values, total, n)
+    let definitions = byte_at(pack, 1);
+    let items = total_items(pack, format);
+    one_formed(v, lists, Counts { definitions, items })
 }

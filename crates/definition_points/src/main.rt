@@ -2,15 +2,14 @@
 // case the operands, then each operator with its answer. The second list of a case is the ends of the definitions and their values.
 #![tactic(auto)]
 
-ghost use Rattle.std.specs.Prelude.{◌≡◌, true, ◌≤◌, length};
+ghost use Rattle.std.specs.Prelude.{◌≡◌, ◌≤◌, length, IfSome};
 ghost use Rattle.ink_list.specs.Entries.{Ascends, item_numbers};
-ghost use Rattle.list_definitions.specs.Defs.{Tables};
 
 use ink_list::entries::Entries;
-use ink_list::well_formed::is_formed;
+use ink_list::lists::Lists;
+use ink_list::well_formed::Counts;
 use list_cases::read::{
-    FIRST, NUMBER, OTHER_NUMBER, SECOND, TITLE, WHAT, byte, each_case, items_of, place, title,
-    value, values_of,
+    FIRST, NUMBER, OTHER_NUMBER, SECOND, TITLE, WHAT, byte, each_case, list_of, place, title, value,
 };
 use list_cases::{ITEM_LIMIT, number, operand, show};
 use list_definitions::definitions::Definitions;
@@ -18,19 +17,25 @@ use list_definitions::{all, invert, origins_of};
 use list_increment::{decrement, increment};
 use test_output::println;
 
-// Are the ends those of definitions with so many items.
-fn numbered(ends: &[u16], defined: &[i32]) -> bool
-    ensures { result ≡ true → Tables ends.now defined.now }
+// The definitions of a list's items as ends and its values, if the ends are those of definitions with so many items.
+fn numbered(tables: Lists<'_>) -> Option<Definitions<'_>>
+    ensures { IfSome result (λ d. d.defined.now ≡ tables.entry.values.now) }
 {
     let mut low = 0;
-    for end in ends {
+    for end in tables.items {
         let end = usize::from(*end);
         if end <= low {
-            return false;
+            return None;
         }
         low = end;
     }
-    low == defined.len()
+    if low != tables.values.len() {
+        return None;
+    }
+    Some(Definitions {
+        ends: tables.items,
+        defined: tables.values,
+    })
 }
 
 // The operators that go by definitions.
@@ -46,45 +51,47 @@ fn answers(a: Entries<'_>, set: u64, by: i32, definitions: Definitions<'_>)
 }
 
 // The same of a case, if it is well formed.
-fn by_definitions(ai: &[u16], av: &[i32], set: u64, by: i32, ends: &[u16], defined: &[i32]) {
-    operand(b"a", ai, av);
+fn by_definitions(list: Lists<'_>, set: u64, by: i32, tables: Lists<'_>) {
+    operand(b"a", list);
     number(b"set", set);
     number(b"by", by);
-    if ITEM_LIMIT < defined.len() {
+    if ITEM_LIMIT < tables.values.len() {
         println("  too many items");
         return;
     }
-    if !numbered(ends, defined) {
+    let Some(definitions) = numbered(tables) else {
         println("  not numbered");
         return;
-    }
-    if 64 < ends.len() {
+    };
+    if 64 < definitions.ends.len() {
         println("  too many definitions");
         return;
     }
-    if !is_formed(ai, av, set, defined.len(), ends.len()) {
+    let counts = Counts {
+        definitions: definitions.ends.len(),
+        items: definitions.defined.len(),
+    };
+    if !list.is_formed(set, counts) {
         println("  a is not well formed");
         return;
     }
     let a = Entries {
-        items: ai,
-        values: av,
+        items: list.items,
+        values: list.values,
     };
-    answers(a, set, by, Definitions { ends, defined });
+    answers(a, set, by, definitions);
 }
 
-fn work(s: &[u8], items: &[u16], values: &[i32]) {
+fn work(s: &[u8], pool: Lists<'_>) {
     if byte(s, WHAT) == TITLE {
         title(s);
         return;
     }
     by_definitions(
-        items_of(s, FIRST, items),
-        values_of(s, FIRST, values),
+        list_of(s, FIRST, pool),
         place(s, OTHER_NUMBER) as u64,
         value(s, NUMBER),
-        items_of(s, SECOND, items),
-        values_of(s, SECOND, values),
+        list_of(s, SECOND, pool),
     );
 }
 

@@ -7,7 +7,9 @@ pub mod read;
 ghost use Rattle.std.specs.Prelude.{◌≡◌, ◌<◌, length};
 ghost use Rattle.ink_list.specs.Lists.{places};
 
+use ink_list::entries::Entries;
 use ink_list::entries_mut::EntriesMut;
+use ink_list::lists::Lists;
 use std::fmt;
 use test_output::{bytes, print, println};
 
@@ -32,22 +34,12 @@ fn value_sum(values: &[i32]) -> i32 {
     values.iter().fold(0i32, |sum, v| sum.wrapping_add(*v))
 }
 
-// A list as text: its entries, or none; of a long one how many, the first and the last, and the sums.
-#[derive(Clone, Copy, Drop)]
-struct Listed<'a> {
-    items: &'a [u16],
-    values: &'a [i32],
-}
-
 // A list by how many entries it has, its first and its last, and its sums.
-fn write_summary<W: fmt::Write>(
-    f: &mut fmt::Formatter<W>,
-    items: &[u16],
-    values: &[i32],
-) -> fmt::Result
-    requires len { length items.now ≡ length values.now }
-    requires nonzero { 0 < length items.now }
+fn write_summary<W: fmt::Write>(f: &mut fmt::Formatter<W>, list: Entries<'_>) -> fmt::Result
+    requires { 0 < length list.items.now }
 {
+    let items = list.items;
+    let values = list.values;
     let last = items.len() - 1;
     write!(f, " {} entries", items.len())?;
     write!(f, " {}={}", items[0], values[0])?;
@@ -55,30 +47,31 @@ fn write_summary<W: fmt::Write>(
     write!(f, ", sums {} {}", item_sum(items), value_sum(values))
 }
 
+// A list as text: its entries, or none; of a long one how many, the first and the last, and the sums.
+#[derive(Clone, Copy, Drop)]
+struct Listed<'a>(Lists<'a>);
+
 impl fmt::Display for Listed<'_> {
     fn fmt<W: fmt::Write>(&self, f: &mut fmt::Formatter<W>) -> fmt::Result {
-        let items = self.items;
-        let values = self.values;
-        let n = items.len();
-        if n != values.len() {
+        let Some(list) = Entries::new(self.0.items, self.0.values) else {
             return f.write_str(" not parallel");
-        }
-        if n == 0 {
+        };
+        if list.len() == 0 {
             return f.write_str(" none");
         }
-        if SHOWN < n {
-            return write_summary(f, items, values);
+        if SHOWN < list.len() {
+            return write_summary(f, list);
         }
-        for (item, value) in items.iter().zip(values) {
+        for (item, value) in list.items.iter().zip(list.values) {
             write!(f, " {item}={value}")?;
         }
         Ok(())
     }
 }
 
-pub fn operand(name: &[u8], items: &[u16], values: &[i32]) {
+pub fn operand(name: &[u8], list: Lists<'_>) {
     bytes(name);
-    println(Listed { items, values });
+    println(Listed(list));
 }
 
 // What is said of the place beyond, where it was changed.
@@ -89,21 +82,21 @@ fn beyond(changed: bool, what: &str) {
 }
 
 // The n entries of a list that was written, and a word where the place beyond was changed.
-fn written(n: usize, items: &[u16], values: &[i32]) {
-    if items.len() <= n {
+fn written(n: usize, out: Lists<'_>) {
+    if out.items.len() <= n {
         print(" too long");
         return;
     }
-    if values.len() <= n {
+    if out.values.len() <= n {
         print(" too long");
         return;
     }
-    print(Listed {
-        items: &items[..n],
-        values: &values[..n],
-    });
-    beyond(items[n] != UNWRITTEN_ITEM, " and an item beyond");
-    beyond(values[n] != UNWRITTEN_VALUE, " and a value beyond");
+    print(Listed(Lists {
+        items: &out.items[..n],
+        values: &out.values[..n],
+    }));
+    beyond(out.items[n] != UNWRITTEN_ITEM, " and an item beyond");
+    beyond(out.values[n] != UNWRITTEN_VALUE, " and a value beyond");
 }
 
 // The name of an answer.
@@ -112,9 +105,9 @@ fn named(name: &[u8]) {
     bytes(name);
 }
 
-pub fn result(name: &[u8], n: usize, items: &[u16], values: &[i32]) {
+pub fn result(name: &[u8], n: usize, out: Lists<'_>) {
     named(name);
-    written(n, items, values);
+    written(n, out);
     println("");
 }
 
@@ -135,9 +128,10 @@ pub fn show<F: FnOnce(&mut EntriesMut<'_>) -> usize>(name: &[u8], operator: F)
 {
     let mut items = [UNWRITTEN_ITEM; 257];
     let mut values = [UNWRITTEN_VALUE; 257];
-    let n = operator(&mut EntriesMut {
+    let mut out = EntriesMut {
         items: &mut items,
         values: &mut values,
-    });
-    result(name, n, &items, &values);
+    };
+    let n = operator(&mut out);
+    result(name, n, out.lists());
 }

@@ -3,6 +3,9 @@
 // the end is 0.
 ghost use Rattle.std.specs.Prelude.{◌<◌, ◌≤◌};
 
+use ink_list::entries_mut::EntriesMut;
+use ink_list::lists::Lists;
+
 // How many bytes an entry takes, how many entries the pool has, where the cases start, and how many bytes a case takes.
 const ENTRY: usize = 6;
 
@@ -58,8 +61,9 @@ pub fn value(s: &[u8], at: usize) -> i32
 }
 
 // The pool, as far as the slices go.
-pub fn pool(s: &[u8], items: &mut [u16], values: &mut [i32]) {
-    for ((entry, item), v) in s.chunks_exact(ENTRY).take(POOL).zip(items).zip(values) {
+pub fn pool(s: &[u8], out: &mut EntriesMut<'_>) {
+    let places = out.items.iter_mut().zip(out.values.iter_mut());
+    for (entry, (item, v)) in s.chunks_exact(ENTRY).take(POOL).zip(places) {
         *item = short(entry, 0);
         *v = value(entry, 2);
     }
@@ -78,16 +82,13 @@ fn part_of<'a, T>(s: &[u8], start: usize, count: usize, all: &'a [T]) -> &'a [T]
 }
 
 // A list of a case, which part `at` has: its items and its values in the pool.
-pub fn items_of<'a>(s: &[u8], at: usize, items: &'a [u16]) -> &'a [u16]
+pub fn list_of<'a>(s: &[u8], at: usize, pool: Lists<'a>) -> Lists<'a>
     requires { at ≤ 65530 }
 {
-    part_of(s, at, at + 2, items)
-}
-
-pub fn values_of<'a>(s: &[u8], at: usize, values: &'a [i32]) -> &'a [i32]
-    requires { at ≤ 65530 }
-{
-    part_of(s, at, at + 4, values)
+    Lists {
+        items: part_of(s, at, at + 2, pool.items),
+        values: part_of(s, at, at + 4, pool.values),
+    }
 }
 
 pub fn title(s: &[u8]) {
@@ -98,8 +99,8 @@ pub fn title(s: &[u8]) {
     }
 }
 
-// Hands each case of the standard input to `work`, with the items and the values of the pool.
-pub fn each_case<F: FnMut(&[u8], &[u16], &[i32])>(mut work: F)
+// Hands each case of the standard input to `work`, with the pool.
+pub fn each_case<F: FnMut(&[u8], Lists<'_>)>(mut work: F)
     requires { F.IsAlwaysCallable work }
 {
     let mut buf = io::large_buffer();
@@ -109,8 +110,12 @@ pub fn each_case<F: FnMut(&[u8], &[u16], &[i32])>(mut work: F)
     }
     let mut items = [0u16; POOL];
     let mut values = [0i32; POOL];
-    pool(&buf, &mut items, &mut values);
+    let mut entries = EntriesMut {
+        items: &mut items,
+        values: &mut values,
+    };
+    pool(&buf, &mut entries);
     for case in buf[CASES..n].chunks_exact(CASE) {
-        work(case, &items, &values);
+        work(case, entries.lists());
     }
 }

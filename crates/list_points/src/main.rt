@@ -7,10 +7,10 @@ ghost use Rattle.ink_list.specs.Entries.{Ascends, item_numbers};
 
 use extreme_values::{lower_bound, upper_bound, value_of_list};
 use ink_list::entries::Entries;
-use ink_list::well_formed::is_formed;
+use ink_list::lists::Lists;
+use ink_list::well_formed::Counts;
 use list_cases::read::{
-    FIRST, NUMBER, OTHER_NUMBER, SECOND, TITLE, WHAT, byte, each_case, items_of, title, value,
-    values_of,
+    FIRST, NUMBER, OTHER_NUMBER, SECOND, TITLE, WHAT, byte, each_case, list_of, title, value,
 };
 use list_cases::{ITEM_LIMIT, number, operand, show, test};
 use list_comparisons::{greater, greater_or_equals, less, less_or_equals};
@@ -22,13 +22,22 @@ use list_range::range;
 use list_sift::{intersect, without};
 use test_output::println;
 
+// What lists of a pack without definitions are held to.
+const COUNTS: Counts = Counts {
+    definitions: 0,
+    items: ITEM_LIMIT,
+};
+
 // A list, if it is well formed.
-fn formed<'a>(items: &'a [u16], values: &'a [i32]) -> Option<Entries<'a>>
+fn formed(list: Lists<'_>) -> Option<Entries<'_>>
     ensures rising { IfSome result (λ a. (limit : ℕ) → 256 ≤ limit → Ascends 0 limit a.items.now) }
     ensures few { IfSome result (λ a. length a.items.now ≤ 256) }
 {
-    if is_formed(items, values, 0, ITEM_LIMIT, 0) {
-        Some(Entries { items, values })
+    if list.is_formed(0, COUNTS) {
+        Some(Entries {
+            items: list.items,
+            values: list.values,
+        })
     } else {
         None
     }
@@ -46,14 +55,14 @@ fn item_tests(a: &[u16], b: &[u16])
 }
 
 // The operators of two lists.
-fn pair(ai: &[u16], av: &[i32], bi: &[u16], bv: &[i32]) {
-    operand(b"a", ai, av);
-    operand(b"b", bi, bv);
-    let Some(a) = formed(ai, av) else {
+fn pair(left: Lists<'_>, right: Lists<'_>) {
+    operand(b"a", left);
+    operand(b"b", right);
+    let Some(a) = formed(left) else {
         println("  a is not well formed");
         return;
     };
-    let Some(b) = formed(bi, bv) else {
+    let Some(b) = formed(right) else {
         println("  b is not well formed");
         return;
     };
@@ -61,31 +70,31 @@ fn pair(ai: &[u16], av: &[i32], bi: &[u16], bv: &[i32]) {
     show(b"without", |out| without(a, b.items, out));
     show(b"intersect", |out| intersect(a, b.items, out));
     item_tests(a.items, b.items);
-    test(b"greater", greater(av, bv));
-    test(b"greater or equals", greater_or_equals(av, bv));
-    test(b"less", less(av, bv));
-    test(b"less or equals", less_or_equals(av, bv));
+    test(b"greater", greater(a.values, b.values));
+    test(b"greater or equals", greater_or_equals(a.values, b.values));
+    test(b"less", less(a.values, b.values));
+    test(b"less or equals", less_or_equals(a.values, b.values));
 }
 
 // The operators of one list.
-fn single(ai: &[u16], av: &[i32]) {
-    operand(b"a", ai, av);
-    let Some(a) = formed(ai, av) else {
+fn single(list: Lists<'_>) {
+    operand(b"a", list);
+    let Some(a) = formed(list) else {
         println("  a is not well formed");
         return;
     };
     show(b"list min", |out| list_min(a, out));
     show(b"list max", |out| list_max(a, out));
     show(b"copy", |out| out.copy(a));
-    number(b"value of list", value_of_list(av));
-    number(b"as lower bound", lower_bound(av));
-    number(b"as upper bound", upper_bound(av));
+    number(b"value of list", value_of_list(a.values));
+    number(b"as lower bound", lower_bound(a.values));
+    number(b"as upper bound", upper_bound(a.values));
 }
 
 // Range within two bounds.
-fn ranged(ai: &[u16], av: &[i32], lower: i32, upper: i32) {
-    operand(b"a", ai, av);
-    let Some(a) = formed(ai, av) else {
+fn ranged(list: Lists<'_>, lower: i32, upper: i32) {
+    operand(b"a", list);
+    let Some(a) = formed(list) else {
         println("  a is not well formed");
         return;
     };
@@ -99,19 +108,13 @@ const PAIR: u8 = 0;
 
 const SINGLE: u8 = 1;
 
-fn work(s: &[u8], items: &[u16], values: &[i32]) {
-    let ai = items_of(s, FIRST, items);
-    let av = values_of(s, FIRST, values);
+fn work(s: &[u8], pool: Lists<'_>) {
+    let a = list_of(s, FIRST, pool);
     match byte(s, WHAT) {
         TITLE => title(s),
-        PAIR => pair(
-            ai,
-            av,
-            items_of(s, SECOND, items),
-            values_of(s, SECOND, values),
-        ),
-        SINGLE => single(ai, av),
-        _ => ranged(ai, av, value(s, NUMBER), value(s, OTHER_NUMBER)),
+        PAIR => pair(a, list_of(s, SECOND, pool)),
+        SINGLE => single(a),
+        _ => ranged(a, value(s, NUMBER), value(s, OTHER_NUMBER)),
     }
 }
 

@@ -12,6 +12,7 @@ ghost use Rattle.pack.specs.Judge.{question5, Framed, Placed, Sound};
 ghost use Rattle.pack.specs.Read.{SheetSpan};
 ghost use Rattle.pack_read.specs.Slices.{TabledIn};
 
+use ink_list::well_formed::Counts;
 use pack::bytes::{byte_at, i32_at};
 use pack::contents::{offset, size};
 use pack::format::Format;
@@ -29,15 +30,8 @@ fn copy_values(p: &[u8], at: usize, n: usize, out: &mut [i32], from: usize)
     }
 }
 
-// How many places of its two slices `read_definitions` filled.
-#[derive(Clone, Copy)]
-pub struct Defined {
-    pub definitions: usize,
-    pub items: usize,
-}
-
-// Reads the definitions: one past each definition's last item, and each item's value.
-pub fn read_definitions(p: &[u8], ends: &mut [u16], defined: &mut [i32], format: Format) -> Defined
+// Reads the definitions: one past each definition's last item, and each item's value. How many places of the two slices they take.
+pub fn read_definitions(p: &[u8], ends: &mut [u16], defined: &mut [i32], format: Format) -> Counts
     requires narrow { Narrow format }
     requires sound { Sound format p.now }
     requires p_in_bounds { definition_count p.now ≤ length ends.old }
@@ -54,7 +48,7 @@ pub fn read_definitions(p: &[u8], ends: &mut [u16], defined: &mut [i32], format:
         items += k;
         ends[d] = items as u16;
     }
-    Defined {
+    Counts {
         definitions: n,
         items,
     }

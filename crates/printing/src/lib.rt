@@ -7,6 +7,7 @@ ghost use Rattle.std.specs.Fmt.{WritesOnOk};
 ghost use Rattle.ink_number.specs.Question.{number};
 ghost use Rattle.printing.specs.Text.{entries, refused, shown};
 
+use ink_list::lists::Lists;
 use ink_number::question::Question;
 use ink_value::Value;
 use std::fmt;
@@ -15,26 +16,21 @@ use std::fmt;
 #[derive(Clone, Copy, Drop)]
 pub struct Shown<'a> {
     pub value: Value,
-    pub items: &'a [u16],
-    pub values: &'a [i32],
+    pub lists: Lists<'a>,
 }
 
 // Items, each with its value, as far as there are both.
-fn write_entries<W: fmt::Write>(
-    f: &mut fmt::Formatter<W>,
-    items: &[u16],
-    values: &[i32],
-) -> fmt::Result
-    ensures { WritesOnOk W.write_str_gives f.old result (entries items.now values.now) f.new }
+fn write_entries<W: fmt::Write>(f: &mut fmt::Formatter<W>, lists: Lists<'_>) -> fmt::Result
+    ensures { WritesOnOk W.write_str_gives f.old result (entries lists.entry.items.now lists.entry.values.now) f.new }
 {
-    for (item, value) in items.iter().zip(values) {
+    for (item, value) in lists.items.iter().zip(lists.values) {
         write!(f, " {item}={value}")?;
     }
     Ok(())
 }
 
 impl fmt::Display for Shown<'_> {
-    ghost output = { λ s. Some (shown s.value s.items.now s.values.now) };
+    ghost output = { λ s. Some (shown s.value s.lists.items.now s.lists.values.now) };
 
     fn fmt<W: fmt::Write>(&self, f: &mut fmt::Formatter<W>) -> fmt::Result {
         match self.value {
@@ -46,7 +42,9 @@ impl fmt::Display for Shown<'_> {
             }
             Value::List { len, .. } => {
                 write!(f, " L {len}")?;
-                write_entries(f, &self.items[..len.min(self.items.len())], self.values)
+                let items = &self.lists.items[..len.min(self.lists.items.len())];
+                let values = self.lists.values;
+                write_entries(f, Lists { items, values })
             }
             Value::Void => f.write_str(" V"),
         }

@@ -36,3 +36,11 @@ coerce_int v = cond (ltb (code_of (kind_of v)) (code_of K.List)) (gives (int (as
 
 unfoldable pub coerce_float : Val → Answer Val
 coerce_float v = cond (ltb (code_of (kind_of v)) (code_of K.List)) (gives (float (as_float v))) (refuses 18)
+
+-- the three by the kind that they answer; none answers a List or Void
+unfoldable pub coerce : Kind → Val → Answer Val
+coerce K.Bool v = coerce_bool v
+coerce K.Int v = coerce_int v
+coerce K.Float v = coerce_float v
+coerce K.List v = refuses 18
+coerce K.Void v = refuses 18

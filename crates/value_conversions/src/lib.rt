@@ -7,7 +7,7 @@ ghost use Rattle.ink_list.specs.Lists.{places};
 ghost use Rattle.ink_value.specs.declared.Kind.TheVariants as K;
 ghost use Rattle.ink_value.specs.Value.{val_of, kind_in, placed};
 ghost use Rattle.ink_value.specs.Held.{val_in, FormedIn, GivesTo, MakesTo};
-ghost use Rattle.value_conversions.specs.Convert.{castable, converted, cast, coerce_bool, coerce_int, coerce_float};
+ghost use Rattle.value_conversions.specs.Convert.{castable, converted, cast, coerce_bool, coerce_int, coerce_float, coerce};
 
 use ink_list::entries_mut::EntriesMut;
 use ink_list::lists::Lists;
@@ -28,6 +28,7 @@ fn castable(to: Kind, from: Kind) -> bool
 }
 
 // A list, copied to the output.
+#[tactic(auto, using(ink_value::proofs::Reading::part_few))]
 fn copied(v: Value, lists: Lists<'_>, out: &mut EntriesMut<'_>) -> Value
     requires { FormedIn (places out.old) lists v × (kind_in v ≡ K.List) }
     ensures { MakesTo (val_in lists.entry v) result out.old out.new }
@@ -41,6 +42,7 @@ fn copied(v: Value, lists: Lists<'_>, out: &mut EntriesMut<'_>) -> Value
 }
 
 // A value of a kind that may be cast, cast. Nothing is cast to Void.
+#[tactic(auto, unfolding(crate::specs::Convert::converted), using(crate::proofs::Casting::cast_list, crate::proofs::Casting::cast_void, ink_value::proofs::Given::gave_plain))]
 fn convert(to: Kind, v: Value, lists: Lists<'_>, out: &mut EntriesMut<'_>) -> Value
     requires { FormedIn (places out.old) lists v × (castable to (kind_in v) ≡ true) }
     ensures { MakesTo (converted to (val_in lists.entry v)) result out.old out.new }
@@ -55,6 +57,7 @@ fn convert(to: Kind, v: Value, lists: Lists<'_>, out: &mut EntriesMut<'_>) -> Va
 }
 
 // `Value::cast` to the kind `to`.
+#[tactic(auto, unfolding(crate::specs::Convert::cast), using(ink_value::proofs::Reading::kind_in_lem, ink_value::proofs::Given::gave_plain))]
 pub fn cast(
     to: Kind,
     v: Value,
@@ -72,7 +75,7 @@ pub fn cast(
 
 // Bool and Int only, and only Int 1 is true.
 #[tactic(auto, unfolding(crate::specs::Convert::coerce_bool))]
-pub fn coerce_to_bool(v: Value) -> Result<Value, Question>
+fn coerce_to_bool(v: Value) -> Result<Value, Question>
     ensures { (is : List ℕ) (vs : List ℤ) → answer result ≡ placed (coerce_bool (val_of is vs v)) }
 {
     match v {
@@ -83,7 +86,7 @@ pub fn coerce_to_bool(v: Value) -> Result<Value, Question>
 }
 
 #[tactic(auto, unfolding(crate::specs::Convert::coerce_int))]
-pub fn coerce_to_int(v: Value) -> Result<Value, Question>
+fn coerce_to_int(v: Value) -> Result<Value, Question>
     ensures { (is : List ℕ) (vs : List ℤ) → answer result ≡ placed (coerce_int (val_of is vs v)) }
 {
     match v {
@@ -95,7 +98,7 @@ pub fn coerce_to_int(v: Value) -> Result<Value, Question>
 }
 
 #[tactic(auto, unfolding(crate::specs::Convert::coerce_float))]
-pub fn coerce_to_float(v: Value) -> Result<Value, Question>
+fn coerce_to_float(v: Value) -> Result<Value, Question>
     ensures { (is : List ℕ) (vs : List ℤ) → answer result ≡ placed (coerce_float (val_of is vs v)) }
 {
     match v {
@@ -103,5 +106,18 @@ pub fn coerce_to_float(v: Value) -> Result<Value, Question>
         Value::Int(z) => Ok(Value::Float(float_conversions::int_to_float(z))),
         Value::Float(x) => Ok(Value::Float(x)),
         Value::List { .. } | Value::Void => Err(Question::Conversion),
+    }
+}
+
+// The one of the three that answers this kind: there is none for a List and for Void.
+#[tactic(auto, unfolding(crate::specs::Convert::coerce))]
+pub fn coerce(to: Kind, v: Value) -> Result<Value, Question>
+    ensures { (is : List ℕ) (vs : List ℤ) → answer result ≡ placed (coerce to (val_of is vs v)) }
+{
+    match to {
+        Kind::Bool => coerce_to_bool(v),
+        Kind::Int => coerce_to_int(v),
+        Kind::Float => coerce_to_float(v),
+        Kind::List | Kind::Void => Err(Question::Conversion),
     }
 }

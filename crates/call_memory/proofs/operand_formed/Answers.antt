@@ -1,4 +1,4 @@
--- `call_memory::operand_formed` meets its contract. Assumes nothing.
+-- `call_memory::operand_formed` meets its contract: the two counts are those of the pack's definitions. Assumes nothing.
 use mathlib.Core.Path.{sym, ◌∙◌}
 use mathlib.Core.List.{◌∷◌, []}
 use Prim.Native.Nat.{ℕ}
@@ -7,15 +7,7 @@ use Rattle.slices.proofs.Lists.{ap2}
 use Rattle.pack.proofs.Values.{pack_tables}
 use Rattle.call_memory.proofs.operand_formed.Goals as goal
 
-pub total_items-total-requires : goal.total_items-total-requires
-total_items-total-requires c =
-    record {
-      narrow = c.requires.1.narrow;
-      placed = c.requires.0.contents;
-      p_value = c.requires.0.three;
-    }
-
 pub returns : goal.returns
 returns c =
     let t = pack_tables c.args.format c.args.pack.now c.requires.1.narrow c.requires.0 in
-    c.one_formed.ensures ∙ ap2 (λ (m n : ℕ). all_formed m n c.args.items.now c.args.values.now (c.args.v ∷ [])) (c.total_items-total.ensures.0 ∙ sym t.defined_long) (c.byte_at-n.ensures.0 ∙ sym t.ends_long)
+    c.one_formed.ensures ∙ ap2 (λ (m n : ℕ). all_formed m n c.args.lists.items.now c.args.lists.values.now (c.args.v ∷ [])) (c.total_items-items.ensures.0 ∙ sym t.defined_long) (c.byte_at-definitions.ensures.0 ∙ sym t.ends_long)

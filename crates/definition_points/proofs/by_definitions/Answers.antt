@@ -10,5 +10,5 @@ invariant_of-a c = record { parallel = (formed_sound _ _ _ _ _ (sym c.is_formed.
 
 pub answers-requires-clause-ascends : goal.answers-requires-clause-ascends
 answers-requires-clause-ascends c =
-    ascends_limit 0 _ item_numbers _ (omega (arith, c.if-defined-gt-ITEM_LIMIT.false))
+    ascends_limit 0 _ item_numbers _ (omega (arith, c.in-Some.definitions.tables.few))
     (formed_sound _ _ _ _ _ (sym c.is_formed.ensures ∙ c.if-not-is_formed.false)).0.rising

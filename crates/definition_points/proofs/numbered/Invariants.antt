@@ -6,4 +6,4 @@ use Rattle.list_definitions.specs.Defs.{Ends}
 use Rattle.definition_points.proofs.numbered.Given as goal
 
 abbrev pub invariant-loop-end : goal.invariant-loop-end
-invariant-loop-end l = (l.low < item_numbers) × ((total : ℕ) → Ends l.low total (drop l.end-index l.ends) → Ends 0 total l.ends)
+invariant-loop-end l = (l.low < item_numbers) × ((total : ℕ) → Ends l.low total (drop l.end-index l.tables.items.now) → Ends 0 total l.tables.items.now)

@@ -12,8 +12,8 @@ invariant_of-result c = record { parallel = (formed_sound 256 0 0 _ _ (sym c.is_
 
 pub returns-then-is_formed : goal.returns-then-is_formed
 returns-then-is_formed c =
-    let is = c.args.items.now in
-    let vs = c.args.values.now in
+    let is = c.args.list.items.now in
+    let vs = c.args.list.values.now in
     let l : Lent 256 is vs = (formed_sound 256 0 0 is vs (sym c.is_formed.ensures ∙ c.if-is_formed.true)).0 in
     record {
       rising = λ limit h. ascends_limit 0 256 limit is h l.rising;

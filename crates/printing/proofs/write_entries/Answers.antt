@@ -11,8 +11,8 @@ use Rattle.printing.proofs.write_entries.Goals as goal
 pub loop-item-preserved : goal.loop-item-preserved
 loop-item-preserved g c =
     λ plain.
-    let is = c.args.items.now in
-    let vs = c.args.values.now in
+    let is = c.args.lists.items.now in
+    let vs = c.args.lists.values.now in
     let es = zip is vs in
     let xs = c.loop-item.yielded in
     let k = length xs in
@@ -28,8 +28,8 @@ loop-item-preserved g c =
 pub returns : goal.returns
 returns g c =
     λ plain ok.
-    let is = c.args.items.now in
-    let vs = c.args.values.now in
+    let is = c.args.lists.items.now in
+    let vs = c.args.lists.values.now in
     let xs = c.loop-item.yielded in
     let long = zip_end is vs xs c.into_iter-item-iterator.result c.loop-item.item-iterator c.next.new.self _ (search rules) (search rules) c.loop-item.yielded_by c.in-None.is c.next.ensures.steps in
     has_written_of_eq _ _ _ _ _ (ap (λ l. flat_map entry l) (take_all (length xs) (zip is vs) (omega (arith, length-zip is vs, long))))

@@ -7,4 +7,4 @@ use Rattle.printing.proofs.write_entries.Given as goal
 
 abbrev pub invariant-loop-item : goal.invariant-loop-item
 invariant-loop-item g l =
-    IsPlainFormatter l.initial.f → HasWritten g.W.Write.write_str_gives l.initial.f (flat_map entry (take (length l.yielded) (zip l.items l.values))) l.f
+    IsPlainFormatter l.initial.f → HasWritten g.W.Write.write_str_gives l.initial.f (flat_map entry (take (length l.yielded) (zip l.lists.items.now l.lists.values.now))) l.f
