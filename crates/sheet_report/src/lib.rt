@@ -5,6 +5,7 @@
 
 ghost use Rattle.pack.specs.Judge.{Framed};
 
+use ink_list::lists::Lists;
 use ink_value::Value;
 use machine::{STACK_LIMIT, Stop};
 use output_buffer::Output;
@@ -64,11 +65,11 @@ pub fn sheet_line(
         &mut values,
     ) {
         Ok(value) => {
-            let shown = Shown {
-                value,
+            let lists = Lists {
                 items: &items,
                 values: &values,
             };
+            let shown = Shown { value, lists };
             writeln!(out, "{sheet}{shown}")
         }
         Err(stop) => {
