@@ -1,5 +1,5 @@
 -- The words of the contracts for values whose entries stand in lent slices, and for numbers in parts. Assumes nothing.
-use Rattle.std.specs.Prelude.{List, ℕ, Result, Ok}
+use Rattle.std.specs.Prelude.{false, List, map, ℕ, ◌<◌, Result, Ok, length, get_or}
 use Rattle.ink_number.specs.Answer.{Answer, gives}
 use Rattle.ink_number.specs.Question.{answer}
 use Rattle.ink_number.specs.declared.question.Question.{Question}
@@ -9,8 +9,10 @@ use Rattle.ink_list.specs.Lists.{Same}
 use Rattle.ink_value.specs.Val.{Val}
 use Rattle.ink_value.specs.Value.{val_of, first_of, number_of, Formed, FirstFormed, Gave}
 use Rattle.ink_value.specs.declared.Value.{Value}
+use Rattle.ink_value.specs.declared.Value.TheVariants as Is
 use Rattle.ink_value.specs.declared.number_parts.NumberParts.{NumberParts}
 use Rattle.ink_value.specs.declared.operands.Operands.{Operands}
+use Rattle.ink_value.specs.declared.slots.Slots.{Slots}
 
 -- the value, its entries in the two slices
 abbrev pub val_in : Lists → Value → Val
@@ -27,6 +29,14 @@ FormedIn limit lists v = Formed limit lists.items.now lists.values.now v
 -- so do those of the operands that are used
 abbrev pub OperandsFormed : ℕ → Lists → Operands → Type 0
 OperandsFormed limit lists o = FirstFormed limit lists.items.now lists.values.now o.count o.first o.second o.third
+
+-- the values of slots
+abbrev pub slot_values : Slots → List Val
+slot_values s = map (val_in s.lists) s.values
+
+-- the entries of each list among them stand whole in their slices, and their items rise below the limit
+abbrev pub SlotsFormed : ℕ → Slots → Type 0
+SlotsFormed limit s = (k : ℕ) → k < length s.values → FormedIn limit s.lists (get_or s.values k (Is.Bool false))
 
 -- a number in parts
 abbrev pub number_in : NumberParts → Val

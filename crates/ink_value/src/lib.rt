@@ -10,6 +10,7 @@ ghost use Rattle.ink_value.specs.declared.Value.{Value};
 
 pub mod number_parts;
 pub mod operands;
+pub mod slots;
 
 use ink_list::entries::Entries;
 use ink_list::lists::Lists;

@@ -2,6 +2,10 @@
 // foretells of a run in proofs/.
 #![tactic(auto)]
 
+ghost use Rattle.std.specs.Prelude.{◌≡◌};
+ghost use Rattle.ink_number.specs.Question.{answer};
+ghost use Rattle.machine.specs.Stack.{top_pushed};
+
 use ink_number::question::Question;
 
 // The most values on the stack.
@@ -12,6 +16,17 @@ pub const STACK_LIMIT: usize = 64;
 pub struct Top<T> {
     pub place: usize,
     pub value: T,
+}
+
+// A push on a stack of n, by a run and by vetting: question 9.
+pub fn push<T: Copy>(value: T, n: usize) -> Result<Top<T>, Question>
+    ensures { answer result ≡ top_pushed n value }
+{
+    if n < STACK_LIMIT {
+        Ok(Top { place: n, value })
+    } else {
+        Err(Question::Stack)
+    }
 }
 
 // Where a run or vetting stops: the question that says no, and the index of the instruction that asked it.

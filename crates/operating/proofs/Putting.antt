@@ -1,11 +1,11 @@
 -- Values put at a place of two slices: what each leaves is what the definitions say. Assumes nothing.
 use mathlib.Core.Path.{◌≡◌, refl, sym, ap, ◌∙◌, subst}
-use mathlib.Core.List.{List, [], ◌∷◌}
+use mathlib.Core.List.{List, []}
 use Prim.Native.Nat.{ℕ, suc, ◌+◌, ◌*◌, ◌≤◌, ◌<◌}
 use native.Mathlib.Omega.{arith}
 use native.Mathlib.Nat.{suc-mul, mul-le-mul_right}
 use lib.IntN.{ℤ}
-use lib.ListN.{length, take}
+use lib.ListN.{length}
 use Rattle.ink_number.specs.Answer.{Answer, gives, refuses}
 use Rattle.ink_list.specs.Entries.{Entry, items, values, Rising, Stored}
 use Rattle.slices.specs.Filled.{fill}
@@ -19,23 +19,21 @@ use Rattle.ink_value.specs.declared.Value.{Value}
 use Rattle.ink_value.specs.declared.Value.TheVariants as Is
 use Rattle.ink_value.proofs.Reading.{len_in, entries_in_lem, rising_in}
 use Rattle.ink_value.proofs.ReadBack.{read_back, formed_back, first_wf}
-use Rattle.list_operators.specs.Lists.{definitions, entries_for, list_result}
+use Rattle.list_operators.specs.Lists.{entries_for, list_result}
 use Rattle.list_operators.proofs.Listing.{entries_rise}
 use Rattle.list_definitions.specs.Defs.{ListDefinitions}
 use Rattle.native_function_call.specs.Apply.{compute, Agree}
 use Rattle.native_function_call.proofs.Agree.{compute_agrees}
-use Rattle.native_function_call.proofs.Calling.{two_of}
-use Rattle.pack.specs.Read.{PackLists}
 use Rattle.pack.specs.declared.format.Format.{Format}
 use Rattle.machine.specs.Machine.{stack_limit}
-use Rattle.operating.specs.Stacked.{work_limit, placed_at, Put, start_at, Answered, Bare}
+use Rattle.operating.specs.Stacked.{placed_at, Put, start_at, Answered, Bare}
 use Rattle.machine.specs.declared.Top.{Top}
 
 -- a place of the stack has room for a list
-pub place_fits : (F : Format) (place n : ℕ) → place < stack_limit → n ≤ F.limit → start_at F place + n ≤ work_limit F
-place_fits F place n h k =
-    let a : suc place * F.limit ≤ stack_limit * F.limit = mul-le-mul_right F.limit h in
-    omega (arith, a, suc-mul place F.limit)
+pub place_fits : (limit place n : ℕ) → place < stack_limit → n ≤ limit → place * limit + n ≤ stack_limit * limit
+place_fits limit place n h k =
+    let a : suc place * limit ≤ stack_limit * limit = mul-le-mul_right limit h in
+    omega (arith, a, suc-mul place limit)
 
 -- ---- what is put
 
@@ -57,39 +55,38 @@ put_plain at is vs (Is.Float x) oi ov h = put_none (float x) at (Is.Float x) oi 
 put_plain at is vs (Is.List o s n) oi ov h = absurd (h o s n refl)
 put_plain at is vs Is.Void oi ov h = put_none void at Is.Void oi ov refl refl
 
--- a list that is copied from its slices
-module _ (F : Format) (is : List ℕ) (vs : List ℤ) (o s n : ℕ) (f : Formed F.limit is vs (Is.List o s n)) (to : ℕ)
-    (m : ℕ) {oi ois : List ℕ} {ov ovs : List ℤ} (w : Stored to (held is vs (Is.List o s n)) m oi ois ov ovs) where
-  pub put_copied : {oi' : List ℕ} → {ov' : List ℤ} → oi' ≡ ois → ov' ≡ ovs → Put F (val_of is vs (Is.List o s n)) to (Is.List o to n) oi oi' ov ov'
-  put_copied ei ev =
+-- a list whose entries es are copied from its slices
+module _ (F : Format) (is : List ℕ) (vs : List ℤ) (o s n : ℕ) (f : Formed F.limit is vs (Is.List o s n)) (to : ℕ) {es : List Entry}
+    (e : es ≡ held is vs (Is.List o s n)) (m : ℕ) {oi ois : List ℕ} {ov ovs : List ℤ} (w : Stored to es m oi ois ov ovs) where
+  pub put_copied : Put F (val_of is vs (Is.List o s n)) to (Is.List o to n) oi ois ov ovs
+  put_copied =
+      let q = e ∙ sym (entries_in_lem is vs (Is.List o s n)) in
       record {
         value_is = ap (Is.List o to) (sym (len_in F.limit is vs (Is.List o s n) f));
-        items_in = ei ∙ w.items_in ∙ ap (λ (es : List Entry). fill to (items es) oi) (sym (entries_in_lem is vs (Is.List o s n)));
-        values_in = ev ∙ w.values_in ∙ ap (λ (es : List Entry). fill to (values es) ov) (sym (entries_in_lem is vs (Is.List o s n)));
+        items_in = w.items_in ∙ ap (λ (l : List Entry). fill to (items l) oi) q;
+        values_in = w.values_in ∙ ap (λ (l : List Entry). fill to (values l) ov) q;
         rising = rising_in F.limit is vs (Is.List o s n) f;
       }
 
 -- ---- results
 
 -- a List that its operator made in lent slices stands there well formed
-pub made_formed : (F : Format) (ends : List ℕ) (defined : List ℤ) (o n : ℕ) (a b c v : Value) (wi : List ℕ) (wv : List ℤ) (oi ois : List ℕ) (ov ovs : List ℤ)
-    → Gave (gives (list_result (definitions ends defined F.limit) o (first_of wi wv n a b c))) (gives v) oi ois ov ovs
-    → PackLists F.limit ends defined → FirstFormed F.limit wi wv n a b c → F.limit ≤ length oi → F.limit ≤ length ov
-    → {oi' : List ℕ} → {ov' : List ℤ} → oi' ≡ ois → ov' ≡ ovs → Formed F.limit oi' ov' v
-made_formed F ends defined o n a b c v wi wv oi ois ov ovs g t f hi hv ei ev =
-    let u = definitions ends defined F.limit in
-    let vs = first_of wi wv n a b c in
-    let up = entries_rise u F.limit t.within o vs (first_wf F.limit wi wv n a b c f) in
-    let s : v ≡ placed_val (list_result u o vs) = cc in
-    rw (ei, ev) (subst (Formed F.limit ois ovs) (sym s) (formed_back F.limit _ (entries_for u o vs) (gives v) oi ois ov ovs g up hi hv))
+module _ (u : ListDefinitions) (o n : ℕ) (a b c v : Value) (wi : List ℕ) (wv : List ℤ) (oi ois : List ℕ) (ov ovs : List ℤ) where
+  pub made_formed : Gave (gives (list_result u o (first_of wi wv n a b c))) (gives v) oi ois ov ovs
+      → length u.defined ≤ u.limit → FirstFormed u.limit wi wv n a b c → u.limit ≤ length oi → u.limit ≤ length ov → Formed u.limit ois ovs v
+  made_formed g t f hi hv =
+      let vs = first_of wi wv n a b c in
+      let up = entries_rise u u.limit t o vs (first_wf u.limit wi wv n a b c f) in
+      let s : v ≡ placed_val (list_result u o vs) = cc in
+      subst (Formed u.limit ois ovs) (sym s) (formed_back u.limit _ (entries_for u o vs) (gives v) oi ois ov ovs g up hi hv)
 
 -- a value that was made there is the one that is put from there
-pub made_put : {F : Format} {x : Val} {v r : Value} {at : ℕ} {oi ois oi' wi wi' : List ℕ} {ov ovs ov' wv wv' : List ℤ} → Gave (gives x) (gives v) oi ois ov ovs
-    → Put F (val_of oi' ov' v) at r wi wi' wv wv' → oi' ≡ ois → ov' ≡ ovs → Put F x at r wi wi' wv wv'
-made_put {F} {x} {v} {r} {at} {oi} {ois} {oi'} {wi} {wi'} {ov} {ovs} {ov'} {wv} {wv'} g w ei ev =
+pub made_put : {F : Format} {x : Val} {v r : Value} {at to : ℕ} {oi ois wi wi' : List ℕ} {ov ovs wv wv' : List ℤ} → Gave (gives x) (gives v) oi ois ov ovs
+    → to ≡ at → Put F (val_of ois ovs v) to r wi wi' wv wv' → Put F x at r wi wi' wv wv'
+made_put {F} {x} {v} {r} {at} {to} {oi} {ois} {wi} {wi'} {ov} {ovs} {wv} {wv'} g q w =
     let b = read_back (gives x) (gives v) oi ois ov ovs g in
-    let e : val_of oi' ov' v ≡ x = cc in
-    subst (λ (y : Val). Put F y at r wi wi' wv wv') e w
+    let e : val_of ois ovs v ≡ x = cc in
+    subst (λ (k : ℕ). Put F x k r wi wi' wv wv') q (subst (λ (y : Val). Put F y to r wi wi' wv wv') e w)
 
 pub result_put : {F : Format} (a : Answer Val) (x : Val) (place : ℕ) (v : Value) (wi wi' : List ℕ) (wv wv' : List ℤ) → place < stack_limit → a ≡ gives x
     → Put F x (start_at F place) v wi wi' wv wv' → Answered F a place (gives (record { place = place; value = v })) wi wi' wv wv'
@@ -119,10 +116,7 @@ module _ (place : ℕ) (h : place < stack_limit) (k : Kind) (ne : k ≡ K.List �
       subst (λ (a : Answer Value). Answered F (refuses q) place (topped_at place a) wi wi wv wv) (sym e)
       (record { by = record { refused = refl; items_same = refl; values_same = refl } })
 
--- of one operand or two, the third does not matter
-module _ (o n : ℕ) (a b x : Val) (k : Kind) (place : ℕ) (r : Answer Value) (ne : k ≡ K.List → ⊥) (l : 1 ≤ n) (m : n ≤ 2) (h : place < stack_limit) where
-  pub scalar_at : ((u : ListDefinitions) → r ≡ placed (compute u o (take n (a ∷ b ∷ [])) k)) → (u : ListDefinitions)
-      → Bare (compute u o (take n (a ∷ b ∷ x ∷ [])) k) place (topped_at place r)
-  scalar_at e u =
-      subst (λ (vs : List Val). Bare (compute u o vs k) place (topped_at place r)) (two_of n a b x l m)
-      (scalar_bare place h k ne (compute u o (take n (a ∷ b ∷ [])) k) (compute_agrees u o (take n (a ∷ b ∷ [])) k) r (e u))
+-- so it is of what an operator on kinds that are no List answers
+pub scalar_at : (o : ℕ) (vs : List Val) (k : Kind) (place : ℕ) (r : Answer Value) → (k ≡ K.List → ⊥) → place < stack_limit
+    → ((u : ListDefinitions) → r ≡ placed (compute u o vs k)) → (u : ListDefinitions) → Bare (compute u o vs k) place (topped_at place r)
+scalar_at o vs k place r ne h e u = scalar_bare place h k ne (compute u o vs k) (compute_agrees u o vs k) r (e u)

@@ -4,7 +4,7 @@ use mathlib.Core.Bool.{Bool, true, false}
 use mathlib.Core.List.{List}
 use mathlib.Core.Path.{◌≡◌, refl, sym}
 use native.Mathlib.Omega.{arith}
-use Rattle.ink_number.specs.Answer.{Answer, gives, refuses, ask}
+use Rattle.ink_number.specs.Answer.{Answer, gives, ask}
 use Rattle.pack.specs.Bodies.{Pack, decoded}
 use Rattle.pack.specs.Judge.{judge, question1, question2, question3, question4, question5, Sound}
 use Rattle.pack.specs.declared.format.Format.{Format}

@@ -1,15 +1,19 @@
 -- What the readers give of a pack that has passed, all in terms of the decoded pack.
 use Rattle.std.specs.Prelude.{ℕ, ◌+◌, ◌-◌, ◌*◌, ◌≤◌, ◌<◌, List, [], ◌∷◌, ◌++◌, ◌≡◌, ℤ, length, get_or, drop}
+use Rattle.std.specs.Coded.{le_prop, Coded-set, coded_ℕ, coded_ℤ, coded_list}
+use Rattle.std.proofs.Math.Bool.{Bool-set}
+use Rattle.std.proofs.Math.Nat.{ℕ_set}
 use Rattle.std.proofs.Math.Option.{some}
 use Rattle.ink_list.specs.Entries.{Entry, items, values}
 use Rattle.list_definitions.specs.Defs.{ListDefinitions, Tables}
 use Rattle.slices.specs.Every.{table}
 use Rattle.slices.specs.Filled.{fill, over}
-use Rattle.pack.specs.Bodies.{Literal, Pack, sheet}
+use Rattle.pack.specs.Bodies.{Literal, Pack, sheet, decoded}
 use Rattle.pack.specs.Bytes.{number, i32}
 use Rattle.pack.specs.Contents.{literal_count, sheet_count, sheet_body, offset, size}
 use Rattle.pack.specs.Format.{definition_limit, instruction_limit}
 use Rattle.pack.specs.declared.format.Format.{Format}
+use Rattle.pack.specs.Judge.{Framed, Placed, Sound}
 use Rattle.pack.specs.Instruction.{Instr, push, push_void, width, instruction, instructions, or_none}
 
 -- ---- the parts of a decoded pack
@@ -47,6 +51,44 @@ pub record PackLists (limit : ℕ) (ends : List ℕ) (defined : List ℤ) : Type
   pub tables : Tables ends defined
   pub few : length ends ≤ definition_limit
   pub within : length defined ≤ limit
+
+-- a pack of the format that has passed questions 1 to 5, and what is read of it: its definitions' tables, and its format's item limit
+pub record PackRead (F : Format) (p ends : List ℕ) (defined : List ℤ) (limit : ℕ) : Type 0 where
+  pub sound : Sound F p
+  pub ends_are : ends ≡ ends_of (decoded F p)
+  pub defined_are : defined ≡ defined_of (decoded F p)
+  pub limit_is : limit ≡ F.limit
+
+-- it is so in one way, so that a struct may hold that it is
+Framed-prop : (p : List ℕ) → IsProp (Framed p)
+Framed-prop p a b = λ i. record {
+  long = le_prop a.long b.long i;
+  short = le_prop a.short b.short i;
+  few = le_prop a.few b.few i;
+  room = le_prop a.room b.room i;
+}
+
+Placed-prop : (p : List ℕ) → IsProp (Placed p)
+Placed-prop p a b = λ i. record {
+  frame = Framed-prop p a.frame b.frame i;
+  two = Bool-set _ _ a.two b.two i;
+}
+
+Sound-prop : (F : Format) (p : List ℕ) → IsProp (Sound F p)
+Sound-prop F p a b = λ i. record {
+  contents = Placed-prop p a.contents b.contents i;
+  three = Bool-set _ _ a.three b.three i;
+  four = Bool-set _ _ a.four b.four i;
+  five = Bool-set _ _ a.five b.five i;
+}
+
+pub PackRead-prop : (F : Format) (p ends : List ℕ) (defined : List ℤ) (limit : ℕ) → IsProp (PackRead F p ends defined limit)
+PackRead-prop F p ends defined limit a b = λ i. record {
+  sound = Sound-prop F p a.sound b.sound i;
+  ends_are = Coded-set (coded_list coded_ℕ) _ _ a.ends_are b.ends_are i;
+  defined_are = Coded-set (coded_list coded_ℤ) _ _ a.defined_are b.defined_are i;
+  limit_is = ℕ_set _ _ a.limit_is b.limit_is i;
+}
 
 -- ---- what is written
 

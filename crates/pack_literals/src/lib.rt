@@ -2,6 +2,7 @@
 #![tactic(auto)]
 
 ghost use Rattle.std.specs.Prelude.{◌≡◌, ◌+◌, ◌*◌, ◌<◌, ◌≤◌, length};
+ghost use Rattle.ink_list.specs.Lists.{places};
 ghost use Rattle.pack.specs.Bodies.{decoded};
 ghost use Rattle.pack.specs.Contents.{literal_count};
 ghost use Rattle.pack.specs.Format.{Narrow};
@@ -9,6 +10,7 @@ ghost use Rattle.pack.specs.Judge.{Framed, Sound};
 ghost use Rattle.pack.specs.Read.{literal_of};
 ghost use Rattle.pack_literals.specs.Slices.{Copies, EntriesReadIn};
 
+use ink_list::entries_mut::EntriesMut;
 use pack::bytes::{byte_at, i32_at, number_at, u64_at};
 use pack::contents::{offset, size};
 use pack::format::Format;
@@ -43,70 +45,50 @@ pub fn literal_len(p: &[u8], l: usize, format: Format) -> usize
 }
 
 // Copies n entries that stand one after another from a position, into the places from an index on.
-fn copy_each(
-    p: &[u8],
-    at: usize,
-    n: usize,
-    items: &mut [u16],
-    values: &mut [i32],
-    from: usize,
-    wide: usize,
-)
+fn copy_each(p: &[u8], at: usize, n: usize, out: &mut EntriesMut<'_>, from: usize, wide: usize)
     requires wide_nonzero { (0 < wide) × (wide ≤ 2) }
     requires n_in_bounds { at + (wide + 4) * n ≤ length p.now }
-    requires n_in_bounds_2 { from + n ≤ length items.old }
-    requires n_in_bounds_3 { from + n ≤ length values.old }
-    ensures { Copies wide n p at from items values }
+    requires room { from + n ≤ places out.old }
+    ensures { Copies wide n p at from out.old out.new }
 {
     // By index: tried with `iter_mut().zip(..)`, and the proof did not close, since all that is known after such a loop is the length.
     for k in 0..n {
         let e = at + (wide + 4) * k;
-        items[from + k] = number_at(p, e, wide) as u16;
-        values[from + k] = i32_at(p, e + wide);
+        out.items[from + k] = number_at(p, e, wide) as u16;
+        out.values[from + k] = i32_at(p, e + wide);
     }
 }
 
 // The same, by a loop for each width, in which it is a constant.
-fn copy_entries(
-    p: &[u8],
-    at: usize,
-    n: usize,
-    items: &mut [u16],
-    values: &mut [i32],
-    from: usize,
-    wide: usize,
-)
+fn copy_entries(p: &[u8], at: usize, n: usize, out: &mut EntriesMut<'_>, from: usize, wide: usize)
     requires wide_nonzero { (0 < wide) × (wide ≤ 2) }
     requires n_in_bounds { at + (wide + 4) * n ≤ length p.now }
-    requires n_in_bounds_2 { from + n ≤ length items.old }
-    requires n_in_bounds_3 { from + n ≤ length values.old }
-    ensures { Copies wide n p at from items values }
+    requires room { from + n ≤ places out.old }
+    ensures { Copies wide n p at from out.old out.new }
 {
     if wide == 1 {
-        copy_each(p, at, n, items, values, from, 1);
+        copy_each(p, at, n, out, from, 1);
         return;
     }
-    copy_each(p, at, n, items, values, from, 2);
+    copy_each(p, at, n, out, from, 2);
 }
 
 // Copies the entries of literal l into the places from an index on, and says how many there are.
 pub fn read_literal(
     p: &[u8],
     l: usize,
-    items: &mut [u16],
-    values: &mut [i32],
+    out: &mut EntriesMut<'_>,
     from: usize,
     format: Format,
 ) -> usize
     requires narrow { Narrow format }
     requires sound { Sound format p.now }
     requires l_bound { l < literal_count p.now }
-    requires l_in_bounds { from + length (literal_of (decoded format p.now) l).entries ≤ length items.old }
-    requires l_in_bounds_2 { from + length (literal_of (decoded format p.now) l).entries ≤ length values.old }
-    ensures { EntriesReadIn (literal_of (decoded format p.now) l).entries from result items values }
+    requires room { from + length (literal_of (decoded format p.now) l).entries ≤ places out.old }
+    ensures { EntriesReadIn (literal_of (decoded format p.now) l).entries from result out.old out.new }
 {
     let n = literal_len(p, l, format);
     let at = offset(p, byte_at(p, 1) + l) + 8;
-    copy_entries(p, at, n, items, values, from, format.wide);
+    copy_entries(p, at, n, out, from, format.wide);
     n
 }

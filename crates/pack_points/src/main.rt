@@ -11,6 +11,7 @@ ghost use Rattle.pack.specs.Contents.{literal_count, sheet_count};
 ghost use Rattle.pack.specs.Read.{program};
 ghost use Rattle.pack_points.specs.Passed.{Passed};
 
+use ink_list::entries_mut::EntriesMut;
 use instructions::instructions_of;
 use named_packs::NamedPacks;
 use pack::format::Format;
@@ -60,7 +61,11 @@ fn show_literal(p: &[u8], l: usize)
     print(format_args!("; literal {origins:x} {len}"));
     let mut items = [0u16; SHOWN_FORMAT.limit];
     let mut values = [0i32; SHOWN_FORMAT.limit];
-    let n = read_literal(p, l, &mut items, &mut values, 0, SHOWN_FORMAT);
+    let mut out = EntriesMut {
+        items: &mut items,
+        values: &mut values,
+    };
+    let n = read_literal(p, l, &mut out, 0, SHOWN_FORMAT);
     show_last(&items[..n], &values[..n]);
 }
 

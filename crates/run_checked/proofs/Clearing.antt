@@ -49,7 +49,7 @@ module _ (F : Format) {X : Type 0} (d : X) (used : List ℕ) (l : List X) where
 
   module _ (few : (q : ℕ) → get_or used q 0 ≤ F.limit) (room : work_limit F ≤ length l) where
     fits_as : (q : ℕ) → q < stack_limit → length (cleared F d used q l) ≡ length l → start_at F q + length (replicate (get_or used q 0) d) ≤ length (cleared F d used q l)
-    fits_as q h e = omega (arith, length-replicate (get_or used q 0) d, place_fits F q (get_or used q 0) h (few q))
+    fits_as q h e = omega (arith, length-replicate (get_or used q 0) d, place_fits F.limit q (get_or used q 0) h (few q))
 
     pub cleared_long : (q : ℕ) → q ≤ stack_limit → length (cleared F d used q l) ≡ length l
     unfolding cleared
@@ -59,6 +59,10 @@ module _ (F : Format) {X : Type 0} (d : X) (used : List ℕ) (l : List X) where
 
     fits : (q : ℕ) → q < stack_limit → start_at F q + length (replicate (get_or used q 0) d) ≤ length (cleared F d used q l)
     fits q h = fits_as q h (cleared_long q (omega arith))
+
+    -- so what place q has used stands in it whole
+    pub used_fits : (q : ℕ) → q < stack_limit → (w : List X) → w ≡ cleared F d used q l → start_at F q + get_or used q 0 ≤ length w
+    used_fits q h w e = omega (arith, ap length e, fits q h, length-replicate (get_or used q 0) d)
 
     module _ (old : List X) (t : Touched F d used old l) (zeros : (j : ℕ) → j < work_limit F → get_or old j d ≡ d) where
       -- j is in no used place from n on
@@ -83,7 +87,7 @@ module _ (F : Format) {X : Type 0} (d : X) (used : List ℕ) (l : List X) where
             ap (λ (i : ℕ). get_or (fill (start_at F n) (replicate (get_or used n 0) d) (cleared F d used n l)) i d) e
             ∙ get_d_inside (start_at F n) (replicate (get_or used n 0) d) (cleared F d used n l) (fits n h) (j - start_at F n) d (rw (length-replicate (get_or used n 0) d) k)
             ∙ get_or-replicate (get_or used n 0) (j - start_at F n) d d k
-            ∙ sym (zeros j (omega (arith, place_fits F n (get_or used n 0) h (few n))))
+            ∙ sym (zeros j (omega (arith, place_fits F.limit n (get_or used n 0) h (few n))))
 
       kept : (n j : ℕ) → n ≤ stack_limit → Past n j → get_or (cleared F d used n l) j d ≡ get_or old j d
       unfolding cleared

@@ -14,12 +14,12 @@ use Rattle.ink_value.proofs.ReadBack.{read_back}
 use Rattle.list_operators.specs.Lists.{definitions}
 use Rattle.pack.specs.Bodies.{decoded}
 use Rattle.pack.specs.declared.format.Format.{Format}
-use Rattle.pack.specs.Read.{ends_of, literal_of, program}
+use Rattle.pack.specs.Read.{literal_of, program, PackRead}
 use Rattle.slices.proofs.Filled.{fill_over}
-use Rattle.stepping.specs.Steps.{Inputs}
+use Rattle.slices.proofs.Lists.{ap3}
 use Rattle.running.specs.Run.{RanTo, Memory, run_of}
 use Rattle.running.specs.Work.{Worked}
-use Rattle.machine.specs.Machine.{End, ended, stopped, stack_limit, run}
+use Rattle.machine.specs.Machine.{End, ended, stack_limit, run}
 use Rattle.operating.specs.Stacked.{placed_at, Put, Roomy}
 use Rattle.run_checked.specs.Clear.{cleared}
 use Rattle.run_checked.proofs.Clearing.{cleared_back}
@@ -46,17 +46,11 @@ module _ {F : Format} (ri ri' : List ℕ) (rv rv' : List ℤ) where
   pub ran_value : (e : End Val) (x : Val) (v : Value) → ended x ≡ e → Put F x 0 v ri ri' rv rv' → RanTo e (ended v) ri ri' rv rv'
   ran_value e x v q w = subst (λ (z : End Val). RanTo z (ended v) ri ri' rv rv') q (ran_ended x v w)
 
-pub ran_stopped : (e : End Val) (n k : ℕ) (ri : List ℕ) (rv : List ℤ) → stopped n k ≡ e → RanTo e (stopped n k) ri ri rv rv
-ran_stopped e n k ri rv q =
-    subst (λ (z : End Val). RanTo z (stopped n k) ri ri rv rv) q (record { end_is = refl; answered = refl; items_out = refl; values_out = refl })
-
--- the tables are the pack's own
-pub same_run : (F : Format) (p ends : List ℕ) (defined : List ℤ) (slots : List Value) (si : List ℕ) (sv : List ℤ)
-    → Inputs F p ends defined slots si sv → (s : ℕ) (vs : List Val)
-    → (run (definitions ends defined F.limit) (program p s) (literal_of (decoded F p)) vs).end ≡ run_of F p s vs
-same_run F p ends defined slots si sv g s vs =
-    ap (λ (es : List ℕ). (run (definitions es defined F.limit) (program p s) (literal_of (decoded F p)) vs).end) g.ends_are
-    ∙ ap (λ (ds : List ℤ). (run (definitions (ends_of (decoded F p)) ds F.limit) (program p s) (literal_of (decoded F p)) vs).end) g.defined_are
+-- the tables and the limit are the pack's own
+pub same_run : (F : Format) (p ends : List ℕ) (defined : List ℤ) (limit : ℕ) → PackRead F p ends defined limit → (s : ℕ) (vs : List Val)
+    → (run (definitions ends defined limit) (program p s) (literal_of (decoded F p)) vs).end ≡ run_of F p s vs
+same_run F p ends defined limit g s vs =
+    ap3 (λ (es : List ℕ) (ds : List ℤ) (l : ℕ). (run (definitions es ds l) (program p s) (literal_of (decoded F p)) vs).end) g.ends_are g.defined_are g.limit_is
 
 module _ {F : Format} (e : End Val) (r : End Value) (used wi wi' : List ℕ) (wv wv' : List ℤ) (ri : List ℕ) (rv : List ℤ)
     (m : Memory F wi wv ri rv) (w : Worked F e r used wi wi' wv wv') where

@@ -14,17 +14,15 @@ use Rattle.slices.specs.Filled.{fill}
 use Rattle.slices.proofs.Every.{and_left, and_right, and_both, and_no_left, and_no_right}
 use Rattle.slices.proofs.Filled.{length_fill, fill_over, get_d_inside}
 use Rattle.ink_value.specs.Val.{Val}
-use Rattle.ink_value.specs.Value.{all_formed}
+use Rattle.ink_value.specs.Value.{all_formed, Formed}
 use Rattle.ink_value.specs.declared.Value.{Value}
 use Rattle.ink_value.proofs.Forming.{formed_yes}
 use Rattle.ink_value.specs.declared.Value.TheVariants as Is
 use Rattle.pack.specs.Bodies.{Pack, decoded}
 use Rattle.pack.specs.Format.{Runnable, Narrow}
 use Rattle.pack.specs.declared.format.Format.{Format}
-use Rattle.pack.specs.Judge.{Sound}
-use Rattle.pack.specs.Read.{ends_of, defined_of}
+use Rattle.pack.specs.Read.{ends_of, defined_of, PackRead}
 use Rattle.pack.proofs.Values.{pack_tables}
-use Rattle.stepping.specs.Steps.{Inputs}
 use Rattle.running.specs.Run.{long_enough, RanTo, Memory, run_of, Runs, run_memory}
 use Rattle.operating.specs.Stacked.{work_limit}
 use Rattle.run_memory.proofs.Forming.{each_at}
@@ -51,39 +49,32 @@ runs_given {F} a p s slots r wi wi' wv wv' ri ri' rv rv' e w hi hv =
 
 -- ---- question 7
 
-module _ (F : Format) (p ends : List ℕ) (defined : List ℤ) (slots : List Value) (si : List ℕ) (sv : List ℤ) (wi : List ℕ) (wv : List ℤ) (ri : List ℕ) (rv : List ℤ)
-    (he : ends ≡ ends_of (decoded F p)) (hd : defined ≡ defined_of (decoded F p)) where
-  slots_same : all_formed (length defined) (length ends) si sv slots
-      ≡ all_formed (length (defined_of (decoded F p))) (length (ends_of (decoded F p))) si sv slots
-  slots_same = rw (hd, he)
+module _ {F : Format} {p ends : List ℕ} {defined : List ℤ} {limit : ℕ} (r : PackRead F p ends defined limit) {total d : ℕ}
+    (hd : d ≡ length ends) (ht : total ≡ length defined) (slots : List Value) (si : List ℕ) (sv : List ℤ) where
+  slots_same : all_formed total d si sv slots ≡ all_formed (length (defined_of (decoded F p))) (length (ends_of (decoded F p))) si sv slots
+  slots_same = rw (ht, hd, r.defined_are, r.ends_are)
 
-  pub slots_no : all_formed (length defined) (length ends) si sv slots ≡ false
-      → ask 7 (run_memory F slots si sv wi wv ri rv (decoded F p)) (gives (decoded F p)) ≡ refuses 7
-  unfolding run_memory
-  slots_no e = let q : run_memory F slots si sv wi wv ri rv (decoded F p) ≡ false = and_no_left _ _ (sym slots_same ∙ e) in rw q
+  pub slots_formed : Narrow F → all_formed total d si sv slots ≡ true → (k : ℕ) → k < length slots → Formed F.limit si sv (get_or slots k (Is.Bool false))
+  slots_formed n e k h =
+      let t = pack_tables F p n r.sound in
+      let few : total ≤ F.limit = omega (arith, ht, ap length r.defined_are, t.defined_long, t.defined_few) in
+      formed_yes total d si sv (get_or slots k (Is.Bool false)) F.limit few (each_at total d si sv slots (Is.Bool false) (and_right _ _ e) k h)
 
-  pub room_no : long_enough F wi wv ri rv ≡ false
-      → ask 7 (run_memory F slots si sv wi wv ri rv (decoded F p)) (gives (decoded F p)) ≡ refuses 7
-  unfolding run_memory
-  room_no e = let q : run_memory F slots si sv wi wv ri rv (decoded F p) ≡ false = and_no_right _ _ e in rw q
+  module _ (wi : List ℕ) (wv : List ℤ) (ri : List ℕ) (rv : List ℤ) where
+    pub slots_no : all_formed total d si sv slots ≡ false
+        → ask 7 (run_memory F slots si sv wi wv ri rv (decoded F p)) (gives (decoded F p)) ≡ refuses 7
+    unfolding run_memory
+    slots_no e = let q : run_memory F slots si sv wi wv ri rv (decoded F p) ≡ false = and_no_left _ _ (sym slots_same ∙ e) in rw q
 
-  pub memory_yes : all_formed (length defined) (length ends) si sv slots ≡ true → long_enough F wi wv ri rv ≡ true
-      → ask 7 (run_memory F slots si sv wi wv ri rv (decoded F p)) (gives (decoded F p)) ≡ gives (decoded F p)
-  unfolding run_memory
-  memory_yes e f = let q : run_memory F slots si sv wi wv ri rv (decoded F p) ≡ true = and_both _ _ (sym slots_same ∙ e) f in rw q
+    pub room_no : long_enough F wi wv ri rv ≡ false
+        → ask 7 (run_memory F slots si sv wi wv ri rv (decoded F p)) (gives (decoded F p)) ≡ refuses 7
+    unfolding run_memory
+    room_no e = let q : run_memory F slots si sv wi wv ri rv (decoded F p) ≡ false = and_no_right _ _ e in rw q
 
-  pub inputs : Narrow F → Sound F p → all_formed (length defined) (length ends) si sv slots ≡ true → Inputs F p ends defined slots si sv
-  inputs n s e =
-      let t = pack_tables F p n s in
-      let few : length defined ≤ F.limit = omega (arith, ap length hd, t.defined_long, t.defined_few) in
-      record {
-        sound = s;
-        ends_are = he;
-        defined_are = hd;
-        slots_formed = λ k h.
-            formed_yes (length defined) (length ends) si sv (get_or slots k (Is.Bool false)) F.limit few
-            (each_at (length defined) (length ends) si sv slots (Is.Bool false) (and_right _ _ e) k h);
-      }
+    pub memory_yes : all_formed total d si sv slots ≡ true → long_enough F wi wv ri rv ≡ true
+        → ask 7 (run_memory F slots si sv wi wv ri rv (decoded F p)) (gives (decoded F p)) ≡ gives (decoded F p)
+    unfolding run_memory
+    memory_yes e f = let q : run_memory F slots si sv wi wv ri rv (decoded F p) ≡ true = and_both _ _ (sym slots_same ∙ e) f in rw q
 
 -- the slices that a run writes are long enough
 pub record Long (F : Format) (wi : List ℕ) (wv : List ℤ) (ri : List ℕ) (rv : List ℤ) : Type 0 where

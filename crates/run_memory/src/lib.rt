@@ -7,44 +7,32 @@ ghost use Rattle.ink_value.specs.Value.{all_formed};
 ghost use Rattle.pack.specs.Format.{Runnable};
 ghost use Rattle.running.specs.Slices.{long_enough_in};
 
-use ink_value::Value;
+use ink_list::entries_mut::EntriesMut;
+use ink_list::well_formed::Counts;
+use ink_value::slots::Slots;
 use machine::STACK_LIMIT;
 use pack::format::Format;
 
 // Question 7 of the slots.
-pub fn all_formed(
-    slots: [Value; 16],
-    items: &[u16],
-    values: &[i32],
-    total: usize,
-    definitions: usize,
-) -> bool
-    ensures { result ≡ all_formed total definitions items.now values.now slots }
+pub fn all_formed(slots: &Slots<'_>, counts: Counts) -> bool
+    ensures { result ≡ all_formed counts.items counts.definitions slots.now.lists.items.now slots.now.lists.values.now slots.now.values }
 {
-    items.len() == values.len()
-        && slots
-            .iter()
-            .all(|v| v.is_formed(items, values, total, definitions))
+    let lists = slots.lists;
+    lists.items.len() == lists.values.len()
+        && slots.values.iter().all(|v| v.is_formed(lists, counts))
 }
 
 // Have two slices n places each.
-fn have(n: usize, items: &[u16], values: &[i32]) -> bool
-    ensures { result ≡ (nat_le n (length items.now) and nat_le n (length values.now)) }
+fn have(n: usize, out: &EntriesMut<'_>) -> bool
+    ensures { result ≡ (nat_le n (length out.now.items.now) and nat_le n (length out.now.values.now)) }
 {
-    n <= items.len() && n <= values.len()
+    n <= out.items.len() && n <= out.values.len()
 }
 
 // Question 7 of the slices that a run writes.
-pub fn long_enough(
-    work_items: &[u16],
-    work_values: &[i32],
-    result_items: &[u16],
-    result_values: &[i32],
-    format: Format,
-) -> bool
+pub fn long_enough(work: &EntriesMut<'_>, out: &EntriesMut<'_>, format: Format) -> bool
     requires { Runnable format }
-    ensures { result ≡ long_enough_in format work_items work_values result_items result_values }
+    ensures { result ≡ long_enough_in format work.now out.now }
 {
-    have(format.limit, result_items, result_values)
-        && have(STACK_LIMIT * format.limit, work_items, work_values)
+    have(format.limit, out) && have(STACK_LIMIT * format.limit, work)
 }

@@ -3,7 +3,7 @@
 use mathlib.Core.Path.{◌≡◌, refl, sym, ap, ap₂, ◌∙◌, subst}
 use mathlib.Core.Logic.{inl, inr, ⊎_elim}
 use mathlib.Core.Bool.{false}
-use mathlib.Core.List.{List, [], ◌∷◌}
+use mathlib.Core.List.{List, ◌∷◌}
 use Prim.Native.Nat.{ℕ, zero, suc, ◌+◌, ◌-◌, ◌*◌, ◌≤◌, ◌<◌}
 use native.Mathlib.Nat.{suc-mul, mul-le-mul_right}
 use native.Mathlib.Omega.{arith}
@@ -20,9 +20,10 @@ use Rattle.ink_list.proofs.Output.{length_items, length_values}
 use Rattle.ink_list.proofs.Wrote.{entries_of_lem}
 use Rattle.ink_value.specs.Val.{Val, bool, int, float, list, void}
 use Rattle.ink_value.specs.Convert.{entries_of}
-use Rattle.ink_value.specs.Value.{val_of, start_of, len_of, Formed}
+use Rattle.ink_value.specs.Value.{val_of, start_of, len_of, Formed, FirstFormed}
 use Rattle.ink_value.specs.declared.Value.{Value}
 use Rattle.ink_value.specs.declared.Value.TheVariants as Is
+use Rattle.ink_value.specs.declared.operands.Operands.{Operands}
 use Rattle.list_definitions.specs.Defs.{ListDefinitions}
 use Rattle.operator_kinds.specs.Kinds.{operand_count}
 use Rattle.native_function_call.specs.Apply.{apply_op}
@@ -35,8 +36,8 @@ use Rattle.pack.specs.declared.instruction.Instruction.TheVariants as I
 use Rattle.op.specs.declared.Op.{Op}
 use Rattle.pack.specs.Read.{program, sheet_end, literal_of, Standing, Reads}
 use Rattle.pack.proofs.Programs.{last_of}
-use Rattle.stepping.specs.Steps.{Grown, Operands, OperandsFormed, Inputs, IfOp, IfSlot, SlotIs}
-use Rattle.running.specs.Work.{Touched, Longest}
+use Rattle.stepping.specs.Steps.{Grown, TopOperands, IfOp, IfSlot, SlotIs}
+use Rattle.running.specs.Work.{Touched, Longest, Topmost}
 use Rattle.machine.specs.Machine.{Run, ended, stopped, stack_limit, finish, onward, step, run_from, value_pushed, run}
 use Rattle.machine.specs.Stack.{stack_of}
 use Rattle.machine.proofs.Stack.{stack_put, run_more, run_stop, run_done}
@@ -76,6 +77,11 @@ if_op : (i : Instr) {P Q : ℕ → Type 0} → ((o : ℕ) → P o → Q o) → I
 if_op (op o) f h = f o h
 if_op (push p) f h = tt
 
+-- what holds holds where it is an operator
+if_op_all : (i : Instr) {P : Type 0} → P → IfOp i (λ o. P)
+if_op_all (op o) h = h
+if_op_all (push p) h = tt
+
 -- the value that is read at a slot's place
 pub slot_is : (i : Instr) (slots : List Value) (r : ℕ) → r < length slots → IfSlot i (λ s. r ≡ s) → SlotIs slots (get_or slots r (Is.Bool false)) i
 slot_is (op o) slots r h e = tt
@@ -94,11 +100,6 @@ allowed_slot L (push (push_float b)) a = tt
 allowed_slot L (push (push_list l)) a = tt
 allowed_slot L (push (push_slot s)) a = a
 allowed_slot L (push push_void) a = tt
-
--- the inputs but for the slots
-pub inputs_none : {F : Format} {p ends : List ℕ} {defined : List ℤ} {slots : List Value} {si : List ℕ} {sv : List ℤ}
-    → Inputs F p ends defined slots si sv → Inputs F p ends defined [] si sv
-inputs_none g = record { sound = g.sound; ends_are = g.ends_are; defined_are = g.defined_are; slots_formed = λ k h. absurd (omega arith) }
 
 -- ---- a value after it is put, and the values below
 
@@ -267,41 +268,35 @@ begin {F} p s u slots wi wv used stack at h l e =
       values_touched = touched_none F (pos 0) used wv;
     }
 
-module _ {F : Format} (p : List ℕ) (s : ℕ) (u : ListDefinitions) (slots : List Val) (wi₀ : List ℕ) (wv₀ : List ℤ) (used wi : List ℕ) (wv : List ℤ) (stack : List Value)
-    (n at i : ℕ) (g : Working F p s u slots wi₀ wv₀ used wi wv stack n at i) where
+module _ {F : Format} {p : List ℕ} {s : ℕ} {u : ListDefinitions} {slots : List Val} {wi₀ : List ℕ} {wv₀ : List ℤ} {used wi : List ℕ} {wv : List ℤ}
+    {stack : List Value} {n at i : ℕ} (g : Working F p s u slots wi₀ wv₀ used wi wv stack n at i) where
   -- an operator's operands, read at their places
-  module _ (count p0 p1 p2 : ℕ) (h0 : 0 < count → count ≤ n → p0 ≡ n - count + 0) (h1 : 1 < count → count ≤ n → p1 ≡ n - count + 1)
-      (h2 : 2 < count → count ≤ n → p2 ≡ n - count + 2) where
-    abbrev a : Value
-    a = get_or stack p0 (Is.Bool false)
-
-    abbrev b : Value
-    b = get_or stack p1 (Is.Bool false)
-
-    abbrev c : Value
-    c = get_or stack p2 (Is.Bool false)
-
-    are : Operands wi wv a b c n count (value_on wi wv stack)
+  module _ (count : ℕ) (o : Operands) (t : Topmost stack n count o) where
+    are : TopOperands wi wv o.first o.second o.third n o.count (value_on wi wv stack)
     are =
+        rw t.counted
+        (record {
+          one = λ l k. ap (val_of wi wv) (sym (t.one l k));
+          two = λ l k. ap (val_of wi wv) (sym (t.two l k));
+          three = λ l k. ap (val_of wi wv) (sym (t.three l k));
+        })
+
+    are_formed : o.count ≤ n → FirstFormed F.limit wi wv o.count o.first o.second o.third
+    are_formed =
+        rw t.counted
+        (λ k.
         record {
-          one = λ l k. ap (value_on wi wv stack) (omega (arith, h0 l k));
-          two = λ l k. ap (value_on wi wv stack) (sym (h1 l k));
-          three = λ l k. ap (value_on wi wv stack) (sym (h2 l k));
-        }
+          one = λ l. rw (t.one l k) (g.formed (n - count) (omega arith));
+          two = λ l. rw (t.two l k) (g.formed (n - count + 1) (omega arith));
+          three = λ l. rw (t.three l k) (g.formed (n - count + 2) (omega arith));
+        })
 
-    are_formed : OperandsFormed F wi wv a b c n count
-    are_formed k =
-        record {
-          one = λ l. g.formed p0 (omega (arith, h0 l k));
-          two = λ l. g.formed p1 (omega (arith, h1 l k));
-          three = λ l. g.formed p2 (omega (arith, h2 l k));
-        }
+    pub operands : (instr : Instr) → IfOp instr (λ m. TopOperands wi wv o.first o.second o.third n o.count (value_on wi wv stack))
+    operands instr = if_op_all instr are
 
-    pub operands : (instr : Instr) → IfOp instr (λ o. count ≡ operand_count o) → IfOp instr (λ o. Operands wi wv a b c n (operand_count o) (value_on wi wv stack))
-    operands instr e = if_op instr (λ o q. rw (← q) are) e
-
-    pub operands_formed : (instr : Instr) → IfOp instr (λ o. count ≡ operand_count o) → IfOp instr (λ o. OperandsFormed F wi wv a b c n (operand_count o))
-    operands_formed instr e = if_op instr (λ o q. rw (← q) are_formed) e
+    pub operands_formed : (limit : ℕ) → limit ≡ F.limit → (instr : Instr) → IfOp instr (λ m. count ≡ operand_count m)
+        → IfOp instr (λ m. (o.count ≡ operand_count m) × (o.count ≤ n → FirstFormed limit wi wv o.count o.first o.second o.third))
+    operands_formed limit q instr e = if_op instr (λ m w. (t.counted ∙ w, rw q are_formed)) e
 
   pub roomy : Roomy F wi₀ wv₀ → Roomy F wi wv
   roomy r = record { format = r.format; items_room = omega (arith, r.items_room, g.items_touched.long); values_room = omega (arith, r.values_room, g.values_touched.long) }
@@ -315,10 +310,10 @@ module _ {F : Format} (p : List ℕ) (s : ℕ) (u : ListDefinitions) (slots : Li
     few_entries = rising_length F.limit (entries_of w.value) w.put.rising
 
     fits_i : start_at F m + length (entries_of w.value) ≤ length wi
-    fits_i = omega (arith, place_fits F m (length (entries_of w.value)) w.depth few_entries, (roomy room).items_room)
+    fits_i = omega (arith, place_fits F.limit m (length (entries_of w.value)) w.depth few_entries, (roomy room).items_room)
 
     fits_v : start_at F m + length (entries_of w.value) ≤ length wv
-    fits_v = omega (arith, place_fits F m (length (entries_of w.value)) w.depth few_entries, (roomy room).values_room)
+    fits_v = omega (arith, place_fits F.limit m (length (entries_of w.value)) w.depth few_entries, (roomy room).values_room)
 
     abbrev stack' : List Value
     stack' = set stack m v

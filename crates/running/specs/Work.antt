@@ -1,7 +1,7 @@
--- The words of the inner contracts: the places of the work slices that a run has used, and how the work ends.
+-- The words of the inner contracts: an instruction's operands, the places of the work slices that a run has used, and how the work ends.
 -- Assumes nothing.
 -- For inner steps alone: no entry point's contract cites it.
-use Rattle.std.specs.Prelude.{◌≡◌, List, ℕ, ◌≤◌, ◌<◌, ℤ, pos, length, get_or}
+use Rattle.std.specs.Prelude.{◌≡◌, false, List, ℕ, ◌+◌, ◌-◌, ◌≤◌, ◌<◌, ℤ, pos, length, get_or}
 use Rattle.slices.specs.Filled.{Outside}
 use Rattle.ink_value.specs.Val.{Val}
 use Rattle.ink_value.specs.Value.{Formed}
@@ -10,6 +10,17 @@ use Rattle.machine.specs.Machine.{End, stack_limit, ended, stopped}
 use Rattle.operating.specs.Stacked.{start_at}
 use Rattle.running.specs.Run.{end_in}
 use Rattle.ink_value.specs.declared.Value.{Value}
+use Rattle.ink_value.specs.declared.Value.TheVariants as Is
+use Rattle.ink_value.specs.declared.operands.Operands.{Operands}
+
+-- ---- operands
+
+-- the `count` topmost of a stack of n that is held in an array, in order, where there are as many
+pub record Topmost (stack : List Value) (n count : ℕ) (o : Operands) : Type 0 where
+  pub counted : o.count ≡ count
+  pub one : 0 < count → count ≤ n → o.first ≡ get_or stack (n - count) (Is.Bool false)
+  pub two : 1 < count → count ≤ n → o.second ≡ get_or stack (n - count + 1) (Is.Bool false)
+  pub three : 2 < count → count ≤ n → o.third ≡ get_or stack (n - count + 2) (Is.Bool false)
 
 -- ---- the places that are used
 

@@ -2,23 +2,26 @@
 // the work slices, from p times the format's item limit on.
 #![tactic(auto)]
 
-ghost use Rattle.std.specs.Prelude.{◌≡◌, map, ◌<◌, ◌≤◌, ◌+◌, ◌-◌, length, replicate};
-ghost use Rattle.ink_value.specs.Slices.{val_in};
+ghost use Rattle.std.specs.Prelude.{◌≡◌, ◌<◌, ◌≤◌, ◌+◌, ◌-◌, length, replicate};
+ghost use Rattle.ink_value.specs.Held.{slot_values, SlotsFormed};
 ghost use Rattle.operator_kinds.specs.Kinds.{operand_count};
 ghost use Rattle.pack.specs.Contents.{sheet_count};
 ghost use Rattle.pack.specs.Format.{slot_limit};
 ghost use Rattle.pack.specs.Instruction.{instr_of};
 ghost use Rattle.machine.specs.Machine.{stack_limit};
-ghost use Rattle.stepping.specs.Steps.{Inputs, IfOp, IfSlot};
+ghost use Rattle.stepping.specs.Steps.{IfOp, IfSlot};
 ghost use Rattle.operating.specs.Stacked.{Roomy};
 ghost use Rattle.running.specs.Slices.{work_in, WorkedIn};
-ghost use Rattle.running.specs.Work.{Longest};
+ghost use Rattle.running.specs.Work.{Longest, Topmost};
 
+use ink_list::entries_mut::EntriesMut;
 use ink_number::question::Question;
 use ink_value::Value;
+use ink_value::operands::Operands;
+use ink_value::slots::Slots;
 use machine::{STACK_LIMIT, Stop};
-use pack::format::Format;
 use pack::instruction::Instruction;
+use pack::passed::PassedPack;
 
 // How many operands an instruction takes: a push takes none.
 #[tactic(auto, using(crate::proofs::Working::op_told, crate::proofs::Working::no_op))]
@@ -72,80 +75,61 @@ fn keep_longest(used: &mut [usize], place: usize, len: usize)
     }
 }
 
+// The operands of an instruction on a stack of n, in order: its `count` topmost values, where there are as many.
+fn operands_on(stack: &[Value; STACK_LIMIT], n: usize, count: usize) -> Operands
+    requires { n ≤ stack_limit }
+    ensures { Topmost stack.now n count result }
+{
+    Operands {
+        count,
+        first: stack[operand_place(n, count, 0)],
+        second: stack[operand_place(n, count, 1)],
+        third: stack[operand_place(n, count, 2)],
+    }
+}
+
 // Works a sheet's instructions in order. A List that is left stands in the work slices.
 // Where the next instruction stands is known once this one is read, and the stack grows with it: the loop counts by hand.
 pub fn work(
-    pack: &[u8],
-    ends: &[u16],
-    defined: &[i32],
+    pack: PassedPack<'_>,
     sheet: usize,
-    slots: [Value; 16],
-    slot_items: &[u16],
-    slot_values: &[i32],
-    format: Format,
+    slots: &Slots<'_>,
     used: &mut [usize],
-    work_items: &mut [u16],
-    work_values: &mut [i32],
+    work: &mut EntriesMut<'_>,
 ) -> Result<Value, Stop>
-    requires inputs { Inputs format pack.now ends.now defined.now slots slot_items.now slot_values.now }
-    requires sheet_bound { (sheet < sheet_count pack.now) × (used.old ≡ replicate stack_limit 0) }
-    requires roomy { Roomy format work_items.old work_values.old }
-    ensures { WorkedIn format (work_in format pack ends defined sheet (map (val_in slot_items slot_values) slots)) result used
-        work_items work_values }
+    requires sheet_bound { (sheet < sheet_count pack.bytes.now) × (used.old ≡ replicate stack_limit 0) }
+    requires formed { SlotsFormed pack.format.limit slots.now }
+    requires roomy { Roomy pack.format work.old.items.now work.old.values.now }
+    ensures { WorkedIn pack.entry.format (work_in pack.entry sheet (slot_values slots.now)) result used work.old work.new }
 {
-    let span = pack_read::sheet_span(pack, sheet);
+    let span = pack_read::sheet_span(pack.bytes, sheet);
     let end = span.end;
     let mut at = span.start;
-    let void = Value::Void;
-    let mut stack = [void; STACK_LIMIT];
+    let mut stack = [Value::Void; STACK_LIMIT];
     let mut n: usize = 0;
     let mut i: usize = 0;
     // The next instruction starts where this one's width ends.
     while at < end {
-        let instruction = pack::instruction::read_instruction(pack, at);
-        let width = pack::instruction::instruction_width(instruction);
+        let instruction = pack::instruction::read_instruction(pack.bytes, at);
         let k = slot_place(instruction);
-        let slot = slots[k];
-        let count = operand_count(instruction);
-        let p0 = operand_place(n, count, 0);
-        let p1 = operand_place(n, count, 1);
-        let p2 = operand_place(n, count, 2);
-        let a = stack[p0];
-        let b = stack[p1];
-        let c = stack[p2];
-        let step = stepping::run_step(
-            pack,
-            ends,
-            defined,
-            slot,
-            slot_items,
-            slot_values,
-            instruction,
-            n,
-            a,
-            b,
-            c,
-            format,
-            work_items,
-            work_values,
-        );
-        match step {
+        let slot = slots.values[k];
+        let operands = operands_on(&stack, n, operand_count(instruction));
+        match stepping::run_step(pack, slot, slots.lists, instruction, n, operands, work) {
             Ok(top) => {
                 keep_longest(used, top.place, top.value.len_of());
                 stack[top.place] = top.value;
                 n = top.place + 1;
-                at += width;
+                at += pack::instruction::instruction_width(instruction);
                 i += 1;
             }
             Err(question) => return Err(Stop { question, index: i }),
         }
     }
     if n == 1 {
-        Ok(stack[0])
-    } else {
-        Err(Stop {
-            question: Question::Left,
-            index: i,
-        })
+        return Ok(stack[0]);
     }
+    Err(Stop {
+        question: Question::Left,
+        index: i,
+    })
 }

@@ -17,15 +17,12 @@ use Rattle.operator_kinds.specs.Kinds.{operand_count}
 use Rattle.list_definitions.specs.Defs.{ListDefinitions}
 use Rattle.native_function_call.specs.Apply.{apply_op, call}
 use Rattle.operator_kinds.proofs.Counting.{count_three}
-use Rattle.pack.specs.Format.{Narrow}
 use Rattle.pack.specs.declared.format.Format.{Format}
 use Rattle.pack.specs.Instruction.{Push, Instr, op, push}
-use Rattle.pack.specs.Read.{PackLists}
-use Rattle.pack.proofs.Values.{pack_tables}
 use Rattle.machine.specs.Machine.{stack_limit, topped, step_op, step_push, step}
 use Rattle.machine.specs.Stack.{stack_of}
 use Rattle.machine.proofs.Stack.{op_unknown, op_few, op_one, op_two, op_three, stack_length, get_d_any}
-use Rattle.stepping.specs.Steps.{StepCase, Steps, Operands, pushed, Inputs}
+use Rattle.stepping.specs.Steps.{StepCase, Steps, TopOperands, pushed}
 use Rattle.operating.specs.Stacked.{AnswerCase, Answered, start_at, Put}
 use Rattle.operating.proofs.Operating.{call_applies}
 use Rattle.machine.specs.declared.Top.{Top}
@@ -58,7 +55,7 @@ push_topped n x f = rw (stack_length f n) (go (ltb n stack_limit))
 
 -- an operator's operands are the topmost
 module _ (wi : List ℕ) (wv : List ℤ) (a b c : Value) (f : ℕ → Val) (u : ListDefinitions) (o n : ℕ) where
-  pub operands_topped : (count : ℕ) → Operands wi wv a b c n count f → operand_count o ≡ count → 1 ≤ count → count ≤ n
+  pub operands_topped : (count : ℕ) → TopOperands wi wv a b c n count f → operand_count o ≡ count → 1 ≤ count → count ≤ n
       → topped (stack_of f (n - count)) (call u o count (first_of wi wv count a b c)) ≡ step_op (apply_op u) o (stack_of f n)
   operands_topped zero t e h l = absurd (omega arith)
   operands_topped (suc zero) t e h l =
@@ -107,11 +104,3 @@ module _ {F : Format} (value : Push → Val) (apply : ℕ → List Val → Answe
 pub slot_value : (is : List ℕ) (vs : List ℤ) (slots : List Value) (k : ℕ) → k < length slots
     → val_of is vs (get_or slots k (Is.Bool false)) ≡ get_or (map (val_of is vs) slots) k void
 slot_value is vs slots k h = ap (val_of is vs) (get_d_any slots k (Is.Bool false) Is.Void h) ∙ sym (get_or-map (val_of is vs) slots k Is.Void)
-
--- the tables of a pack that passed
-pub known_of : (F : Format) → Narrow F → (p ends : List ℕ) (defined : List ℤ) (slots : List Value) (si : List ℕ) (sv : List ℤ)
-    → Inputs F p ends defined slots si sv → PackLists F.limit ends defined
-known_of F narrow p ends defined slots si sv g =
-    let t = pack_tables F p narrow g.sound in
-    rw (g.ends_are, g.defined_are)
-    (record { tables = t.tables; few = omega (arith, t.ends_long, t.ends_few); within = omega (arith, t.defined_long, t.defined_few) })

@@ -1,36 +1,49 @@
--- The words of the contracts of one instruction, of lent slices. In an `ensures` a slice is what it was at entry and what it is at exit.
--- Assumes nothing.
+-- The words of the contracts of one instruction: its operands, which stand in the work slices, what of the pack it goes by, and what it
+-- leaves in the work slices. Assumes nothing.
 -- For inner steps alone: no entry point's contract cites it.
-use Rattle.std.specs.Prelude.{List, ℕ, ℤ, Result}
+use Rattle.std.specs.Prelude.{◌≡◌, List, ℕ, ◌≤◌, Result}
 use Rattle.ink_number.specs.Answer.{Answer}
-use Rattle.slices.specs.Slices.{Slice, MutSlice}
+use Rattle.ink_number.specs.Question.{answer}
+use Rattle.ink_number.specs.declared.question.Question.{Question}
+use Rattle.ink_list.specs.Lists.{Same}
+use Rattle.ink_list.specs.declared.entries_mut.EntriesMut.{EntriesMut}
 use Rattle.ink_value.specs.Val.{Val, list}
 use Rattle.ink_value.specs.declared.Value.{Value}
+use Rattle.ink_value.specs.declared.operands.Operands.{Operands}
+use Rattle.list_operators.specs.Lists.{definitions_of}
 use Rattle.native_function_call.specs.Apply.{apply_op}
 use Rattle.pack.specs.Bodies.{decoded}
 use Rattle.pack.specs.Instruction.{Instr}
 use Rattle.pack.specs.Read.{literal_of}
 use Rattle.pack.specs.declared.format.Format.{Format}
+use Rattle.pack.specs.declared.passed.PassedPack.{PassedPack}
 use Rattle.machine.specs.Machine.{step, value_pushed}
-use Rattle.stepping.specs.Steps.{Steps, Operands}
-use Rattle.list_operators.specs.Lists.{definitions_in}
 use Rattle.machine.specs.declared.Top.{Top}
-use Rattle.ink_number.specs.Question.{answer}
-use Rattle.ink_number.specs.declared.question.Question.{Question}
+use Rattle.operating.specs.Slices.{StackedFormed}
+use Rattle.stepping.specs.Steps.{Steps, TopOperands}
 
--- an operator's operands are the topmost of a stack of n whose values, from below, are those of f
-abbrev pub OperandsIn : MutSlice ℕ → MutSlice ℤ → Value → Value → Value → ℕ → ℕ → (ℕ → Val) → Type 0
-OperandsIn wi wv a b c n count f = Operands wi.entry.now wv.entry.now a b c n count f
+-- the operands are the topmost of a stack of n whose values, from below, are those of f
+abbrev pub OnTop : EntriesMut → Operands → ℕ → (ℕ → Val) → Type 0
+OnTop work o n f = TopOperands work.items.now work.values.now o.first o.second o.third n o.count f
 
--- the stack that a step gives: its top is put in its place, its entries in the work slices; or a no, and nothing is written
-abbrev pub StepsIn : Format → ℕ → Answer (List Val) → (ℕ → Val) → Result (Top Value) Question → MutSlice ℕ → MutSlice ℤ → Type 0
-StepsIn F n a f r wi wv = Steps F n a f (answer r) wi.entry.now wi.exit.now wv.entry.now wv.exit.now
+-- they are well formed, where the stack has as many
+abbrev pub TopFormed : ℕ → EntriesMut → Operands → ℕ → Type 0
+TopFormed limit work o n = o.count ≤ n → StackedFormed limit work o
+
+-- the stack that a step gives, in every format of this item limit: its top is put in its place, its entries in the work slices; or a no, and
+-- nothing is written
+abbrev pub StepsIn : ℕ → ℕ → Answer (List Val) → (ℕ → Val) → Result (Top Value) Question → EntriesMut → EntriesMut → Type 0
+StepsIn limit n a f r before after =
+    ((F : Format) → F.limit ≡ limit
+    → Steps F n a f (answer r) before.items.now after.items.now before.values.now after.values.now)
+    × Same before after
 
 -- a literal of the pack
-abbrev pub literal_in : Format → Slice ℕ → ℕ → Val
-literal_in F pack l = list (literal_of (decoded F pack.entry.now) l).origins (literal_of (decoded F pack.entry.now) l).entries
+abbrev pub literal_in : PassedPack → ℕ → Val
+literal_in pack l =
+    list (literal_of (decoded pack.format pack.bytes.now) l).origins (literal_of (decoded pack.format pack.bytes.now) l).entries
 
 -- questions 8 to 13 and 15 of an instruction of the pack, with these slots, on a stack
-abbrev pub step_in : Format → Slice ℕ → Slice ℕ → Slice ℤ → List Val → Instr → List Val → Answer (List Val)
-step_in F pack ends defined slots =
-    step (value_pushed (literal_of (decoded F pack.entry.now)) slots) (apply_op (definitions_in ends defined F.limit))
+abbrev pub step_in : PassedPack → List Val → Instr → List Val → Answer (List Val)
+step_in pack slots =
+    step (value_pushed (literal_of (decoded pack.format pack.bytes.now)) slots) (apply_op (definitions_of pack.definitions))

@@ -1,27 +1,17 @@
--- The words of the contracts: what a run goes by, and one step on a stack that is held in an array. Assumes nothing.
--- For inner steps: no entry point's contract cites it, but for `Inputs`, which `run_checked` asks.
+-- The words of the contracts: one step on a stack that is held in an array. Assumes nothing.
+-- For inner steps alone: no entry point's contract cites it.
 use Rattle.std.specs.Prelude.{◌≡◌, false, List, ◌∷◌, ℕ, ◌+◌, ◌-◌, ◌≤◌, ◌<◌, ltb, ℤ, length, get_or}
 use Rattle.ink_number.specs.Answer.{Answer, gives, ask, refuses}
 use Rattle.ink_value.specs.Val.{Val}
-use Rattle.ink_value.specs.Value.{val_of, Formed, FirstFormed}
+use Rattle.ink_value.specs.Value.{val_of}
 use Rattle.ink_value.specs.declared.Value.{Value}
 use Rattle.ink_value.specs.declared.Value.TheVariants as Is
-use Rattle.pack.specs.Bodies.{decoded}
 use Rattle.pack.specs.Instruction.{Instr, op, push, push_bool, push_int, push_float, push_list, push_slot, push_void}
-use Rattle.pack.specs.Judge.{Sound}
-use Rattle.pack.specs.Read.{ends_of, defined_of}
 use Rattle.pack.specs.declared.format.Format.{Format}
 use Rattle.machine.specs.Machine.{stack_limit}
 use Rattle.machine.specs.Stack.{stack_of}
 use Rattle.operating.specs.Stacked.{start_at, Put, Refuses}
 use Rattle.machine.specs.declared.Top.{Top}
-
--- what a run goes by: a pack that passed, its definitions' tables, and slots whose lists stand well formed in their slices
-pub record Inputs (F : Format) (p ends : List ℕ) (defined : List ℤ) (slots : List Value) (si : List ℕ) (sv : List ℤ) : Type 0 where
-  pub sound : Sound F p
-  pub ends_are : ends ≡ ends_of (decoded F p)
-  pub defined_are : defined ≡ defined_of (decoded F p)
-  pub slots_formed : (k : ℕ) → k < length slots → Formed F.limit si sv (get_or slots k (Is.Bool false))
 
 -- ---- one step
 
@@ -49,14 +39,10 @@ pub record Steps (F : Format) (n : ℕ) (a : Answer (List Val)) (f : ℕ → Val
 -- ---- an operator
 
 -- an operator's operands, in order: the `count` topmost of a stack of n, where there are as many
-pub record Operands (wi : List ℕ) (wv : List ℤ) (a b c : Value) (n count : ℕ) (f : ℕ → Val) : Type 0 where
+pub record TopOperands (wi : List ℕ) (wv : List ℤ) (a b c : Value) (n count : ℕ) (f : ℕ → Val) : Type 0 where
   pub one : 1 ≤ count → count ≤ n → f (n - count) ≡ val_of wi wv a
   pub two : 2 ≤ count → count ≤ n → f (n - count + 1) ≡ val_of wi wv b
   pub three : 3 ≤ count → count ≤ n → f (n - count + 2) ≡ val_of wi wv c
-
--- they are well formed
-abbrev pub OperandsFormed : Format → List ℕ → List ℤ → Value → Value → Value → ℕ → ℕ → Type 0
-OperandsFormed F wi wv a b c n count = count ≤ n → FirstFormed F.limit wi wv count a b c
 
 -- of an operator alone, by its number
 abbrev pub IfOp : Instr → (ℕ → Type 0) → Type 0
@@ -73,10 +59,6 @@ IfSlot (push (push_list l)) P = Unit {0}
 IfSlot (push (push_slot s)) P = P s
 IfSlot (push push_void) P = Unit {0}
 
--- the values of slots
-abbrev pub Slots : Type 0
-Slots = List Value
-
 -- the value of the slot that an instruction pushes
-abbrev pub SlotIs : Slots → Value → Instr → Type 0
+abbrev pub SlotIs : List Value → Value → Instr → Type 0
 SlotIs slots v i = IfSlot i (λ s. (s < length slots) × (v ≡ get_or slots s (Is.Bool false)))

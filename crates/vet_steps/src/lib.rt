@@ -15,7 +15,7 @@ ghost use Rattle.vet_steps.specs.Slices.{kinds_in, stepped_in};
 use ink_number::question::Question;
 use ink_value::Kind;
 use kind_table::KindTable;
-use machine::{STACK_LIMIT, Top};
+use machine::{Top, push};
 use op::Op;
 use pack::instruction::Instruction;
 
@@ -61,18 +61,13 @@ fn vet_op(op: Op, table: &KindTable, stack: &[Kind; 64], n: usize) -> Result<Top
     })
 }
 
-// A push of a kind on a stack of n: question 9. A run's push is as short and promises another thing, of entries in slices: one function for
-// both would leave each its proof.
-#[tactic(auto, using(machine::proofs::Stack::push_fits, machine::proofs::Stack::push_full))]
+// A push of a kind on a stack of n.
+#[tactic(auto, using(crate::proofs::KindSteps::pushed_kind, crate::proofs::KindSteps::pushed_within))]
 fn vet_push(value: Kind, n: usize) -> Result<Top<Kind>, Question>
     requires { n ≤ 64 }
     ensures { ((f : ℕ → Kind) → stepped (answer_of result) f ≡ step_push value (stack_of f n)) × Within (answer_of result) n }
 {
-    if n < STACK_LIMIT {
-        Ok(Top { place: n, value })
-    } else {
-        Err(Question::Stack)
-    }
+    push(value, n)
 }
 
 // An instruction on a stack of n.

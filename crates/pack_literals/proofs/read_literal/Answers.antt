@@ -29,8 +29,7 @@ copy_entries-requires c =
     record {
       wide_nonzero = (c.requires.narrow.some, c.requires.narrow.most);
       n_in_bounds = omega (arith, body p c.requires.sound.contents b (omega arith), whole, m);
-      n_in_bounds_2 = omega (arith, c.literal_len-n.ensures);
-      n_in_bounds_3 = omega (arith, c.literal_len-n.ensures);
+      room = omega (arith, c.literal_len-n.ensures);
     }
 
 pub returns : goal.returns
@@ -43,18 +42,20 @@ returns c =
     let o : c.offset-at.result ≡ offset p b = c.offset-at.ensures.0 ∙ ap (offset p) w in
     let n : c.literal_len-n.result ≡ entry_count c.args.format p b =
     c.literal_len-n.ensures ∙ ap (λ (x : Literal). length x.entries) is ∙ entries_long c.args.format p b in
-    let put-items : ℕ → ℕ → List ℕ = λ (x k : ℕ). fill a.from (table k (item_from c.args.format.wide p (x + 8))) a.items.now in
-    let put-values : ℕ → ℕ → List ℤ = λ (x k : ℕ). fill a.from (table k (value_from c.args.format.wide p (x + 8))) a.values.now in
-    record {
-      counted = c.literal_len-n.ensures;
-      items_in = c.copy_entries.ensures.0
-          ∙ ap (λ (x : ℕ). put-items x c.literal_len-n.result) o
-          ∙ ap (λ (k : ℕ). put-items (offset p b) k) n
-          ∙ ap (λ (xs : List ℕ). fill a.from xs a.items.now) (sym (items_table (item c.args.format p b) (value c.args.format p b) (entry_count c.args.format p b)))
-          ∙ ap (λ (x : Literal). fill a.from (items x.entries) a.items.now) (sym is);
-      values_in = c.copy_entries.ensures.1
-          ∙ ap (λ (x : ℕ). put-values x c.literal_len-n.result) o
-          ∙ ap (λ (k : ℕ). put-values (offset p b) k) n
-          ∙ ap (λ (xs : List ℤ). fill a.from xs a.values.now) (sym (values_table (item c.args.format p b) (value c.args.format p b) (entry_count c.args.format p b)))
-          ∙ ap (λ (x : Literal). fill a.from (values x.entries) a.values.now) (sym is);
-    }
+    let put-items : ℕ → ℕ → List ℕ = λ (x k : ℕ). fill a.from (table k (item_from c.args.format.wide p (x + 8))) a.out.now.items.now in
+    let put-values : ℕ → ℕ → List ℤ = λ (x k : ℕ). fill a.from (table k (value_from c.args.format.wide p (x + 8))) a.out.now.values.now in (
+      record {
+        counted = c.literal_len-n.ensures;
+        items_in = c.copy_entries.ensures.0
+            ∙ ap (λ (x : ℕ). put-items x c.literal_len-n.result) o
+            ∙ ap (λ (k : ℕ). put-items (offset p b) k) n
+            ∙ ap (λ (xs : List ℕ). fill a.from xs a.out.now.items.now) (sym (items_table (item c.args.format p b) (value c.args.format p b) (entry_count c.args.format p b)))
+            ∙ ap (λ (x : Literal). fill a.from (items x.entries) a.out.now.items.now) (sym is);
+        values_in = c.copy_entries.ensures.1
+            ∙ ap (λ (x : ℕ). put-values x c.literal_len-n.result) o
+            ∙ ap (λ (k : ℕ). put-values (offset p b) k) n
+            ∙ ap (λ (xs : List ℤ). fill a.from xs a.out.now.values.now) (sym (values_table (item c.args.format p b) (value c.args.format p b) (entry_count c.args.format p b)))
+            ∙ ap (λ (x : Literal). fill a.from (values x.entries) a.out.now.values.now) (sym is);
+      },
+      c.copy_entries.ensures.2,
+    )

@@ -1,8 +1,6 @@
 -- `pack_points::show_literal` is safe: a literal has at most as many entries as the pack's format has items. Assumes nothing.
-use Prim.Native.Nat.{◌≤◌}
 use mathlib.Core.Path.{sym}
 use native.Mathlib.Omega.{arith}
-use lib.ListN.{length}
 use lib.Seq.{length-take-le}
 use Rattle.pack.proofs.Formats.{runnable1}
 use Rattle.pack.proofs.Listed.{literal_formed}
@@ -15,24 +13,17 @@ read_literal-n-requires c =
       narrow = runnable1.narrow;
       sound = c.requires.passed;
       l_bound = c.requires.l_bound;
-      l_in_bounds = omega arith;
-      l_in_bounds_2 = omega arith;
+      room = omega arith;
     }
 
 pub slice_bounds-items-end : goal.slice_bounds-items-end
-slice_bounds-items-end c = omega (arith, (literal_formed _ c.args.p.now c.requires.passed c.args.l c.requires.l_bound).few, c.read_literal-n.ensures.counted)
+slice_bounds-items-end c = omega (arith, (literal_formed _ c.args.p.now c.requires.passed c.args.l c.requires.l_bound).few, c.read_literal-n.ensures.0.counted)
 
 pub slice_bounds-show_last-end : goal.slice_bounds-show_last-end
-slice_bounds-show_last-end c =
-    let fits : c.read_literal-n.result ≤ length c.read_literal-n.new.items =
-    omega (arith, (literal_formed _ c.args.p.now c.requires.passed c.args.l c.requires.l_bound).few, c.read_literal-n.ensures.counted) in
-    sym (length-take-le c.read_literal-n.result c.read_literal-n.new.items fits)
+slice_bounds-show_last-end c = sym (length-take-le c.read_literal-n.result _ (omega (arith, (literal_formed _ c.args.p.now c.requires.passed c.args.l c.requires.l_bound).few, c.read_literal-n.ensures.0.counted)))
 
 pub slice_bounds-values-end : goal.slice_bounds-values-end
-slice_bounds-values-end c = omega (arith, (literal_formed _ c.args.p.now c.requires.passed c.args.l c.requires.l_bound).few, c.read_literal-n.ensures.counted)
+slice_bounds-values-end c = omega (arith, (literal_formed _ c.args.p.now c.requires.passed c.args.l c.requires.l_bound).few, c.read_literal-n.ensures.0.counted)
 
 pub slice_bounds-show_last-end-2 : goal.slice_bounds-show_last-end-2
-slice_bounds-show_last-end-2 c =
-    let fits : c.read_literal-n.result ≤ length c.read_literal-n.new.values =
-    omega (arith, (literal_formed _ c.args.p.now c.requires.passed c.args.l c.requires.l_bound).few, c.read_literal-n.ensures.counted) in
-    sym (length-take-le c.read_literal-n.result c.read_literal-n.new.values fits)
+slice_bounds-show_last-end-2 c = sym (length-take-le c.read_literal-n.result _ (omega (arith, (literal_formed _ c.args.p.now c.requires.passed c.args.l c.requires.l_bound).few, c.read_literal-n.ensures.0.counted)))

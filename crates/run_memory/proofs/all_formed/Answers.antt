@@ -6,16 +6,18 @@ use Rattle.ink_value.specs.Value.{formed_in}
 use Rattle.run_memory.proofs.Forming.{each_asked, uneven, even}
 use Rattle.run_memory.proofs.all_formed.Goals as goal
 
-pub returns-then-items-values : goal.returns-then-items-values
-returns-then-items-values c =
-    let a = c.args in
-    let formed = formed_in a.total a.definitions a.items.now a.values.now in
-    each_asked a.total a.definitions a.items.now a.values.now a.slots c.all.result
-    (cases_from_all _ _ c.all.result (λ v. formed v ≡ true) (λ v. formed v ≡ false) c.all.ensures.ran (YieldsList-from_slice a.slots c.iter.ensures.rest)
+pub returns-then-lists : goal.returns-then-lists
+returns-then-lists c =
+    let s = c.args.slots.now in
+    let n = c.args.counts in
+    let formed = formed_in n.items n.definitions s.lists.items.now s.lists.values.now in
+    each_asked n.items n.definitions s.lists.items.now s.lists.values.now s.values c.all.result
+    (cases_from_all _ _ c.all.result (λ v. formed v ≡ true) (λ v. formed v ≡ false) c.all.ensures.ran (YieldsList-from_slice s.values c.iter.ensures.rest)
     (λ x q k. search (rules, tests)) (λ x q k. search (rules, tests)))
-    ∙ sym (even a.total a.definitions a.items.now a.values.now a.slots c.if-items-values.true)
+    ∙ sym (even n.items n.definitions s.lists.items.now s.lists.values.now s.values c.if-lists.true)
 
-pub returns-else-items-values : goal.returns-else-items-values
-returns-else-items-values c =
-    let a = c.args in
-    ne_eqb _ _ c.if-items-values.false ∙ sym (uneven a.total a.definitions a.items.now a.values.now a.slots c.if-items-values.false)
+pub returns-else-lists : goal.returns-else-lists
+returns-else-lists c =
+    let s = c.args.slots.now in
+    let n = c.args.counts in
+    ne_eqb _ _ c.if-lists.false ∙ sym (uneven n.items n.definitions s.lists.items.now s.lists.values.now s.values c.if-lists.false)

@@ -3,10 +3,10 @@ use borrow.Author.Tests.{le-leb, lt-leb}
 use Rattle.slices.specs.Every.{◌and◌}
 use Rattle.run_memory.proofs.have.Goals as goal
 
-pub returns-then-n-items : goal.returns-then-n-items
+pub returns-then-n-out : goal.returns-then-n-out
 unfolding ◌and◌
-returns-then-n-items c = rw (le-leb _ _ c.if-n-items.true)
+returns-then-n-out c = rw (le-leb _ _ c.if-n-out.true)
 
-pub returns-else-n-items : goal.returns-else-n-items
+pub returns-else-n-out : goal.returns-else-n-out
 unfolding ◌and◌
-returns-else-n-items c = rw (lt-leb _ _ c.if-n-items.false)
+returns-else-n-out c = rw (lt-leb _ _ c.if-n-out.false)
