@@ -114,7 +114,7 @@ pub extern "C" fn ink_call(
         items: result_items,
         values: result_values,
     };
-    let outcome = calls::call(pack, Op::numbered(op), used, lists, &mut out);
+    let outcome = calls::call(pack, Op::from(op), used, lists, &mut out);
     value_words::outcome(outcome, answer)
 }
 
@@ -139,7 +139,7 @@ pub extern "C" fn ink_cast(
         items: result_items,
         values: result_values,
     };
-    let outcome = calls::cast(pack, Kind::coded(code), v, lists, &mut out);
+    let outcome = calls::cast(pack, Kind::from(code), v, lists, &mut out);
     value_words::outcome(outcome, answer)
 }
 
@@ -325,7 +325,7 @@ pub extern "C" fn ink_apply(
         result_items.old result_values.old }
     ensures { CallSays format1.limit ends defined op count operands items values result answer result_items result_values }
 {
-    let op = Op::numbered(op);
+    let op = Op::from(op);
     match word_kinds::number_kind(op, count, operands) {
         Some(kind) => word_numbers::number(op, kind, count, operands, answer),
         None => {

@@ -17,4 +17,4 @@ pub returns-in-Some : goal.returns-in-Some
 returns-in-Some c =
     let a = c.args in
     numbers_given a.ends.now a.defined.now _ a.items.now a.values.now a.count a.operands.now c.requires.formed (search rules) a.result_items.now a.result_values.now (omega (arith, c.requires.items_room, c.requires.values_room)) a.op c.in-Some.kind
-    (rw c.numbered-op.ensures at (c.number_kind.ensures.yes c.in-Some.kind c.in-Some.is)) (rw c.numbered-op.ensures at c.number.ensures)
+    (rw c.from-op.ensures at (c.number_kind.ensures.yes c.in-Some.kind c.in-Some.is)) (rw c.from-op.ensures at c.number.ensures)
