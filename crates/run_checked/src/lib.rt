@@ -41,7 +41,7 @@ fn clear(used: &[usize], format: Format, work: &mut EntriesMut<'_>)
 
 // Runs a sheet of a pack that has passed, its slots well formed, in work slices that are zero.
 pub fn run_checked(
-    pack: PassedPack<'_>,
+    pack: PassedPack<'_, '_>,
     sheet: usize,
     slots: &Slots<'_>,
     work: &mut EntriesMut<'_>,

@@ -17,7 +17,7 @@ use run_memory::{all_formed, long_enough};
 
 // Question 7, and then the run.
 pub fn run_sheet(
-    pack: PassedPack<'_>,
+    pack: PassedPack<'_, '_>,
     sheet: usize,
     slots: &Slots<'_>,
     work: &mut EntriesMut<'_>,

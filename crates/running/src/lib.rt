@@ -91,7 +91,7 @@ fn operands_on(stack: &[Value; STACK_LIMIT], n: usize, count: usize) -> Operands
 // Works a sheet's instructions in order. A List that is left stands in the work slices.
 // Where the next instruction stands is known once this one is read, and the stack grows with it: the loop counts by hand.
 pub fn work(
-    pack: PassedPack<'_>,
+    pack: PassedPack<'_, '_>,
     sheet: usize,
     slots: &Slots<'_>,
     used: &mut [usize],
