@@ -28,7 +28,7 @@ fn run_passed(
     out: &mut EntriesMut<'_>,
 ) -> Result<Value, Stop>
     requires { Sound format bytes.now × Runnable format × (format.limit ≤ length defined.old) }
-    ensures { RunsSix format bytes sheet slots.now result work.old work.new out.old out.new }
+    ensures { RunsSix format bytes.now sheet slots.now result work.old work.new out.old out.new }
 {
     if pack_read::sheet_count(bytes) <= sheet {
         return Err(Stop::from(Question::Sheet));
@@ -59,7 +59,7 @@ pub fn run(
     work: &mut EntriesMut<'_>,
     out: &mut EntriesMut<'_>,
 ) -> Result<Value, Stop>
-    ensures { RunsAny format1 pack sheet slots.now result work.old work.new out.old out.new }
+    ensures { RunsAny format1 pack.now sheet slots.now result work.old work.new out.old out.new }
 {
     pack_check::check(pack)?;
     let mut defined = [0i32; FORMAT1.limit];
