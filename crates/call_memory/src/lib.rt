@@ -88,7 +88,8 @@ pub fn lent_well(
 
 // Question 7 of the operand of a conversion, with a pack that has passed.
 pub fn operand_formed(pack: &[u8], v: Value, lists: Lists<'_>, format: Format) -> bool
-    requires { Sound format pack.now × Runnable format }
+    requires sound { Sound format pack.now }
+    requires runnable { Runnable format }
     ensures { result ≡ operand_ok format pack lists.entry v }
 {
     let definitions = byte_at(pack, 1);

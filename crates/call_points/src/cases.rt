@@ -3,6 +3,7 @@
 ghost use Rattle.std.specs.Prelude.{◌<◌, ◌≤◌};
 
 use ink_value::Value;
+use ink_value::operands::Operands;
 pub use list_cases::read::byte;
 use list_cases::read::value;
 
@@ -13,13 +14,13 @@ pub const WHAT: usize = 48;
 
 pub const WHICH: usize = 49;
 
-pub const COUNT: usize = 50;
+const COUNT: usize = 50;
 
 pub const FIRST: usize = 51;
 
-pub const SECOND: usize = 56;
+const SECOND: usize = 56;
 
-pub const THIRD: usize = 61;
+const THIRD: usize = 61;
 
 pub const LENT: usize = 66;
 
@@ -55,5 +56,14 @@ pub fn operand(s: &[u8], at: usize) -> Value
         2 => Value::Float(float_conversions::float_from_bits(value(s, at + 1).cast_unsigned())),
         3 => list(s, at + 1),
         _ => Value::Void,
+    }
+}
+
+pub fn operands(s: &[u8]) -> Operands {
+    Operands {
+        count: number(s, COUNT),
+        first: operand(s, FIRST),
+        second: operand(s, SECOND),
+        third: operand(s, THIRD),
     }
 }

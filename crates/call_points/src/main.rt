@@ -6,9 +6,11 @@
 mod cases;
 
 use cases::{
-    CASE, COUNT, FIRST, LENT, PACK_LENGTH, PACK_START, RESULTS, SECOND, THIRD, WHAT, WHICH, byte,
-    number, operand,
+    CASE, FIRST, LENT, PACK_LENGTH, PACK_START, RESULTS, WHAT, WHICH, byte, number, operand,
+    operands,
 };
+use ink_list::entries_mut::EntriesMut;
+use ink_list::lists::Lists;
 use ink_number::question::Question;
 use ink_value::{Kind, Value};
 use op::Op;
@@ -22,9 +24,10 @@ const PACK: [u8; 34] = [
 ];
 
 // The entries of the operands.
-const ITEMS: [u16; 7] = [0, 2, 2, 0, 1, 2, 5];
-
-const VALUES: [i32; 7] = [1, 3, 30, -5, 1, 3, 4];
+const LISTS: Lists<'static> = Lists {
+    items: &[0, 2, 2, 0, 1, 2, 5],
+    values: &[1, 3, 30, -5, 1, 3, 4],
+};
 
 // What the places of the result slices hold before a call.
 const UNWRITTEN_ITEM: u16 = 9999;
@@ -38,20 +41,16 @@ fn written(r: Result<Value, Question>) -> usize {
     }
 }
 
-fn show(r: Result<Value, Question>, items: &[u16], values: &[i32]) {
+fn show(r: Result<Value, Question>, lists: Lists<'_>) {
     match r {
-        Ok(value) => print(Shown {
-            value,
-            items,
-            values,
-        }),
+        Ok(value) => print(Shown { value, lists }),
         Err(question) => print(Refused(question)),
     }
 }
 
 // The place after the first n entries.
-fn place_after(n: usize, items: &[u16], values: &[i32]) {
-    if let (Some(item), Some(value)) = (items.get(n), values.get(n)) {
+fn place_after(n: usize, lists: Lists<'_>) {
+    if let (Some(item), Some(value)) = (lists.items.get(n), lists.values.get(n)) {
         print(" then");
         entry(*item, *value);
     }
@@ -67,43 +66,34 @@ fn print_name(s: &[u8]) {
 }
 
 // The line of a call that has result slices.
-fn report(s: &[u8], r: Result<Value, Question>, items: &[u16], values: &[i32]) {
+fn report(s: &[u8], r: Result<Value, Question>, out: Lists<'_>) {
     print_name(s);
-    show(r, items, values);
-    place_after(written(r), items, values);
+    show(r, out);
+    place_after(written(r), out);
     println("");
 }
 
-fn call_into(s: &[u8], pack: &[u8], values: &[i32], oi: &mut [u16], ov: &mut [i32]) {
-    let a = operand(s, FIRST);
-    let b = operand(s, SECOND);
-    let c = operand(s, THIRD);
-    let count = number(s, COUNT);
-    let op = Op::numbered(byte(s, WHICH));
-    let r = calls::call(pack, op, count, a, b, c, &ITEMS, values, oi, ov);
-    report(s, r, oi, ov);
-}
-
 // With a result slice that is a place short, where the case says so.
-fn call_lent(s: &[u8], pack: &[u8], values: &[i32]) {
-    let mut i255 = [UNWRITTEN_ITEM; 255];
-    let mut v255 = [UNWRITTEN_VALUE; 255];
-    let mut i256 = [UNWRITTEN_ITEM; 256];
-    let mut v256 = [UNWRITTEN_VALUE; 256];
-    match byte(s, RESULTS) {
-        0 => call_into(s, pack, values, &mut i256, &mut v256),
-        1 => call_into(s, pack, values, &mut i255, &mut v256),
-        _ => call_into(s, pack, values, &mut i256, &mut v255),
-    }
+fn call_lent(s: &[u8], pack: &[u8], lists: Lists<'_>) {
+    let mut items = [UNWRITTEN_ITEM; 256];
+    let mut values = [UNWRITTEN_VALUE; 256];
+    let short = byte(s, RESULTS);
+    let mut out = EntriesMut {
+        items: &mut items[..256 - usize::from(short == 1)],
+        values: &mut values[..256 - usize::from(1 < short)],
+    };
+    let op = Op::numbered(byte(s, WHICH));
+    let r = calls::call(pack, op, operands(s), lists, &mut out);
+    report(s, r, out.lists());
 }
 
 // With six values beside the seven items, where the case says so.
 fn call_on(s: &[u8], pack: &[u8]) {
+    let mut lists = LISTS;
     if number(s, LENT) == 6 {
-        call_lent(s, pack, &VALUES[..6]);
-        return;
+        lists.values = &lists.values[..6];
     }
-    call_lent(s, pack, &VALUES);
+    call_lent(s, pack, lists);
 }
 
 // On the pack that the case brings, or on PACK.
@@ -120,36 +110,23 @@ fn call(s: &[u8]) {
 }
 
 fn cast(s: &[u8]) {
-    let mut oi = [UNWRITTEN_ITEM; 256];
-    let mut ov = [UNWRITTEN_VALUE; 256];
-    let v = operand(s, FIRST);
+    let mut items = [UNWRITTEN_ITEM; 256];
+    let mut values = [UNWRITTEN_VALUE; 256];
+    let mut out = EntriesMut {
+        items: &mut items,
+        values: &mut values,
+    };
     let to = Kind::coded(byte(s, WHICH));
-    let r = calls::cast(&PACK, to, v, &ITEMS, &VALUES, &mut oi, &mut ov);
-    report(s, r, &oi, &ov);
-}
-
-fn coerced(
-    pack: &[u8],
-    to: Kind,
-    v: Value,
-    items: &[u16],
-    values: &[i32],
-) -> Result<Value, Question> {
-    match to {
-        Kind::Bool => calls::coerce_to_bool(pack, v, items, values),
-        Kind::Int => calls::coerce_to_int(pack, v, items, values),
-        _ => calls::coerce_to_float(pack, v, items, values),
-    }
+    let r = calls::cast(&PACK, to, operand(s, FIRST), LISTS, &mut out);
+    report(s, r, out.lists());
 }
 
 // A conversion that has no result slices.
 fn coerce(s: &[u8]) {
-    let items = ITEMS;
-    let values = VALUES;
     let to = Kind::coded(byte(s, WHICH));
-    let r = coerced(&PACK, to, operand(s, FIRST), &items, &values);
+    let r = calls::coerce(&PACK, to, operand(s, FIRST), LISTS);
     print_name(s);
-    show(r, &items, &values);
+    show(r, LISTS);
     println("");
 }
 

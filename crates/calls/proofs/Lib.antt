@@ -1,5 +1,6 @@
 -- The laws of direct calls.
 pub mod Forms
+pub mod Passed
 pub mod Standing
 pub mod Formed
 pub mod Again

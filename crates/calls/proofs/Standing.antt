@@ -11,8 +11,10 @@ use Rattle.ink_number.specs.Int.{eq_z}
 use Rattle.list_definitions.specs.Defs.{ListDefinitions}
 use Rattle.ink_value.specs.Val.{Val, bool, int, float, list, void, kind_of, code_of}
 use Rattle.ink_value.specs.Convert.{as_int, as_float}
-use Rattle.value_conversions.specs.Convert.{coerce_bool, coerce_int, coerce_float}
+use Rattle.value_conversions.specs.Convert.{coerce, coerce_bool, coerce_int, coerce_float}
 use Rattle.ink_value.specs.Value.{val_of, placed, outcome_of, Gave}
+use Rattle.ink_value.specs.declared.Kind.{Kind}
+use Rattle.ink_value.specs.declared.Kind.TheVariants as K
 use Rattle.ink_value.specs.declared.Value.{Value}
 use Rattle.ink_value.proofs.ReadBack.{read_back}
 use Rattle.ink_value.proofs.Given.{gave_is}
@@ -55,17 +57,13 @@ allowed : (t : Bool) (x : Val) → Plain (gives x) → Plain (cond t (gives x) (
 allowed true x h = h
 allowed false x h = tt
 
-pub bool_plain : (v : Val) → Plain (coerce_bool v)
-unfolding coerce_bool
-bool_plain v = allowed (ltb (code_of (kind_of v)) 2) (bool (eq_z (as_int v) (pos 1))) tt
-
-pub int_plain : (v : Val) → Plain (coerce_int v)
-unfolding coerce_int
-int_plain v = allowed (ltb (code_of (kind_of v)) 3) (int (as_int v)) tt
-
-pub float_plain : (v : Val) → Plain (coerce_float v)
-unfolding coerce_float
-float_plain v = allowed (ltb (code_of (kind_of v)) 3) (float (as_float v)) tt
+pub coerce_plain : (to : Kind) (v : Val) → Plain (coerce to v)
+unfolding coerce coerce_bool coerce_int coerce_float
+coerce_plain K.Bool v = allowed (ltb (code_of (kind_of v)) 2) (bool (eq_z (as_int v) (pos 1))) tt
+coerce_plain K.Int v = allowed (ltb (code_of (kind_of v)) 3) (int (as_int v)) tt
+coerce_plain K.Float v = allowed (ltb (code_of (kind_of v)) 3) (float (as_float v)) tt
+coerce_plain K.List v = tt
+coerce_plain K.Void v = tt
 
 module _ (f : Val → Answer Val) (none : (v : Val) → Plain (f v)) where
   coerced_plain : (is : List ℕ) (vs : List ℤ) (v : Value) (u : ListDefinitions) → Plain (coerced is vs f v u)

@@ -1,272 +1,180 @@
 // Direct calls: one operator, or one conversion, on operands that are lists of a pack.
 #![tactic(auto)]
 
-ghost use Rattle.std.specs.Prelude.{◌≡◌, true, [], ◌∷◌, ◌≤◌, ◌<◌, length, take};
+ghost use Rattle.std.specs.Prelude.{◌≡◌, true, ◌≤◌, length};
 ghost use Rattle.ink_number.specs.Question.{answer};
 ghost use Rattle.op.specs.Op.{op_number};
-ghost use Rattle.ink_list.specs.Entries.{item_numbers};
-ghost use Rattle.list_operators.specs.Lists.{definitions, definitions_in};
-ghost use Rattle.pack.specs.Read.{PackLists};
-ghost use Rattle.value_conversions.specs.Convert.{cast, coerce_bool, coerce_int, coerce_float};
-ghost use Rattle.ink_value.specs.Slices.{Gives};
+ghost use Rattle.ink_list.specs.Lists.{places};
+ghost use Rattle.list_operators.specs.Lists.{definitions_of};
+ghost use Rattle.value_conversions.specs.Convert.{coerce};
+ghost use Rattle.ink_value.specs.Held.{GivesTo};
 ghost use Rattle.pack.specs.Format.{format1, Runnable};
 ghost use Rattle.pack.specs.Judge.{Sound};
-ghost use Rattle.call_memory.specs.Lent.{operands_ok, pack_definitions};
+ghost use Rattle.call_memory.specs.Lent.{operands_ok, used_of, pack_definitions};
 ghost use Rattle.calls.specs.Call.{ReturnedPlain};
 ghost use Rattle.calls.specs.Slices.{called_in, cast_in, coerced_in, on_pack_in, Asked, ReturnedIn};
 
 use ink_list::entries_mut::EntriesMut;
+use ink_list::lists::Lists;
+use ink_list::well_formed::Counts;
 use ink_number::question::Question;
+use ink_value::operands::Operands;
 use ink_value::{Kind, Value};
+use list_definitions::definitions::{Definitions, PackDefinitions};
 use op::Op;
 use pack::format::Format;
 use pack_check::format::{DEFINITION_LIMIT, FORMAT1};
 
 // An operator on operands of which question 7 says yes, with the definitions at hand: questions 8, 10 to 13 and 15.
+#[tactic(auto, using(crate::proofs::Forms::goes_used, call_memory::proofs::UsedOperands::first_of_lem))]
 pub fn call_formed(
     op: Op,
-    count: usize,
-    a: Value,
-    b: Value,
-    c: Value,
-    items: &[u16],
-    values: &[i32],
-    ends: &[u16],
-    defined: &[i32],
-    limit: usize,
-    oi: &mut [u16],
-    ov: &mut [i32],
+    operands: Operands,
+    lists: Lists<'_>,
+    pack: PackDefinitions<'_>,
+    out: &mut EntriesMut<'_>,
 ) -> Result<Value, Question>
-    requires pack_lists { PackLists limit ends.now defined.now }
-    requires c_value { operands_ok (definitions ends.now defined.now limit)
-        items.now values.now (take count (a ∷ b ∷ c ∷ [])) ≡ true }
-    requires limit_in_bounds { (limit ≤ length oi.old) × (limit ≤ length ov.old) × (1 ≤ limit) × (limit < item_numbers) }
-    ensures { Gives (called_in items values oi ov (op_number op) count (a ∷ b ∷ c ∷ []) (definitions_in ends defined limit)) result oi ov }
+    requires formed { operands_ok (definitions_of pack) lists.items.now lists.values.now (used_of operands) ≡ true }
+    requires room { pack.limit ≤ places out.old }
+    ensures { GivesTo (called_in lists.entry out.old (op_number op) operands (definitions_of pack.entry)) result out.old out.new }
 {
-    native_function_call::apply(
-        op, count, a, b, c, items, values, ends, defined, limit, oi, ov,
-    )
+    native_function_call::apply(op, operands, lists, pack, out)
 }
 
 // An operator with the definitions at hand: question 7, then 8, 10 to 13 and 15.
+#[tactic(auto, using(ink_value::proofs::Given::gave_plain, crate::proofs::Forms::ill_used, crate::proofs::Forms::yes_formed, crate::proofs::Forms::yes_room))]
 pub fn call_with(
     op: Op,
-    count: usize,
-    a: Value,
-    b: Value,
-    c: Value,
-    items: &[u16],
-    values: &[i32],
-    ends: &[u16],
-    defined: &[i32],
-    limit: usize,
-    oi: &mut [u16],
-    ov: &mut [i32],
+    operands: Operands,
+    lists: Lists<'_>,
+    pack: PackDefinitions<'_>,
+    out: &mut EntriesMut<'_>,
 ) -> Result<Value, Question>
-    requires { PackLists limit ends.now defined.now × (1 ≤ limit) × (limit < item_numbers) }
-    ensures { Gives (called_in items values oi ov (op_number op) count (a ∷ b ∷ c ∷ []) (definitions_in ends defined limit)) result oi ov }
+    ensures { GivesTo (called_in lists.entry out.old (op_number op) operands (definitions_of pack.entry)) result out.old out.new }
 {
+    let counts = Counts {
+        definitions: pack.tables.ends.len(),
+        items: pack.tables.defined.len(),
+    };
+    let result_items = out.items.len();
+    let result_values = out.values.len();
     if !call_memory::lent_well(
-        count,
-        a,
-        b,
-        c,
-        items,
-        values,
-        defined.len(),
-        ends.len(),
-        limit,
-        oi.len(),
-        ov.len(),
+        operands,
+        lists,
+        counts,
+        pack.limit,
+        result_items,
+        result_values,
     ) {
         return Err(Question::Memory);
     }
-    call_formed(
-        op, count, a, b, c, items, values, ends, defined, limit, oi, ov,
-    )
+    call_formed(op, operands, lists, pack, out)
 }
 
 // A call on a pack that has passed. Its definitions' values are read into a slice that is lent for it.
+#[tactic(auto, using(crate::proofs::Passed::items_fit))]
 fn call_checked(
-    pack: &[u8],
+    bytes: &[u8],
     op: Op,
-    count: usize,
-    a: Value,
-    b: Value,
-    c: Value,
-    items: &[u16],
-    values: &[i32],
+    operands: Operands,
+    lists: Lists<'_>,
     format: Format,
     defined: &mut [i32],
-    oi: &mut [u16],
-    ov: &mut [i32],
+    out: &mut EntriesMut<'_>,
 ) -> Result<Value, Question>
-    requires { Sound format pack.now × Runnable format × (format.limit ≤ length defined.old) }
-    ensures { Gives (called_in items values oi ov (op_number op) count (a ∷ b ∷ c ∷ []) (pack_definitions format pack)) result oi ov }
+    requires sound { Sound format bytes.now }
+    requires runnable { Runnable format }
+    requires room { format.limit ≤ length defined.old }
+    ensures { GivesTo (called_in lists.entry out.old (op_number op) operands (pack_definitions format bytes)) result out.old out.new }
 {
     let mut ends = [0u16; DEFINITION_LIMIT];
-    let read = pack_read::read_definitions(pack, &mut ends, defined, format);
-    let n = read.definitions;
-    let total = read.items;
-    call_with(
-        op,
-        count,
-        a,
-        b,
-        c,
-        items,
-        values,
-        &ends[..n],
-        &defined[..total],
-        format.limit,
-        oi,
-        ov,
-    )
+    let read = pack_read::read_definitions(bytes, &mut ends, defined, format);
+    let tables = Definitions {
+        ends: &ends[..read.definitions],
+        defined: &defined[..read.items],
+    };
+    let pack = PackDefinitions {
+        tables,
+        limit: format.limit,
+    };
+    call_with(op, operands, lists, pack, out)
 }
 
-// An operator on the first `count` of three operands, whose entries stand in two slices.
-#[tactic(auto, using(crate::proofs::Standing::pack_returned))]
+// An operator on operands whose entries stand in two slices.
+#[tactic(auto, using(crate::proofs::Standing::pack_returned, crate::proofs::Passed::sound1, pack::proofs::Formats::runnable1))]
 pub fn call(
     pack: &[u8],
     op: Op,
-    count: usize,
-    a: Value,
-    b: Value,
-    c: Value,
-    items: &[u16],
-    values: &[i32],
-    result_items: &mut [u16],
-    result_values: &mut [i32],
+    operands: Operands,
+    lists: Lists<'_>,
+    out: &mut EntriesMut<'_>,
 ) -> Result<Value, Question>
-    ensures { ReturnedIn (on_pack_in format1 pack (called_in items values result_items result_values (op_number op) count (a ∷ b ∷ c ∷ [])))
-        result result_items result_values }
+    ensures { ReturnedIn (on_pack_in format1 pack (called_in lists.entry out.old (op_number op) operands)) result out.old out.new }
 {
     pack_check::check(pack)?;
     let mut defined = [0i32; FORMAT1.limit];
-    call_checked(
-        pack,
-        op,
-        count,
-        a,
-        b,
-        c,
-        items,
-        values,
-        FORMAT1,
-        &mut defined,
-        result_items,
-        result_values,
-    )
+    call_checked(pack, op, operands, lists, FORMAT1, &mut defined, out)
 }
 
 // `cast` on a pack that has passed.
+#[tactic(auto, using(ink_value::proofs::Given::gave_plain, crate::proofs::Forms::cast_ill, crate::proofs::Forms::cast_no_items, crate::proofs::Forms::cast_no_values, crate::proofs::Forms::cast_goes))]
 fn cast_checked(
     pack: &[u8],
     to: Kind,
     v: Value,
-    items: &[u16],
-    values: &[i32],
+    lists: Lists<'_>,
     format: Format,
-    oi: &mut [u16],
-    ov: &mut [i32],
+    out: &mut EntriesMut<'_>,
 ) -> Result<Value, Question>
-    requires { Sound format pack.now × Runnable format }
-    ensures { Gives (cast_in items values oi ov to v (pack_definitions format pack)) result oi ov }
+    requires sound { Sound format pack.now }
+    requires runnable { Runnable format }
+    ensures { GivesTo (cast_in lists.entry out.old to v (pack_definitions format pack)) result out.old out.new }
 {
-    if !call_memory::operand_formed(pack, v, items, values, format) {
+    if !call_memory::operand_formed(pack, v, lists, format) {
         return Err(Question::Memory);
     }
-    if oi.len() < format.limit {
+    if out.items.len() < format.limit {
         return Err(Question::Memory);
     }
-    if ov.len() < format.limit {
+    if out.values.len() < format.limit {
         return Err(Question::Memory);
     }
-    let mut out = EntriesMut {
-        items: oi,
-        values: ov,
-    };
-    value_conversions::cast(to, v, items, values, &mut out)
+    value_conversions::cast(to, v, lists, out)
 }
 
 // `Value::cast` to the kind `to`: any but Void.
-#[tactic(auto, using(crate::proofs::Standing::pack_returned))]
+#[tactic(auto, using(crate::proofs::Standing::pack_returned, crate::proofs::Passed::sound1, pack::proofs::Formats::runnable1))]
 pub fn cast(
     pack: &[u8],
     to: Kind,
     v: Value,
-    items: &[u16],
-    values: &[i32],
-    result_items: &mut [u16],
-    result_values: &mut [i32],
+    lists: Lists<'_>,
+    out: &mut EntriesMut<'_>,
 ) -> Result<Value, Question>
-    ensures { ReturnedIn (on_pack_in format1 pack (cast_in items values result_items result_values to v))
-        result result_items result_values }
+    ensures { ReturnedIn (on_pack_in format1 pack (cast_in lists.entry out.old to v)) result out.old out.new }
 {
     pack_check::check(pack)?;
-    cast_checked(
-        pack,
-        to,
-        v,
-        items,
-        values,
-        FORMAT1,
-        result_items,
-        result_values,
-    )
+    cast_checked(pack, to, v, lists, FORMAT1, out)
 }
 
 // Questions 1 to 5, and 7 of the operand of a conversion that has no result slices.
-fn operand_asked(pack: &[u8], v: Value, items: &[u16], values: &[i32]) -> Result<(), Question>
-    ensures { Asked format1 pack items values v result }
+#[tactic(auto, using(crate::proofs::Forms::coerce_goes, crate::proofs::Forms::coerce_ill, crate::proofs::Passed::sound1, pack::proofs::Formats::runnable1))]
+fn operand_asked(pack: &[u8], v: Value, lists: Lists<'_>) -> Result<(), Question>
+    ensures { Asked format1 pack lists.entry v result }
 {
     pack_check::check(pack)?;
-    if call_memory::operand_formed(pack, v, items, values, FORMAT1) {
+    if call_memory::operand_formed(pack, v, lists, FORMAT1) {
         Ok(())
     } else {
         Err(Question::Memory)
     }
 }
 
-// `coerce_to_bool`: Bool and Int only, and only Int 1 is true.
-// There is one for each kind, as the Rust has them and as C calls them by `ink_coerce_to_bool` and the like.
-#[tactic(auto, using(crate::proofs::Standing::coerced_returned, crate::proofs::Standing::bool_plain))]
-pub fn coerce_to_bool(
-    pack: &[u8],
-    v: Value,
-    items: &[u16],
-    values: &[i32],
-) -> Result<Value, Question>
-    ensures { ReturnedPlain (on_pack_in format1 pack (coerced_in items values coerce_bool v)) (answer result) }
+// `coerce_to_bool`, `coerce_to_int` or `coerce_to_float`, by the kind that it answers. There is none for a List and for Void.
+#[tactic(auto, using(crate::proofs::Standing::coerced_returned, crate::proofs::Standing::coerce_plain))]
+pub fn coerce(pack: &[u8], to: Kind, v: Value, lists: Lists<'_>) -> Result<Value, Question>
+    ensures { ReturnedPlain (on_pack_in format1 pack (coerced_in lists.entry (coerce to) v)) (answer result) }
 {
-    operand_asked(pack, v, items, values)?;
-    value_conversions::coerce_to_bool(v)
-}
-
-// `coerce_to_int`: not List or Void.
-#[tactic(auto, using(crate::proofs::Standing::coerced_returned, crate::proofs::Standing::int_plain))]
-pub fn coerce_to_int(
-    pack: &[u8],
-    v: Value,
-    items: &[u16],
-    values: &[i32],
-) -> Result<Value, Question>
-    ensures { ReturnedPlain (on_pack_in format1 pack (coerced_in items values coerce_int v)) (answer result) }
-{
-    operand_asked(pack, v, items, values)?;
-    value_conversions::coerce_to_int(v)
-}
-
-// `coerce_to_float`: not List or Void.
-#[tactic(auto, using(crate::proofs::Standing::coerced_returned, crate::proofs::Standing::float_plain))]
-pub fn coerce_to_float(
-    pack: &[u8],
-    v: Value,
-    items: &[u16],
-    values: &[i32],
-) -> Result<Value, Question>
-    ensures { ReturnedPlain (on_pack_in format1 pack (coerced_in items values coerce_float v)) (answer result) }
-{
-    operand_asked(pack, v, items, values)?;
-    value_conversions::coerce_to_float(v)
+    operand_asked(pack, v, lists)?;
+    value_conversions::coerce(to, v)
 }

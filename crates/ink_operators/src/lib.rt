@@ -2,7 +2,8 @@
 // a pointer. The header hosts/include/ink_operators.h says how values stand in words.
 #![tactic(auto)]
 
-ghost use Rattle.std.specs.Prelude.{◌≡◌};
+ghost use Rattle.std.specs.Prelude.{◌≡◌, ◌≤◌};
+ghost use Rattle.ink_list.specs.Lists.{places};
 ghost use Rattle.ink_number.specs.Question.{answer};
 ghost use Rattle.op.specs.Op.{op_number};
 ghost use Rattle.value_conversions.specs.Convert.{coerce_bool, coerce_int, coerce_float};
@@ -11,15 +12,20 @@ ghost use Rattle.pack.specs.Judge.{judge};
 ghost use Rattle.pack.specs.Read.{PackLists};
 ghost use Rattle.running.specs.Slices.{Kept};
 ghost use Rattle.value_words.specs.Calls.{number_of};
-ghost use Rattle.word_operators.specs.Slices.{CallSays};
+ghost use Rattle.word_operators.specs.Operands.{OperandsOk};
+ghost use Rattle.word_operators.specs.Slices.{CallSays, CallSaysTo};
 ghost use Rattle.definition_tables.specs.Tables.{Passed, Ready};
 ghost use Rattle.definition_tables.specs.Slices.{ReadsAny};
 ghost use Rattle.run_ready.specs.Work.{Clear};
 ghost use Rattle.ink_operators.specs.Apply.{Applies};
 ghost use Rattle.ink_operators.specs.Slices.{RunSaysAny, VetSaysAny, CallSaysAny, CastSaysAny, CoerceSaysAny};
 
+use ink_list::entries_mut::EntriesMut;
+use ink_list::lists::Lists;
+use ink_list::well_formed::Counts;
 use ink_number::question::Question;
 use ink_value::Kind;
+use list_definitions::definitions::{Definitions, PackDefinitions};
 use op::Op;
 use pack_check::format::FORMAT1;
 
@@ -256,37 +262,23 @@ fn apply(
     op: Op,
     count: usize,
     operands: &[u64; 9],
-    items: &[u16],
-    values: &[i32],
-    ends: &[u16],
-    defined: &[i32],
-    result_items: &mut [u16],
-    result_values: &mut [i32],
+    lists: Lists<'_>,
+    pack: PackDefinitions<'_>,
+    out: &mut EntriesMut<'_>,
     answer: &mut [u64; 3],
 ) -> u32
-    requires { Applies format1 ends.now defined.now items.now values.now count operands.now
-        result_items.old result_values.old }
-    ensures { CallSays format1.limit ends defined (op_number op) count operands items values result answer result_items result_values }
+    requires operands_ok { OperandsOk pack lists count operands.now }
+    requires room { pack.limit ≤ places out.old }
+    ensures { CallSaysTo pack.entry (op_number op) count operands lists.entry result answer out.old out.new }
 {
     match word_kinds::number_kind(op, count, operands) {
         Some(kind) => word_numbers::number(op, kind, count, operands, answer),
-        None => word_operators::apply(
-            op,
-            count,
-            operands,
-            items,
-            values,
-            ends,
-            defined,
-            FORMAT1.limit,
-            result_items,
-            result_values,
-            answer,
-        ),
+        None => word_operators::apply(op, count, operands, lists, pack, out, answer),
     }
 }
 
 // An operator with the definitions of a pack that has passed.
+#[tactic(auto, using(calls::proofs::Forms::yes_formed, calls::proofs::Forms::yes_room))]
 #[unsafe(no_mangle)]
 pub extern "C" fn ink_call_checked(
     ends: &[u16],
@@ -303,18 +295,16 @@ pub extern "C" fn ink_call_checked(
     requires { PackLists format1.limit ends.now defined.now }
     ensures { CallSays format1.limit ends defined op count operands items values result answer result_items result_values }
 {
-    let a = words_in::operand_at(operands, 0);
-    let b = words_in::operand_at(operands, 1);
-    let c = words_in::operand_at(operands, 2);
+    let used = words_in::operands_at(count, operands);
+    let lists = Lists { items, values };
+    let counts = Counts {
+        definitions: ends.len(),
+        items: defined.len(),
+    };
     if !call_memory::lent_well(
-        count,
-        a,
-        b,
-        c,
-        items,
-        values,
-        defined.len(),
-        ends.len(),
+        used,
+        lists,
+        counts,
         FORMAT1.limit,
         result_items.len(),
         result_values.len(),
@@ -322,16 +312,21 @@ pub extern "C" fn ink_call_checked(
         words_out::put_index(answer, 0);
         return value_words::number(Question::Memory);
     }
+    let pack = PackDefinitions {
+        tables: Definitions { ends, defined },
+        limit: FORMAT1.limit,
+    };
+    let mut out = EntriesMut {
+        items: result_items,
+        values: result_values,
+    };
     apply(
         Op::numbered(op),
         count,
         operands,
-        items,
-        values,
-        ends,
-        defined,
-        result_items,
-        result_values,
+        lists,
+        pack,
+        &mut out,
         answer,
     )
 }
@@ -354,16 +349,22 @@ pub extern "C" fn ink_apply(
         result_items.old result_values.old }
     ensures { CallSays format1.limit ends defined op count operands items values result answer result_items result_values }
 {
+    let lists = Lists { items, values };
+    let pack = PackDefinitions {
+        tables: Definitions { ends, defined },
+        limit: FORMAT1.limit,
+    };
+    let mut out = EntriesMut {
+        items: result_items,
+        values: result_values,
+    };
     apply(
         Op::numbered(op),
         count,
         operands,
-        items,
-        values,
-        ends,
-        defined,
-        result_items,
-        result_values,
+        lists,
+        pack,
+        &mut out,
         answer,
     )
 }

@@ -4,55 +4,51 @@
 ghost use Rattle.std.specs.Prelude.{◌≡◌, ◌≤◌};
 ghost use Rattle.op.specs.Op.{op_number};
 ghost use Rattle.ink_list.specs.Entries.{item_numbers};
+ghost use Rattle.ink_list.specs.Lists.{places};
 ghost use Rattle.ink_value.specs.declared.Kind.TheVariants as K;
 ghost use Rattle.word_lists.specs.Operands.{FirstIn};
-ghost use Rattle.word_operators.specs.Operands.{OperandsOk, ResultsFit};
-ghost use Rattle.word_operators.specs.Slices.{ScalarSays, CallSays};
-ghost use Rattle.pack.specs.Read.{PackLists};
+ghost use Rattle.word_operators.specs.Operands.{OperandsOk};
+ghost use Rattle.word_operators.specs.Slices.{ScalarSays, CallSaysTo};
 
+use ink_list::entries_mut::EntriesMut;
+use ink_list::lists::Lists;
 use ink_value::Kind;
+use list_definitions::definitions::PackDefinitions;
 use op::Op;
 use word_kinds::code_in;
-use word_lists::list;
 
 // A result that is no List.
 fn scalar(
     op: Op,
     kind: Kind,
-    n: usize,
+    count: usize,
     operands: &[u64; 9],
-    items: &[u16],
-    values: &[i32],
+    lists: Lists<'_>,
     answer: &mut [u64; 3],
 ) -> u32
-    requires fact { (kind ≡ K.List → ⊥) × (1 ≤ n) × (n ≤ 2) }
-    requires first_in { FirstIn item_numbers items.now values.now n operands.now }
-    ensures { ScalarSays (op_number op) n kind operands items values result answer }
+    requires fact { (kind ≡ K.List → ⊥) × (1 ≤ count) × (count ≤ 2) }
+    requires first_in { FirstIn item_numbers lists count operands.now }
+    ensures { ScalarSays (op_number op) count kind operands lists.entry result answer }
 {
-    let a = words_in::operand_at(operands, 0);
-    let b = words_in::operand_at(operands, 1);
-    let outcome = native_function_call::scalar(op, kind, n, a, b, items, values);
+    let used = words_in::operands_at(count, operands);
+    let outcome = native_function_call::scalar(op, kind, used, lists);
     value_words::outcome(outcome, answer)
 }
 
 // Questions 8, 10 to 13 and 15 of operands of which question 7 says yes, and the result.
+#[tactic(auto, using(crate::proofs::Called::first, crate::proofs::Called::first_numbered))]
 pub fn apply(
     op: Op,
     count: usize,
     operands: &[u64; 9],
-    items: &[u16],
-    values: &[i32],
-    ends: &[u16],
-    defined: &[i32],
-    limit: usize,
-    result_items: &mut [u16],
-    result_values: &mut [i32],
+    lists: Lists<'_>,
+    pack: PackDefinitions<'_>,
+    out: &mut EntriesMut<'_>,
     answer: &mut [u64; 3],
 ) -> u32
-    requires pack_lists { PackLists limit ends.now defined.now }
-    requires operands_ok { OperandsOk limit ends.now defined.now items.now values.now count operands.now }
-    requires results_fit { ResultsFit limit result_items.old result_values.old }
-    ensures { CallSays limit ends defined (op_number op) count operands items values result answer result_items result_values }
+    requires operands_ok { OperandsOk pack lists count operands.now }
+    requires room { pack.limit ≤ places out.old }
+    ensures { CallSaysTo pack.entry (op_number op) count operands lists.entry result answer out.old out.new }
 {
     let kind = operator_kinds::kinds(
         op,
@@ -66,19 +62,7 @@ pub fn apply(
             words_out::put_index(answer, 0);
             value_words::number(question)
         }
-        Ok(Kind::List) => list(
-            op,
-            count,
-            operands,
-            items,
-            values,
-            ends,
-            defined,
-            limit,
-            result_items,
-            result_values,
-            answer,
-        ),
-        Ok(kind) => scalar(op, kind, count, operands, items, values, answer),
+        Ok(Kind::List) => word_lists::list(op, count, operands, lists, pack, out, answer),
+        Ok(kind) => scalar(op, kind, count, operands, lists, answer),
     }
 }

@@ -8,7 +8,7 @@ use Rattle.op.specs.Op.{op_number}
 use Rattle.ink_value.specs.Val.{code_of}
 use Rattle.ink_value.specs.declared.Kind.TheVariants as K
 use Rattle.value_words.proofs.Saying.{says}
-use Rattle.word_numbers.specs.Slices.{two_at}
+use Rattle.word_kinds.specs.Operands.{vals_at}
 use Rattle.word_numbers.proofs.Said.{scalar_small}
 use Rattle.word_numbers.proofs.number.Goals as goal
 
@@ -18,7 +18,7 @@ none = record { ends = []; defined = []; limit = 0 }
 pub outcome-requires : goal.outcome-requires
 outcome-requires c =
     let h : c.args.kind ≡ K.List → ⊥ = λ e. let z = ap code_of e in omega (arith, z, c.requires.small) in
-    scalar_small none (op_number c.args.op) (take c.args.count (two_at [] [] c.args.operands.now)) c.args.kind h _ (c.computed-outcome.ensures none [] [])
+    scalar_small none (op_number c.args.op) (take c.args.count (vals_at [] [] c.args.operands.now)) c.args.kind h _ (c.computed-outcome.ensures none [] [])
 
 pub returns : goal.returns
 returns c =

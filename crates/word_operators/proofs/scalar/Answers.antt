@@ -1,9 +1,9 @@
 -- `word_operators::scalar` meets its contract: its answer has room in its words. Assumes nothing.
 use mathlib.Core.List.{[]}
-use lib.ListN.{take}
 use Rattle.list_definitions.specs.Defs.{ListDefinitions}
+use Rattle.ink_value.specs.Held.{operands_in}
 use Rattle.op.specs.Op.{op_number}
-use Rattle.word_numbers.specs.Slices.{two_at}
+use Rattle.words_in.specs.Words.{operands_at}
 use Rattle.word_numbers.proofs.Said.{scalar_small}
 use Rattle.word_operators.proofs.scalar.Goals as goal
 
@@ -12,5 +12,5 @@ none = record { ends = []; defined = []; limit = 0 }
 
 pub outcome-requires : goal.outcome-requires
 outcome-requires c =
-    scalar_small none (op_number c.args.op) (take c.args.n (two_at c.args.items.now c.args.values.now c.args.operands.now)) c.args.kind c.requires.fact.0 _
-    (rw (c.operand_at-a.ensures, c.operand_at-b.ensures) at (c.scalar-outcome.ensures none))
+    let a = c.args in
+    scalar_small none (op_number a.op) (operands_in a.lists (operands_at a.count a.operands.now)) a.kind c.requires.fact.0 _ (rw c.operands_at-used.ensures at (c.scalar-outcome.ensures none))
