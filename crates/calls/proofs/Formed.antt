@@ -17,7 +17,7 @@ use Rattle.ink_value.specs.Val.{Val, bool, int, float, kind_of, code_of}
 use Rattle.ink_value.specs.declared.Kind.{Kind}
 use Rattle.ink_value.specs.declared.Kind.TheVariants as K
 use Rattle.ink_value.specs.Convert.{truthy, as_int, as_float, entries_of, origins_in}
-use Rattle.value_conversions.specs.Convert.{castable, converted, cast, coerce_bool, coerce_int, coerce_float}
+use Rattle.value_conversions.specs.Convert.{castable, converted, cast, coerce, coerce_bool, coerce_int, coerce_float}
 use Rattle.ink_value.specs.Value.{val_of, written, InPack, GivesInPack}
 use Rattle.ink_value.specs.declared.Value.{Value}
 use Rattle.ink_value.proofs.ReadBack.{each_in_pack, plain_in_pack, gives_few}
@@ -82,17 +82,13 @@ module _ (u : ListDefinitions) (is : List ℕ) (vs : List ℤ) where
   plain_if true x e f = plain x e f
   plain_if false x e f = tt
 
-  pub bool_formed : (x : Val) → GivesIn u (coerce_bool x)
-  unfolding coerce_bool
-  bool_formed x = plain_if (ltb (code_of (kind_of x)) 2) (bool (eq_z (as_int x) (pos 1))) refl refl
-
-  pub int_formed : (x : Val) → GivesIn u (coerce_int x)
-  unfolding coerce_int
-  int_formed x = plain_if (ltb (code_of (kind_of x)) 3) (int (as_int x)) refl refl
-
-  pub float_formed : (x : Val) → GivesIn u (coerce_float x)
-  unfolding coerce_float
-  float_formed x = plain_if (ltb (code_of (kind_of x)) 3) (float (as_float x)) refl refl
+  pub coerce_formed : (to : Kind) (x : Val) → GivesIn u (coerce to x)
+  unfolding coerce coerce_bool coerce_int coerce_float
+  coerce_formed K.Bool x = plain_if (ltb (code_of (kind_of x)) 2) (bool (eq_z (as_int x) (pos 1))) refl refl
+  coerce_formed K.Int x = plain_if (ltb (code_of (kind_of x)) 3) (int (as_int x)) refl refl
+  coerce_formed K.Float x = plain_if (ltb (code_of (kind_of x)) 3) (float (as_float x)) refl refl
+  coerce_formed K.List x = tt
+  coerce_formed K.Void x = tt
 
   pub coerced_formed : (f : Val → Answer Val) (v : Value) → ((x : Val) → GivesIn u (f x)) → GivesIn u (coerced is vs f v u)
   unfolding coerced

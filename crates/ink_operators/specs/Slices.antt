@@ -2,10 +2,12 @@
 use Rattle.std.specs.Prelude.{map, ℕ, ℤ}
 use Rattle.ink_number.specs.Answer.{Answer}
 use Rattle.slices.specs.Slices.{Slice, Cell, MutSlice}
+use Rattle.ink_list.specs.declared.lists.Lists.{Lists}
 use Rattle.ink_value.specs.Slices.{val_in}
 use Rattle.ink_value.specs.Val.{Val, kind_at}
 use Rattle.pack.specs.declared.format.Format.{Format}
-use Rattle.calls.specs.Slices.{called_in, cast_in, coerced_in, on_pack_in}
+use Rattle.calls.specs.Call.{called, cast_to, coerced}
+use Rattle.calls.specs.Slices.{coerced_in, on_pack_in}
 use Rattle.running.specs.Slices.{run_memory_in}
 use Rattle.words_in.specs.Words.{slots_in, value_at}
 use Rattle.value_words.specs.Calls.{operands_in}
@@ -28,13 +30,18 @@ VetSaysAny F pack sheet kinds n index f =
 -- an operator on the operands that nine words hold, with a pack of any bytes: the number n and the answer's words, and what is left
 abbrev pub CallSaysAny : Format → Slice ℕ → ℕ → ℕ → Slice ℕ → Slice ℕ → Slice ℤ → ℕ → MutSlice ℕ → MutSlice ℕ → MutSlice ℤ → Type 0
 CallSaysAny F pack op count ws is vs n answer oi ov =
-    CallsIn (on_pack_in F pack (called_in is vs oi ov op count (operands_in ws.entry.now))) n answer oi ov
+    CallsIn (on_pack_in F pack (called is.entry.now vs.entry.now oi.entry.now ov.entry.now op count (operands_in ws.entry.now))) n answer oi ov
 
 -- `cast` of the operand that three words hold
 abbrev pub CastSaysAny : Format → Slice ℕ → ℕ → Slice ℕ → Slice ℕ → Slice ℤ → ℕ → MutSlice ℕ → MutSlice ℕ → MutSlice ℤ → Type 0
 CastSaysAny F pack code ws is vs n answer oi ov =
-    CallsIn (on_pack_in F pack (cast_in is vs oi ov (kind_at code) (value_at ws.entry.now 0))) n answer oi ov
+    CallsIn (on_pack_in F pack (cast_to is.entry.now vs.entry.now oi.entry.now ov.entry.now (kind_at code) (value_at ws.entry.now 0))) n answer oi ov
 
 -- one of the three `coerce_to_`, f
 abbrev pub CoerceSaysAny : Format → Slice ℕ → (Val → Answer Val) → Slice ℕ → Slice ℕ → Slice ℤ → ℕ → MutSlice ℕ → Type 0
-CoerceSaysAny F pack f ws is vs n answer = SaysIn (on_pack_in F pack (coerced_in is vs f (value_at ws.entry.now 0))) n answer
+CoerceSaysAny F pack f ws is vs n answer =
+    SaysIn (on_pack_in F pack (coerced is.entry.now vs.entry.now f (value_at ws.entry.now 0))) n answer
+
+-- the same with the two slices held as one value
+abbrev pub CoercedSays : Format → Slice ℕ → (Val → Answer Val) → Slice ℕ → Lists → ℕ → MutSlice ℕ → Type 0
+CoercedSays F pack f ws lists n answer = SaysIn (on_pack_in F pack (coerced_in lists f (value_at ws.entry.now 0))) n answer

@@ -6,7 +6,7 @@ ghost use Rattle.std.specs.Prelude.{◌≡◌, ◌≤◌};
 ghost use Rattle.ink_list.specs.Lists.{places};
 ghost use Rattle.ink_number.specs.Question.{answer};
 ghost use Rattle.op.specs.Op.{op_number};
-ghost use Rattle.value_conversions.specs.Convert.{coerce_bool, coerce_int, coerce_float};
+ghost use Rattle.value_conversions.specs.Convert.{coerce_bool, coerce_int, coerce_float, coerce};
 ghost use Rattle.pack.specs.Format.{format1};
 ghost use Rattle.pack.specs.Judge.{judge};
 ghost use Rattle.pack.specs.Read.{PackLists};
@@ -18,7 +18,7 @@ ghost use Rattle.definition_tables.specs.Tables.{Passed, Ready};
 ghost use Rattle.definition_tables.specs.Slices.{ReadsAny};
 ghost use Rattle.run_ready.specs.Work.{Clear};
 ghost use Rattle.ink_operators.specs.Apply.{Applies};
-ghost use Rattle.ink_operators.specs.Slices.{RunSaysAny, VetSaysAny, CallSaysAny, CastSaysAny, CoerceSaysAny};
+ghost use Rattle.ink_operators.specs.Slices.{RunSaysAny, VetSaysAny, CallSaysAny, CastSaysAny, CoercedSays, CoerceSaysAny};
 
 use ink_list::entries_mut::EntriesMut;
 use ink_list::lists::Lists;
@@ -96,6 +96,7 @@ pub extern "C" fn ink_run(
 }
 
 // An operator on the first `count` of three operands, with a pack of any bytes.
+#[tactic(auto, using(crate::proofs::Small::small_call))]
 #[unsafe(no_mangle)]
 pub extern "C" fn ink_call(
     pack: &[u8],
@@ -110,25 +111,18 @@ pub extern "C" fn ink_call(
 ) -> u32
     ensures { CallSaysAny format1 pack op count operands items values result answer result_items result_values }
 {
-    let a = words_in::operand_at(operands, 0);
-    let b = words_in::operand_at(operands, 1);
-    let c = words_in::operand_at(operands, 2);
-    let outcome = calls::call(
-        pack,
-        Op::numbered(op),
-        count,
-        a,
-        b,
-        c,
-        items,
-        values,
-        result_items,
-        result_values,
-    );
+    let used = words_in::operands_at(count, operands);
+    let lists = Lists { items, values };
+    let mut out = EntriesMut {
+        items: result_items,
+        values: result_values,
+    };
+    let outcome = calls::call(pack, Op::numbered(op), used, lists, &mut out);
     value_words::outcome(outcome, answer)
 }
 
 // `cast` to a kind code, with a pack of any bytes.
+#[tactic(auto, using(crate::proofs::Small::small_cast))]
 #[unsafe(no_mangle)]
 pub extern "C" fn ink_cast(
     pack: &[u8],
@@ -143,19 +137,33 @@ pub extern "C" fn ink_cast(
     ensures { CastSaysAny format1 pack code operand items values result answer result_items result_values }
 {
     let v = words_in::value_in(operand);
-    let outcome = calls::cast(
-        pack,
-        Kind::coded(code),
-        v,
-        items,
-        values,
-        result_items,
-        result_values,
-    );
+    let lists = Lists { items, values };
+    let mut out = EntriesMut {
+        items: result_items,
+        values: result_values,
+    };
+    let outcome = calls::cast(pack, Kind::coded(code), v, lists, &mut out);
+    value_words::outcome(outcome, answer)
+}
+
+// A `coerce_to_`, by the kind that it answers.
+#[tactic(auto, using(crate::proofs::Small::small_coerced))]
+fn coerced(
+    pack: &[u8],
+    to: Kind,
+    operand: &[u64; 3],
+    lists: Lists<'_>,
+    answer: &mut [u64; 3],
+) -> u32
+    ensures { CoercedSays format1 pack (coerce to) operand lists.entry result answer }
+{
+    let v = words_in::value_in(operand);
+    let outcome = calls::coerce(pack, to, v, lists);
     value_words::outcome(outcome, answer)
 }
 
 // The three `coerce_to_`, with a pack of any bytes. The C interface names the three.
+#[tactic(auto, unfolding(value_conversions::specs::Convert::coerce))]
 #[unsafe(no_mangle)]
 pub extern "C" fn ink_coerce_to_bool(
     pack: &[u8],
@@ -166,11 +174,10 @@ pub extern "C" fn ink_coerce_to_bool(
 ) -> u32
     ensures { CoerceSaysAny format1 pack coerce_bool operand items values result answer }
 {
-    let v = words_in::value_in(operand);
-    let outcome = calls::coerce_to_bool(pack, v, items, values);
-    value_words::outcome(outcome, answer)
+    coerced(pack, Kind::Bool, operand, Lists { items, values }, answer)
 }
 
+#[tactic(auto, unfolding(value_conversions::specs::Convert::coerce))]
 #[unsafe(no_mangle)]
 pub extern "C" fn ink_coerce_to_int(
     pack: &[u8],
@@ -181,11 +188,10 @@ pub extern "C" fn ink_coerce_to_int(
 ) -> u32
     ensures { CoerceSaysAny format1 pack coerce_int operand items values result answer }
 {
-    let v = words_in::value_in(operand);
-    let outcome = calls::coerce_to_int(pack, v, items, values);
-    value_words::outcome(outcome, answer)
+    coerced(pack, Kind::Int, operand, Lists { items, values }, answer)
 }
 
+#[tactic(auto, unfolding(value_conversions::specs::Convert::coerce))]
 #[unsafe(no_mangle)]
 pub extern "C" fn ink_coerce_to_float(
     pack: &[u8],
@@ -196,9 +202,7 @@ pub extern "C" fn ink_coerce_to_float(
 ) -> u32
     ensures { CoerceSaysAny format1 pack coerce_float operand items values result answer }
 {
-    let v = words_in::value_in(operand);
-    let outcome = calls::coerce_to_float(pack, v, items, values);
-    value_words::outcome(outcome, answer)
+    coerced(pack, Kind::Float, operand, Lists { items, values }, answer)
 }
 
 // The definitions of a pack that has passed: how many, how many items, and the two tables from the start of their slices. The slices have

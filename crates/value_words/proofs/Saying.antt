@@ -1,15 +1,12 @@
 -- An answer of a call below, written at the boundary. Assumes nothing.
 use mathlib.Core.Path.{◌≡◌, refl, sym, ap, ◌∙◌, subst}
-use mathlib.Core.List.{List, [], ◌∷◌}
+use mathlib.Core.List.{List}
 use Prim.Native.Nat.{ℕ}
 use lib.IntN.{ℤ}
 use Rattle.ink_number.specs.Answer.{Answer, refuses}
 use Rattle.ink_value.specs.Val.{Val}
 use Rattle.ink_value.specs.Value.{placed, Gave}
 use Rattle.ink_value.specs.declared.Value.{Value}
-use Rattle.list_definitions.specs.Defs.{ListDefinitions}
-use Rattle.pack.specs.declared.format.Format.{Format}
-use Rattle.calls.specs.Call.{on_pack}
 use Rattle.value_words.specs.Calls.{outcome_number, outcome_words, index_words, Says, Calls}
 
 -- what was written of an outcome
@@ -32,16 +29,6 @@ calls a b o n ws oi oi' ov ov' q g h =
       items_out = g.items_out;
       values_out = g.values_out;
     })
-
--- the three operands are those of the words
-pub operands : {X : Type 0} (f : List Value → X) (a a' b b' c c' : Value) → a ≡ a' → b ≡ b' → c ≡ c' → f (a ∷ b ∷ c ∷ []) ≡ f (a' ∷ b' ∷ c' ∷ [])
-operands f a a' b b' c c' p q r =
-    ap (λ (x : Value). f (x ∷ b ∷ c ∷ [])) p ∙ ap (λ (x : Value). f (a' ∷ x ∷ c ∷ [])) q ∙ ap (λ (x : Value). f (a' ∷ b' ∷ x ∷ [])) r
-
--- the same of a call on a pack
-pub pack_operands : (F : Format) (p : List ℕ) (f : List Value → ListDefinitions → Answer Val) {a a' b b' c c' : Value} → a ≡ a' → b ≡ b' → c ≡ c'
-    → on_pack F p (f (a ∷ b ∷ c ∷ [])) ≡ on_pack F p (f (a' ∷ b' ∷ c' ∷ []))
-pack_operands F p f q r t = operands (λ (l : List Value). on_pack F p (f l)) _ _ _ _ _ _ q r t
 
 -- a refusal
 pub refused_calls : (a : Answer Val) (k n : ℕ) (ws oi : List ℕ) (ov : List ℤ) → a ≡ refuses k → n ≡ k → ws ≡ index_words 0 → Calls a n ws oi oi ov ov
