@@ -75,7 +75,7 @@ pub record FirstFormed (limit : ℕ) (is : List ℕ) (vs : List ℤ) (n : ℕ) (
   pub two : 2 ≤ n → Formed limit is vs b
   pub three : 3 ≤ n → Formed limit is vs c
 
--- ---- a number in parts, as it stands in words
+-- ---- a number, and a value, in parts
 
 -- a number in parts: its kind, the Int that a Bool or an Int holds, and what a Float holds. A Bool reads as that Int does
 abbrev pub number_of : Kind → ℤ → Float → Val
@@ -84,6 +84,14 @@ number_of K.Int z x = int z
 number_of K.Float z x = float x
 number_of K.List z x = int z
 number_of K.Void z x = int z
+
+-- a value in parts: the same, and where its entries start and how many they are. The origin set, which no part tells, is empty
+abbrev pub of_parts : List ℕ → List ℤ → Kind → ℤ → Float → ℕ → ℕ → Val
+of_parts is vs K.Bool z x s n = int z
+of_parts is vs K.Int z x s n = int z
+of_parts is vs K.Float z x s n = float x
+of_parts is vs K.List z x s n = list 0 (entries_at is vs s n)
+of_parts is vs K.Void z x s n = void
 
 -- n entries from s on stand whole in two lists
 abbrev pub Stand : List ℕ → List ℤ → ℕ → ℕ → Type 0
