@@ -13,6 +13,7 @@ use ink_value::Value;
 use ink_value::operands::Operands;
 use pack::bytes::byte_at;
 use pack::format::Format;
+use pack::placed::PlacedPack;
 use pack_lists::definitions::total_items;
 
 // Question 7 of a value, with its two slices equally long.
@@ -93,6 +94,6 @@ pub fn operand_formed(pack: &[u8], v: Value, lists: Lists<'_>, format: Format) -
     ensures { result ≡ operand_ok format pack lists.entry v }
 {
     let definitions = byte_at(pack, 1);
-    let items = total_items(pack, format);
+    let items = total_items(PlacedPack { bytes: pack }, format);
     one_formed(v, lists, Counts { definitions, items })
 }

@@ -68,7 +68,7 @@ Framed-prop p a b = λ i. record {
   room = le_prop a.room b.room i;
 }
 
-Placed-prop : (p : List ℕ) → IsProp (Placed p)
+pub Placed-prop : (p : List ℕ) → IsProp (Placed p)
 Placed-prop p a b = λ i. record {
   frame = Framed-prop p a.frame b.frame i;
   two = Bool-set _ _ a.two b.two i;

@@ -19,6 +19,7 @@ pub mod instructions;
 use pack::bytes::{byte_at, i32_at};
 use pack::contents::{offset, size};
 use pack::format::Format;
+use pack::placed::PlacedPack;
 use pack_lists::definitions::item_count;
 
 // Copies n values that stand one after another from a position, into the places from an index on.
@@ -41,12 +42,13 @@ pub fn read_definitions(p: &[u8], ends: &mut [u16], defined: &mut [i32], format:
     requires p_in_bounds_2 { item_count format p.now ≤ length defined.old }
     ensures { TabledIn (decoded format p.now) result ends defined }
 {
+    let pack = PlacedPack { bytes: p };
     let n = byte_at(p, 1);
     let mut items = 0;
     // By index: a body has a number and no slice, and `iter_mut().enumerate()` would leave of `ends` only the length, as in `copy_values`.
     for d in 0..n {
         let at = offset(p, d) + format.wide;
-        let k = item_count(p, d, format);
+        let k = item_count(pack, d, format);
         copy_values(p, at, k, defined, items);
         items += k;
         ends[d] = items as u16;
