@@ -74,7 +74,7 @@ Placed-prop p a b = λ i. record {
   two = Bool-set _ _ a.two b.two i;
 }
 
-Sound-prop : (F : Format) (p : List ℕ) → IsProp (Sound F p)
+pub Sound-prop : (F : Format) (p : List ℕ) → IsProp (Sound F p)
 Sound-prop F p a b = λ i. record {
   contents = Placed-prop p a.contents b.contents i;
   three = Bool-set _ _ a.three b.three i;

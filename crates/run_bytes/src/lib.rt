@@ -10,6 +10,7 @@ use ink_number::question::Question;
 use ink_value::Value;
 use machine::Stop;
 use pack::format::Format;
+use pack::sound::SoundPack;
 use pack_check::format::{DEFINITION_LIMIT, FORMAT1};
 use run_sheet::run_sheet;
 
@@ -35,7 +36,14 @@ fn run_passed(
         return Err(Stop::from(Question::Sheet));
     }
     let mut ends = [0u16; DEFINITION_LIMIT];
-    let read = pack_read::read_definitions(pack, &mut ends, defined, format);
+    let read = pack_read::read_definitions(
+        SoundPack {
+            bytes: pack,
+            format,
+        },
+        &mut ends,
+        defined,
+    );
     let definitions = read.definitions;
     let total = read.items;
     run_sheet(
