@@ -75,7 +75,7 @@ pub fn cast(
 
 // Bool and Int only, and only Int 1 is true.
 #[tactic(auto, unfolding(crate::specs::Convert::coerce_bool))]
-fn coerce_to_bool(v: Value) -> Result<Value, Question>
+pub fn coerce_to_bool(v: Value) -> Result<Value, Question>
     ensures { (is : List ℕ) (vs : List ℤ) → answer result ≡ placed (coerce_bool (val_of is vs v)) }
 {
     match v {
@@ -86,7 +86,7 @@ fn coerce_to_bool(v: Value) -> Result<Value, Question>
 }
 
 #[tactic(auto, unfolding(crate::specs::Convert::coerce_int))]
-fn coerce_to_int(v: Value) -> Result<Value, Question>
+pub fn coerce_to_int(v: Value) -> Result<Value, Question>
     ensures { (is : List ℕ) (vs : List ℤ) → answer result ≡ placed (coerce_int (val_of is vs v)) }
 {
     match v {
@@ -98,7 +98,7 @@ fn coerce_to_int(v: Value) -> Result<Value, Question>
 }
 
 #[tactic(auto, unfolding(crate::specs::Convert::coerce_float))]
-fn coerce_to_float(v: Value) -> Result<Value, Question>
+pub fn coerce_to_float(v: Value) -> Result<Value, Question>
     ensures { (is : List ℕ) (vs : List ℤ) → answer result ≡ placed (coerce_float (val_of is vs v)) }
 {
     match v {
