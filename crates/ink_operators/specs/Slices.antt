@@ -1,14 +1,14 @@
 -- The words of the contracts at the boundary. In an `ensures` a slice is what it was at entry and what it is at exit. Assumes nothing.
-use Rattle.std.specs.Prelude.{map, ℕ, ℤ}
+use Rattle.std.specs.Prelude.{◌≡◌, map, ℕ, ℤ}
 use Rattle.ink_number.specs.Answer.{Answer}
 use Rattle.slices.specs.Slices.{Slice, Cell, MutSlice}
 use Rattle.ink_list.specs.declared.lists.Lists.{Lists}
-use Rattle.ink_value.specs.Slices.{val_in}
 use Rattle.ink_value.specs.Val.{Val, kind_at}
+use Rattle.ink_value.specs.Value.{val_of}
 use Rattle.pack.specs.declared.format.Format.{Format}
 use Rattle.calls.specs.Call.{called, cast_to, coerced}
 use Rattle.calls.specs.Slices.{coerced_in, on_pack_in}
-use Rattle.running.specs.Slices.{run_memory_in}
+use Rattle.running.specs.Run.{run_memory}
 use Rattle.words_in.specs.Words.{slots_in, value_at}
 use Rattle.value_words.specs.Calls.{operands_in}
 use Rattle.value_words.specs.Slices.{SaysIn, CallsIn}
@@ -18,9 +18,15 @@ use Rattle.machine.specs.Whole.{opened}
 -- a run of any bytes on slots that stand in words: questions 1 to 7 asked, the number n and the answer's words, and what it leaves
 abbrev pub RunSaysAny : Format → Slice ℕ → ℕ → Slice ℕ → Slice ℕ → Slice ℤ → ℕ → MutSlice ℕ → MutSlice ℕ → MutSlice ℤ → MutSlice ℕ → MutSlice ℤ → Type 0
 RunSaysAny F pack sheet slots si sv n answer wi wv ri rv =
-    RunSays F (opened F pack.entry.now sheet (run_memory_in F (slots_in slots.entry.now) si sv wi wv ri rv))
-    sheet (map (val_in si sv) (slots_in slots.entry.now)) n answer.exit.now
+    RunSays F
+    (opened F pack.entry.now sheet
+    (run_memory F (slots_in slots.entry.now) si.entry.now sv.entry.now wi.entry.now wv.entry.now ri.entry.now rv.entry.now))
+    sheet (map (val_of si.entry.now sv.entry.now) (slots_in slots.entry.now)) n answer.exit.now
     wi.entry.now wi.exit.now wv.entry.now wv.exit.now ri.entry.now ri.exit.now rv.entry.now rv.exit.now
+
+-- two slices are left as they were
+abbrev pub Kept : MutSlice ℕ → MutSlice ℤ → Type 0
+Kept is vs = (is.exit.now ≡ is.entry.now) × (vs.exit.now ≡ vs.entry.now)
 
 -- vetting of any bytes for kind codes: the number n, the index, and what is left in the forecast slice
 abbrev pub VetSaysAny : Format → Slice ℕ → ℕ → Slice ℕ → ℕ → Cell ℕ → MutSlice ℕ → Type 0

@@ -8,22 +8,23 @@ ghost use Rattle.value_conversions.specs.Convert.{coerce_bool, coerce_int, coerc
 ghost use Rattle.pack.specs.Format.{format1};
 ghost use Rattle.pack.specs.Judge.{judge};
 ghost use Rattle.pack.specs.Read.{PackLists};
-ghost use Rattle.running.specs.Slices.{Kept};
 ghost use Rattle.value_words.specs.Calls.{number_of};
 ghost use Rattle.word_operators.specs.Slices.{CallSays};
 ghost use Rattle.definition_tables.specs.Tables.{Passed, Ready};
 ghost use Rattle.definition_tables.specs.Slices.{ReadsAny};
 ghost use Rattle.run_ready.specs.Work.{Clear};
 ghost use Rattle.ink_operators.specs.Apply.{Applies};
-ghost use Rattle.ink_operators.specs.Slices.{RunSaysAny, VetSaysAny, CallSaysAny, CastSaysAny, CoercedSays, CoerceSaysAny};
+ghost use Rattle.ink_operators.specs.Slices.{Kept, RunSaysAny, VetSaysAny, CallSaysAny, CastSaysAny, CoercedSays, CoerceSaysAny};
 
 use ink_list::entries_mut::EntriesMut;
 use ink_list::lists::Lists;
 use ink_list::well_formed::Counts;
 use ink_number::question::Question;
 use ink_value::Kind;
+use ink_value::slots::Slots;
 use list_definitions::definitions::{Definitions, PackDefinitions};
 use op::Op;
+use pack::passed::PassedPack;
 use pack_check::format::FORMAT1;
 
 // 0, or the number of the question that says no.
@@ -77,18 +78,23 @@ pub extern "C" fn ink_run(
     ensures { RunSaysAny format1 pack sheet slots slot_items slot_values
         result answer work_items work_values result_items result_values }
 {
-    let values = words_in::slots_in(slots);
-    let ran = run_bytes::run(
-        pack,
-        sheet,
-        values,
-        slot_items,
-        slot_values,
-        work_items,
-        work_values,
-        result_items,
-        result_values,
-    );
+    let lists = Lists {
+        items: slot_items,
+        values: slot_values,
+    };
+    let given = Slots {
+        values: words_in::slots_in(slots),
+        lists,
+    };
+    let mut work = EntriesMut {
+        items: work_items,
+        values: work_values,
+    };
+    let mut out = EntriesMut {
+        items: result_items,
+        values: result_values,
+    };
+    let ran = run_bytes::run(pack, sheet, &given, &mut work, &mut out);
     answer_words::ran(ran, answer)
 }
 
@@ -238,21 +244,33 @@ pub extern "C" fn ink_run_checked(
         result answer work_items work_values result_items result_values }
     ensures kept { Kept work_items work_values }
 {
-    let values = words_in::slots_in(slots);
-    let ran = run_ready::run_ready(
-        pack,
-        ends,
-        defined,
-        sheet,
-        values,
-        slot_items,
-        slot_values,
-        FORMAT1,
-        work_items,
-        work_values,
-        result_items,
-        result_values,
-    );
+    let tables = Definitions { ends, defined };
+    let definitions = PackDefinitions {
+        tables,
+        limit: FORMAT1.limit,
+    };
+    let passed = PassedPack {
+        bytes: pack,
+        definitions,
+        format: FORMAT1,
+    };
+    let lists = Lists {
+        items: slot_items,
+        values: slot_values,
+    };
+    let given = Slots {
+        values: words_in::slots_in(slots),
+        lists,
+    };
+    let mut work = EntriesMut {
+        items: work_items,
+        values: work_values,
+    };
+    let mut out = EntriesMut {
+        items: result_items,
+        values: result_values,
+    };
+    let ran = run_ready::run_ready(passed, sheet, &given, &mut work, &mut out);
     answer_words::ran(ran, answer)
 }
 

@@ -1,11 +1,11 @@
 // Values, and what they read as.
 #![tactic(auto)]
 
-ghost use Rattle.std.specs.Prelude.{◌≡◌, cond, List, ℕ, ◌≤◌, ◌+◌, ℤ, length};
-ghost use Rattle.ink_value.specs.Convert.{bit_z, as_int, as_float, truthy};
+ghost use Rattle.std.specs.Prelude.{◌≡◌, List, ℕ, ◌≤◌, ◌+◌, ℤ, length};
+ghost use Rattle.ink_value.specs.Convert.{as_int, as_float, truthy};
 ghost use Rattle.slices.specs.Filled.{part};
-ghost use Rattle.ink_value.specs.Value.{val_of, formed_in, kind_in, start_of, len_of, set_in, whole_in, real_in, number_of, of_parts, Stand};
-ghost use Rattle.ink_value.specs.Val.{code_of, kind_at, is_list};
+ghost use Rattle.ink_value.specs.Value.{val_of, formed_in, kind_in, start_of, len_of, set_in, Stand};
+ghost use Rattle.ink_value.specs.Val.{code_of, kind_at};
 ghost use Rattle.ink_value.specs.declared.Value.{Value};
 
 pub mod number_parts;

@@ -9,14 +9,14 @@ use list_definitions::definitions::PackDefinitions;
 
 // Its bytes and its format, and its definitions, which are read of it once.
 #[derive(Clone, Copy)]
-pub struct PassedPack<'a> {
+pub struct PassedPack<'a, 'd> {
     pub bytes: &'a [u8],
-    pub definitions: PackDefinitions<'a>,
+    pub definitions: PackDefinitions<'d>,
     pub format: Format,
     pub ghost read: { PackRead format bytes.now definitions.tables.ends.now definitions.tables.defined.now definitions.limit } by { PackRead-prop format bytes.now definitions.tables.ends.now definitions.tables.defined.now definitions.limit },
 }
 
-impl PassedPack<'_> {
+impl PassedPack<'_, '_> {
     // How many definitions, and how many items in all, it has.
     pub fn counts(self) -> Counts
         ensures definitions { result.definitions ≡ length self.entry.definitions.tables.ends.now }

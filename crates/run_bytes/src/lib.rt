@@ -6,90 +6,63 @@ ghost use Rattle.pack.specs.Format.{format1, Runnable};
 ghost use Rattle.pack.specs.Judge.{Sound};
 ghost use Rattle.running.specs.Slices.{RunsSix, RunsAny};
 
+use ink_list::entries_mut::EntriesMut;
 use ink_number::question::Question;
 use ink_value::Value;
+use ink_value::slots::Slots;
+use list_definitions::definitions::{Definitions, PackDefinitions};
 use machine::Stop;
 use pack::format::Format;
+use pack::passed::PassedPack;
 use pack::sound::SoundPack;
 use pack_check::format::{DEFINITION_LIMIT, FORMAT1};
 use run_sheet::run_sheet;
 
 // Question 6, and on, with a pack that has passed. Its definitions' values are read into a slice that is lent for it.
 fn run_passed(
-    pack: &[u8],
+    bytes: &[u8],
     sheet: usize,
-    slots: [Value; 16],
-    slot_items: &[u16],
-    slot_values: &[i32],
+    slots: &Slots<'_>,
     format: Format,
     defined: &mut [i32],
-    work_items: &mut [u16],
-    work_values: &mut [i32],
-    result_items: &mut [u16],
-    result_values: &mut [i32],
+    work: &mut EntriesMut<'_>,
+    out: &mut EntriesMut<'_>,
 ) -> Result<Value, Stop>
-    requires { Sound format pack.now × Runnable format × (format.limit ≤ length defined.old) }
-    ensures { RunsSix format pack sheet slots slot_items slot_values result
-        work_items work_values result_items result_values }
+    requires { Sound format bytes.now × Runnable format × (format.limit ≤ length defined.old) }
+    ensures { RunsSix format bytes.now sheet slots.now result work.old work.new out.old out.new }
 {
-    if pack_read::sheet_count(pack) <= sheet {
+    if pack_read::sheet_count(bytes) <= sheet {
         return Err(Stop::from(Question::Sheet));
     }
     let mut ends = [0u16; DEFINITION_LIMIT];
-    let read = pack_read::read_definitions(
-        SoundPack {
-            bytes: pack,
-            format,
-        },
-        &mut ends,
-        defined,
-    );
-    let definitions = read.definitions;
-    let total = read.items;
-    run_sheet(
-        pack,
-        &ends[..definitions],
-        &defined[..total],
-        sheet,
-        slots,
-        slot_items,
-        slot_values,
+    let read = pack_read::read_definitions(SoundPack { bytes, format }, &mut ends, defined);
+    let tables = Definitions {
+        ends: &ends[..read.definitions],
+        defined: &defined[..read.items],
+    };
+    let definitions = PackDefinitions {
+        tables,
+        limit: format.limit,
+    };
+    let pack = PassedPack {
+        bytes,
+        definitions,
         format,
-        work_items,
-        work_values,
-        result_items,
-        result_values,
-    )
+    };
+    run_sheet(pack, sheet, slots, work, out)
 }
 
 // Runs a sheet of any bytes: questions 1 to 17.
 pub fn run(
     pack: &[u8],
     sheet: usize,
-    slots: [Value; 16],
-    slot_items: &[u16],
-    slot_values: &[i32],
-    work_items: &mut [u16],
-    work_values: &mut [i32],
-    result_items: &mut [u16],
-    result_values: &mut [i32],
+    slots: &Slots<'_>,
+    work: &mut EntriesMut<'_>,
+    out: &mut EntriesMut<'_>,
 ) -> Result<Value, Stop>
-    ensures { RunsAny format1 pack sheet slots slot_items slot_values result
-        work_items work_values result_items result_values }
+    ensures { RunsAny format1 pack.now sheet slots.now result work.old work.new out.old out.new }
 {
     pack_check::check(pack)?;
     let mut defined = [0i32; FORMAT1.limit];
-    run_passed(
-        pack,
-        sheet,
-        slots,
-        slot_items,
-        slot_values,
-        FORMAT1,
-        &mut defined,
-        work_items,
-        work_values,
-        result_items,
-        result_values,
-    )
+    run_passed(pack, sheet, slots, FORMAT1, &mut defined, work, out)
 }

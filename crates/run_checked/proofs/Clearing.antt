@@ -11,7 +11,7 @@ use lib.Seq.{ext_get_or, drop-drop, length-take-le}
 use borrow.Rule.Slice.PartMut.{put_mid}
 use Rattle.std.proofs.lemmas.List.{append_assoc}
 use Rattle.slices.specs.Filled.{fill, Outside}
-use Rattle.slices.proofs.Filled.{length_fill, fill_over, get_d_outside, get_d_inside}
+use Rattle.slices.proofs.Filled.{length_fill, get_d_outside, get_d_inside}
 use Rattle.ink_list.proofs.Laws.{lt_or_le}
 use Rattle.pack.specs.declared.format.Format.{Format}
 use Rattle.running.specs.Work.{Touched}
@@ -30,13 +30,6 @@ same_filled d a n l ys h e =
     ap₂ (λ zs k. put_mid a k l zs) (e ∙ ap (λ (k : ℕ). replicate k d) m) s
     ∙ sym (append_assoc (take a l) (replicate n d) (drop n (drop a l)))
     ∙ ap (λ r. (take a l ++ replicate n d) ++ r) (drop-drop n a l ∙ ap (λ (k : ℕ). drop k l) (ap (λ (k : ℕ). a + k) (sym (length-replicate n d))))
-
--- the same from the start
-pub front_filled : {X : Type 0} (d : X) (n : ℕ) (l ys : List X) → n ≤ length l → ys ≡ replicate (length (take n l)) d → ys ++ drop n l ≡ fill 0 (replicate n d) l
-front_filled d n l ys h e =
-    ap (λ zs. zs ++ drop n l) (e ∙ ap (λ (k : ℕ). replicate k d) (length-take-le n l h))
-    ∙ ap (λ (k : ℕ). replicate n d ++ drop k l) (sym (length-replicate n d))
-    ∙ sym (fill_over (replicate n d) l)
 
 module _ (F : Format) {X : Type 0} (d : X) (used : List ℕ) (l : List X) where
   pub cleared_none : cleared F d used 0 l ≡ l

@@ -9,6 +9,13 @@ use Rattle.operating.specs.Stacked.{start_at}
 use Rattle.pack.specs.declared.format.Format.{Format}
 use Rattle.machine.specs.Machine.{stack_limit}
 
+-- n entries from a place on are zero in two slices, which are else as they were
+abbrev pub Zeroed : ℕ → ℕ → EntriesMut → EntriesMut → Type 0
+Zeroed from n before after =
+    (after.items.now ≡ fill from (replicate n 0) before.items.now)
+    × (after.values.now ≡ fill from (replicate n (pos 0)) before.values.now)
+    × Same before after
+
 -- what the places below n of the stack have used, cleared
 unfoldable pub cleared : {X : Type 0} → Format → X → List ℕ → ℕ → List X → List X
 cleared F d used zero l = l

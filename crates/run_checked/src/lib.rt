@@ -2,13 +2,14 @@
 // work slices zeroed.
 #![tactic(auto)]
 
-ghost use Rattle.std.specs.Prelude.{◌≡◌, ℕ, ◌<◌, ◌≤◌, length, get_or};
+ghost use Rattle.std.specs.Prelude.{◌≡◌, ℕ, ◌+◌, ◌<◌, ◌≤◌, length, get_or};
+ghost use Rattle.ink_list.specs.Lists.{places};
 ghost use Rattle.ink_value.specs.Held.{SlotsFormed};
 ghost use Rattle.pack.specs.Contents.{sheet_count};
 ghost use Rattle.machine.specs.Machine.{stack_limit};
 ghost use Rattle.operating.specs.Stacked.{Roomy};
 ghost use Rattle.running.specs.Slices.{run_in, MemoryIn, RanIn, Kept};
-ghost use Rattle.run_checked.specs.Clear.{ClearedIn};
+ghost use Rattle.run_checked.specs.Clear.{Zeroed, ClearedIn};
 
 use ink_list::entries_mut::EntriesMut;
 use ink_value::Value;
@@ -17,6 +18,16 @@ use machine::{STACK_LIMIT, Stop};
 use pack::format::Format;
 use pack::passed::PassedPack;
 
+// Zeros n entries of the work slices, from a place on.
+#[tactic(auto, using(crate::proofs::Clearing::same_filled))]
+pub fn zero(work: &mut EntriesMut<'_>, from: usize, n: usize)
+    requires { from + n ≤ places work.old }
+    ensures { Zeroed from n work.old work.new }
+{
+    work.items[from..from + n].fill(0);
+    work.values[from..from + n].fill(0);
+}
+
 // Zeros what each place of the stack has used of the work slices.
 fn clear(used: &[usize], format: Format, work: &mut EntriesMut<'_>)
     requires used_len { (length used.now ≡ stack_limit) × ((q : ℕ) → get_or used.now q 0 ≤ format.limit) }
@@ -24,15 +35,13 @@ fn clear(used: &[usize], format: Format, work: &mut EntriesMut<'_>)
     ensures { ClearedIn format used work.old work.new }
 {
     for (q, n) in used.iter().enumerate() {
-        let from = q * format.limit;
-        work.items[from..from + *n].fill(0);
-        work.values[from..from + *n].fill(0);
+        zero(work, q * format.limit, *n);
     }
 }
 
 // Runs a sheet of a pack that has passed, its slots well formed, in work slices that are zero.
 pub fn run_checked(
-    pack: PassedPack<'_>,
+    pack: PassedPack<'_, '_>,
     sheet: usize,
     slots: &Slots<'_>,
     work: &mut EntriesMut<'_>,

@@ -1,63 +1,38 @@
-// Running a sheet of a pack that has passed, its definitions read and the work slices clear: questions 6 and 7, and then the run.
+// Running a sheet of a pack that has passed, the work slices clear: questions 6 and 7, and then the run.
 #![tactic(auto)]
 
 ghost use Rattle.pack.specs.Format.{Runnable};
-ghost use Rattle.running.specs.Slices.{RunsAny, Kept};
-ghost use Rattle.definition_tables.specs.Tables.{Ready};
+ghost use Rattle.definition_tables.specs.Tables.{Passed};
 ghost use Rattle.run_ready.specs.Work.{Clear};
+ghost use Rattle.running.specs.Slices.{RunsAny, Kept};
 
+use ink_list::entries_mut::EntriesMut;
 use ink_number::question::Question;
 use ink_value::Value;
+use ink_value::slots::Slots;
 use machine::Stop;
-use pack::format::Format;
+use pack::passed::PassedPack;
 
 pub fn run_ready(
-    pack: &[u8],
-    ends: &[u16],
-    defined: &[i32],
+    pack: PassedPack<'_, '_>,
     sheet: usize,
-    slots: [Value; 16],
-    slot_items: &[u16],
-    slot_values: &[i32],
-    format: Format,
-    work_items: &mut [u16],
-    work_values: &mut [i32],
-    result_items: &mut [u16],
-    result_values: &mut [i32],
+    slots: &Slots<'_>,
+    work: &mut EntriesMut<'_>,
+    out: &mut EntriesMut<'_>,
 ) -> Result<Value, Stop>
-    requires { Ready format pack.now ends.now defined.now
-        × Clear format work_items.old work_values.old × Runnable format }
-    ensures runs_any { RunsAny format pack sheet slots slot_items slot_values
-        result work_items work_values result_items result_values }
-    ensures kept { Kept work_items work_values }
+    requires passed { Passed pack.format pack.bytes.now × Runnable pack.format }
+    requires clear { Clear pack.format work.old.items.now work.old.values.now }
+    ensures runs_any { RunsAny pack.entry.format pack.entry.bytes.now sheet slots.now result work.old work.new out.old out.new }
+    ensures kept { Kept work.old work.new }
 {
-    if pack_read::sheet_count(pack) <= sheet {
+    if pack_read::sheet_count(pack.bytes) <= sheet {
         return Err(Stop::from(Question::Sheet));
     }
-    if !run_memory::all_formed(slots, slot_items, slot_values, defined.len(), ends.len()) {
+    if !run_memory::all_formed(slots, pack.counts()) {
         return Err(Stop::from(Question::Memory));
     }
-    if !run_memory::long_enough(
-        &work_items[..],
-        &work_values[..],
-        &result_items[..],
-        &result_values[..],
-        format,
-    ) {
+    if !run_memory::long_enough(work, out, pack.format) {
         return Err(Stop::from(Question::Memory));
     }
-    run_checked::run_checked(
-        pack,
-        ends,
-        defined,
-        sheet,
-        slots,
-        slot_items,
-        slot_values,
-        format,
-        work_items,
-        work_values,
-        result_items,
-        result_values,
-    )
+    run_checked::run_checked(pack, sheet, slots, work, out)
 }

@@ -1,7 +1,7 @@
 -- The words of the contracts for a run: the pack, the slots, and the slices that it writes, as they were and as they are. Assumes nothing.
 use Rattle.std.specs.Prelude.{◌≡◌, Bool, List, ℕ, Result}
 use Rattle.ink_number.specs.Answer.{Answer}
-use Rattle.slices.specs.Slices.{Slice, MutSlice}
+use Rattle.slices.specs.Slices.{MutSlice}
 use Rattle.ink_list.specs.Lists.{Same}
 use Rattle.ink_list.specs.declared.entries_mut.EntriesMut.{EntriesMut}
 use Rattle.ink_value.specs.Held.{slot_values}
@@ -73,12 +73,12 @@ module _ (asked : (Pack → Bool) → Answer Pack) (F : Format) (sheet : ℕ) (s
       × Same work work' × Same out out'
 
 -- of any bytes: questions 1 to 7 asked, and what it comes to
-abbrev pub RunsAny : Format → Slice ℕ → ℕ → Slots → Result Value Stop → EntriesMut → EntriesMut → EntriesMut → EntriesMut → Type 0
-RunsAny F pack sheet = RunsAsked (opened F pack.entry.now sheet) F sheet
+abbrev pub RunsAny : Format → List ℕ → ℕ → Slots → Result Value Stop → EntriesMut → EntriesMut → EntriesMut → EntriesMut → Type 0
+RunsAny F p sheet = RunsAsked (opened F p sheet) F sheet
 
 -- of a pack that passed: questions 6 and 7 asked
-abbrev pub RunsSix : Format → Slice ℕ → ℕ → Slots → Result Value Stop → EntriesMut → EntriesMut → EntriesMut → EntriesMut → Type 0
-RunsSix F pack sheet = RunsAsked (λ memory. asked_six sheet memory (decoded F pack.entry.now)) F sheet
+abbrev pub RunsSix : Format → List ℕ → ℕ → Slots → Result Value Stop → EntriesMut → EntriesMut → EntriesMut → EntriesMut → Type 0
+RunsSix F p sheet = RunsAsked (λ memory. asked_six sheet memory (decoded F p)) F sheet
 
 -- of a pack that passed and has the sheet: question 7 asked
 abbrev pub RunsSeven : PassedPack → ℕ → Slots → Result Value Stop → EntriesMut → EntriesMut → EntriesMut → EntriesMut → Type 0

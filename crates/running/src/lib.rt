@@ -91,7 +91,7 @@ fn operands_on(stack: &[Value; STACK_LIMIT], n: usize, count: usize) -> Operands
 
 // Works a sheet's instructions in order. A List that is left stands in the work slices.
 pub fn work(
-    pack: PassedPack<'_>,
+    pack: PassedPack<'_, '_>,
     sheet: usize,
     slots: &Slots<'_>,
     used: &mut [usize],

@@ -4,7 +4,9 @@
 
 mod slot_pack;
 
+use ink_list::lists::Lists;
 use ink_value::Value;
+use ink_value::slots::Slots;
 use output_buffer::Output;
 use slot_pack::PACK;
 use std::fmt;
@@ -16,13 +18,17 @@ const ITEMS: [u16; 2] = [0, 1];
 const VALUES: [i32; 2] = [1, 2];
 
 fn slot_line(out: &mut Output<'_>, sheet: usize) -> fmt::Result {
-    let mut slots = [Value::Void; 16];
-    slots[0] = Value::List {
+    let mut values = [Value::Void; 16];
+    values[0] = Value::List {
         origins: 3,
         start: 0,
         len: 2,
     };
-    sheet_report::sheet_line(out, &PACK, sheet, slots, &ITEMS, &VALUES)
+    let lists = Lists {
+        items: &ITEMS,
+        values: &VALUES,
+    };
+    sheet_report::sheet_line(out, &PACK, sheet, &Slots { values, lists })
 }
 
 fn report_slots() -> fmt::Result {

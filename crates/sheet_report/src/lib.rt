@@ -5,8 +5,10 @@
 
 ghost use Rattle.pack.specs.Judge.{Framed};
 
+use ink_list::entries_mut::EntriesMut;
 use ink_list::lists::Lists;
 use ink_value::Value;
+use ink_value::slots::Slots;
 use machine::{STACK_LIMIT, Stop};
 use output_buffer::Output;
 use pack_check::format::FORMAT1;
@@ -23,47 +25,30 @@ const WORK_LIMIT: usize = STACK_LIMIT * ITEM_LIMIT;
 fn run(
     pack: &[u8],
     sheet: usize,
-    slots: [Value; 16],
-    slot_items: &[u16],
-    slot_values: &[i32],
-    items: &mut [u16],
-    values: &mut [i32],
+    slots: &Slots<'_>,
+    results: &mut EntriesMut<'_>,
 ) -> Result<Value, Stop> {
-    let mut work_items = [0u16; WORK_LIMIT];
-    let mut work_values = [0i32; WORK_LIMIT];
-    run_bytes::run(
-        pack,
-        sheet,
-        slots,
-        slot_items,
-        slot_values,
-        &mut work_items,
-        &mut work_values,
-        items,
-        values,
-    )
+    let mut work = EntriesMut {
+        items: &mut [0; WORK_LIMIT],
+        values: &mut [0; WORK_LIMIT],
+    };
+    run_bytes::run(pack, sheet, slots, &mut work, results)
 }
 
-// The line of one sheet, run on these slots, whose lists' entries stand in the two slices.
+// The line of one sheet, run on these slots.
 pub fn sheet_line(
     out: &mut Output<'_>,
     pack: &[u8],
     sheet: usize,
-    slots: [Value; 16],
-    slot_items: &[u16],
-    slot_values: &[i32],
+    slots: &Slots<'_>,
 ) -> fmt::Result {
     let mut items = [0u16; ITEM_LIMIT];
     let mut values = [0i32; ITEM_LIMIT];
-    match run(
-        pack,
-        sheet,
-        slots,
-        slot_items,
-        slot_values,
-        &mut items,
-        &mut values,
-    ) {
+    let mut results = EntriesMut {
+        items: &mut items,
+        values: &mut values,
+    };
+    match run(pack, sheet, slots, &mut results) {
         Ok(value) => {
             let lists = Lists {
                 items: &items,
@@ -82,7 +67,15 @@ pub fn sheet_line(
 
 // The same with all slots Void.
 fn void_line(out: &mut Output<'_>, pack: &[u8], sheet: usize) -> fmt::Result {
-    sheet_line(out, pack, sheet, [Value::Void; 16], &[0u16; 1], &[0i32; 1])
+    let lists = Lists {
+        items: &[],
+        values: &[],
+    };
+    let slots = Slots {
+        values: [Value::Void; 16],
+        lists,
+    };
+    sheet_line(out, pack, sheet, &slots)
 }
 
 fn sheet_lines(out: &mut Output<'_>, pack: &[u8]) -> fmt::Result

@@ -64,7 +64,7 @@ fn push_slot(
 
 // A push of a literal: question 9.
 fn push_literal(
-    pack: PassedPack<'_>,
+    pack: PassedPack<'_, '_>,
     l: usize,
     n: usize,
     work: &mut EntriesMut<'_>,
@@ -117,7 +117,7 @@ fn run_op(
 
 // An instruction on a stack of n: an operator's operands are given in order, and a slot's value.
 pub fn run_step(
-    pack: PassedPack<'_>,
+    pack: PassedPack<'_, '_>,
     slot: Value,
     slot_lists: Lists<'_>,
     i: Instruction,

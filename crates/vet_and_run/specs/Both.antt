@@ -1,9 +1,12 @@
 -- Vetting and a run of one sheet: the two answers, what the calls leave, and demand 3 of them. Assumes nothing.
 use Rattle.std.specs.Prelude.{◌≡◌, Bool, ◌⊎◌, List, map, ℕ, ◌*◌, ◌-◌, ◌<◌, ℤ, get_or}
 use Rattle.slices.specs.Slices.{Slice, MutSlice}
+use Rattle.ink_list.specs.Lists.{Same}
+use Rattle.ink_list.specs.declared.entries_mut.EntriesMut.{EntriesMut}
 use Rattle.ink_value.specs.Val.{kind_of, kind_at, code_of}
 use Rattle.ink_value.specs.Value.{val_of, kind_in}
 use Rattle.ink_value.specs.declared.Value.{Value}
+use Rattle.ink_value.specs.declared.slots.Slots.{Slots}
 use Rattle.pack.specs.Bodies.{Pack}
 use Rattle.pack.specs.declared.format.Format.{Format}
 use Rattle.machine.specs.Foretold.{ByValue, Foretold}
@@ -41,10 +44,11 @@ module _ (F : Format) (p : List ℕ) (s : ℕ) (codes : List ℕ) (slots : List 
         (sheet_run F p s run_asks (map (val_of si sv) slots))
         × ForetoldAnswer v f' r
 
--- the same of the slices that are lent, each as it was at entry and as it is at exit
-abbrev pub BothIn : Format → Slice ℕ → ℕ → List ℕ → List Value → Slice ℕ → Slice ℤ → VettedRun
-    → MutSlice ℕ → MutSlice ℕ → MutSlice ℤ → MutSlice ℕ → MutSlice ℤ → Type 0
-BothIn F pack sheet kinds slots si sv b f wi wv ri rv =
-    Both F pack.entry.now sheet kinds slots si.entry.now sv.entry.now (end_of b.vetted) (end_of b.ran) f.entry.now f.exit.now
-    wi.entry.now wi.exit.now wv.entry.now wv.exit.now
-    ri.entry.now ri.exit.now rv.entry.now rv.exit.now
+-- the same of the slots and the slices that are lent, which are the same slices still
+abbrev pub BothIn : Format → Slice ℕ → ℕ → List ℕ → Slots → VettedRun → MutSlice ℕ → EntriesMut → EntriesMut → EntriesMut → EntriesMut → Type 0
+BothIn F pack sheet kinds slots b f work work' out out' =
+    Both F pack.entry.now sheet kinds slots.values slots.lists.items.now slots.lists.values.now (end_of b.vetted) (end_of b.ran)
+    f.entry.now f.exit.now
+    work.items.now work'.items.now work.values.now work'.values.now
+    out.items.now out'.items.now out.values.now out'.values.now
+    × Same work work' × Same out out'

@@ -4,7 +4,9 @@
 ghost use Rattle.pack.specs.Format.{format1};
 ghost use Rattle.vet_and_run.specs.Both.{BothIn};
 
+use ink_list::entries_mut::EntriesMut;
 use ink_value::Value;
+use ink_value::slots::Slots;
 use machine::Stop;
 
 // The answers of the two calls.
@@ -20,29 +22,14 @@ pub fn vet_and_run(
     pack: &[u8],
     sheet: usize,
     kinds: [u8; 16],
-    slots: [Value; 16],
-    slot_items: &[u16],
-    slot_values: &[i32],
+    slots: &Slots<'_>,
     forecast: &mut [u8],
-    work_items: &mut [u16],
-    work_values: &mut [i32],
-    result_items: &mut [u16],
-    result_values: &mut [i32],
+    work: &mut EntriesMut<'_>,
+    out: &mut EntriesMut<'_>,
 ) -> VettedRun
-    ensures { BothIn format1 pack sheet kinds slots slot_items slot_values result
-        forecast work_items work_values result_items result_values }
+    ensures { BothIn format1 pack sheet kinds slots.now result forecast work.old work.new out.old out.new }
 {
     let vetted = vetting::vet(pack, sheet, kinds, forecast);
-    let ran = run_bytes::run(
-        pack,
-        sheet,
-        slots,
-        slot_items,
-        slot_values,
-        work_items,
-        work_values,
-        result_items,
-        result_values,
-    );
+    let ran = run_bytes::run(pack, sheet, slots, work, out);
     VettedRun { vetted, ran }
 }

@@ -1,5 +1,5 @@
 -- `run_bytes::run` meets its contract: questions 1 to 5, and then the run of a pack that has passed. Assumes nothing.
-use mathlib.Core.Path.{sym}
+use mathlib.Core.Path.{refl, sym}
 use native.Mathlib.Omega.{arith}
 use Rattle.std.proofs.lemmas.Result.{err_from_is_err_and}
 use Rattle.pack.proofs.Formats.{runnable1}
@@ -14,9 +14,10 @@ run_passed-requires c =
 
 pub returns : goal.returns
 returns c =
-    runs_is _ _ _ _ _ _ _ _ _ _ _ _ _ (opened_passed _ c.args.pack.now c.args.sheet _ _ (sym (rw c.in_ok-check.was at c.check.ensures))) c.run_passed.ensures
+    let r = c.run_passed.ensures in
+    (runs_is _ _ _ _ _ _ _ _ _ _ _ _ _ (opened_passed _ c.args.pack.now c.args.sheet _ _ (sym (rw c.in_ok-check.was at c.check.ensures))) r.0, r.1, r.2)
 
 pub returns-in_err-check : goal.returns-in_err-check
 returns-in_err-check c =
     let p = err_from_is_err_and c.from_residual.result c.from_residual.ensures.1 in
-    rw (p.1, p.2) (runs_stopped _ _ _ _ _ _ _ _ (opened_refused _ c.args.pack.now c.args.sheet _ _ (sym (rw c.in_err-check.was at c.check.ensures))))
+    (rw (p.1, p.2) (runs_stopped _ _ _ _ _ _ _ _ (opened_refused _ c.args.pack.now c.args.sheet _ _ (sym (rw c.in_err-check.was at c.check.ensures)))), (refl, refl), (refl, refl))

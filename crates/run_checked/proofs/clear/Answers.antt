@@ -4,7 +4,7 @@ use mathlib.Core.Path.{refl, sym, ◌∙◌}
 use Prim.Native.Nat.{ℕ}
 use native.Mathlib.Omega.{arith}
 use lib.IntN.{ℤ, pos}
-use Rattle.run_checked.proofs.Clearing.{cleared_none, cleared_more, same_filled, used_fits}
+use Rattle.run_checked.proofs.Clearing.{cleared_none, cleared_more, used_fits}
 use Rattle.run_checked.proofs.clear.Goals as goal
 
 pub loop-q-init : goal.loop-q-init
@@ -12,27 +12,22 @@ loop-q-init c =
     let a = c.args in
     (sym (cleared_none a.format {X = ℕ} 0 a.used.now a.work.now.items.now), sym (cleared_none a.format {X = ℤ} (pos 0) a.used.now a.work.now.values.now), (refl, refl))
 
-pub slice_bounds-fill-end : goal.slice_bounds-fill-end
-slice_bounds-fill-end c =
-    let a = c.args in
-    let l = c.loop-q in
-    used_fits a.format 0 a.used.now a.work.now.items.now c.requires.used_len.1 c.requires.roomy.items_room l.q (omega (arith, c.loop-q-test.true, c.requires.used_len.0)) _ l.invariant.0
-
-pub slice_bounds-fill-end-in-loop-q : goal.slice_bounds-fill-end-in-loop-q
-slice_bounds-fill-end-in-loop-q c =
-    let a = c.args in
-    let l = c.loop-q in
-    used_fits a.format (pos 0) a.used.now a.work.now.values.now c.requires.used_len.1 c.requires.roomy.values_room l.q (omega (arith, c.loop-q-test.true, c.requires.used_len.0)) _ l.invariant.1
-
-pub loop-q-preserved : goal.loop-q-preserved
-loop-q-preserved c =
+pub zero-requires : goal.zero-requires
+zero-requires c =
     let a = c.args in
     let l = c.loop-q in
     let r = c.requires.roomy in
     let few = c.requires.used_len.1 in
     let i = used_fits a.format 0 a.used.now a.work.now.items.now few r.items_room l.q (omega (arith, c.loop-q-test.true, c.requires.used_len.0)) _ l.invariant.0 in
-    let v = used_fits a.format (pos 0) a.used.now a.work.now.values.now few r.values_room l.q (omega (arith, c.loop-q-test.true, c.requires.used_len.0)) _ l.invariant.1 in (
-      same_filled 0 _ _ l.work.items.now _ i (c.fill.ensures.after (λ y e. e)) ∙ rw l.invariant.0 (sym (cleared_more a.format {X = ℕ} 0 a.used.now a.work.now.items.now l.q)),
-      same_filled (pos 0) _ _ l.work.values.now _ v (c.fill-in-loop-q.ensures.after (λ y e. e)) ∙ rw l.invariant.1 (sym (cleared_more a.format {X = ℤ} (pos 0) a.used.now a.work.now.values.now l.q)),
-      l.invariant.2,
+    let v = used_fits a.format (pos 0) a.used.now a.work.now.values.now few r.values_room l.q (omega (arith, c.loop-q-test.true, c.requires.used_len.0)) _ l.invariant.1 in
+    omega (arith, i, v)
+
+pub loop-q-preserved : goal.loop-q-preserved
+loop-q-preserved c =
+    let a = c.args in
+    let l = c.loop-q in
+    let z = c.zero.ensures in (
+      z.0 ∙ rw l.invariant.0 (sym (cleared_more a.format {X = ℕ} 0 a.used.now a.work.now.items.now l.q)),
+      z.1 ∙ rw l.invariant.1 (sym (cleared_more a.format {X = ℤ} (pos 0) a.used.now a.work.now.values.now l.q)),
+      (z.2.0 ∙ l.invariant.2.0, z.2.1 ∙ l.invariant.2.1),
     )

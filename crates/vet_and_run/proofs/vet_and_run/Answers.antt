@@ -3,4 +3,6 @@ use Rattle.vet_and_run.proofs.Answered.{both}
 use Rattle.vet_and_run.proofs.vet_and_run.Goals as goal
 
 pub returns : goal.returns
-returns c = both _ _ _ _ _ _ _ _ _ _ _ _ _ _ _ _ _ _ c.vet-vetted.ensures c.run-ran.ensures
+returns c =
+    let r = c.run-ran.ensures in
+    (both _ _ _ _ _ _ _ _ _ _ _ _ _ _ _ _ _ _ c.vet-vetted.ensures r.0, r.1, r.2)
