@@ -1,14 +1,13 @@
 -- Question 7 of a direct call: of its operands, and of its result slices. Assumes nothing.
 use Rattle.std.specs.Prelude.{Bool, List, [], ◌∷◌, ℕ, leb, ℤ, length, take}
 use Rattle.slices.specs.Every.{◌and◌}
-use Rattle.slices.specs.Slices.{Slice}
 use Rattle.ink_list.specs.declared.lists.Lists.{Lists}
 use Rattle.ink_list.specs.declared.well_formed.Counts.{Counts}
 use Rattle.list_definitions.specs.Defs.{ListDefinitions}
 use Rattle.ink_value.specs.Value.{all_formed}
 use Rattle.ink_value.specs.declared.Value.{Value}
 use Rattle.ink_value.specs.declared.operands.Operands.{Operands}
-use Rattle.pack.specs.declared.format.Format.{Format}
+use Rattle.pack.specs.declared.sound.SoundPack.{SoundPack}
 use Rattle.pack.specs.Bodies.{decoded}
 use Rattle.pack.specs.Read.{definitions_of}
 
@@ -35,9 +34,9 @@ abbrev pub lent_well : Counts → Lists → List Value → ℕ → ℕ → ℕ �
 lent_well counts lists l limit m n = formed_in counts lists l and (leb limit m and leb limit n)
 
 -- the definitions of a pack that passed
-abbrev pub pack_definitions : Format → Slice ℕ → ListDefinitions
-pack_definitions F pack = definitions_of (decoded F pack.entry.now) F
+abbrev pub pack_definitions : SoundPack → ListDefinitions
+pack_definitions pack = definitions_of (decoded pack.format pack.bytes.now) pack.format
 
 -- 7, of one operand, with a pack that passed
-abbrev pub operand_ok : Format → Slice ℕ → Lists → Value → Bool
-operand_ok F pack lists v = operands_ok (pack_definitions F pack) lists.items.now lists.values.now (v ∷ [])
+abbrev pub operand_ok : SoundPack → Lists → Value → Bool
+operand_ok pack lists v = operands_ok (pack_definitions pack) lists.items.now lists.values.now (v ∷ [])

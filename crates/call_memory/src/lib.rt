@@ -3,8 +3,6 @@
 
 ghost use Rattle.std.specs.Prelude.{◌≡◌, cond, [], ◌∷◌};
 ghost use Rattle.ink_value.specs.declared.Value.TheVariants as Is;
-ghost use Rattle.pack.specs.Format.{Runnable};
-ghost use Rattle.pack.specs.Judge.{Sound};
 ghost use Rattle.call_memory.specs.Lent.{used_of, formed_in, lent_well, operand_ok};
 
 use ink_list::lists::Lists;
@@ -12,7 +10,8 @@ use ink_list::well_formed::Counts;
 use ink_value::Value;
 use ink_value::operands::Operands;
 use pack::bytes::byte_at;
-use pack::format::Format;
+use pack::placed::PlacedPack;
+use pack::sound::SoundPack;
 use pack_lists::definitions::total_items;
 
 // Question 7 of a value, with its two slices equally long.
@@ -87,12 +86,10 @@ pub fn lent_well(
 }
 
 // Question 7 of the operand of a conversion, with a pack that has passed.
-pub fn operand_formed(pack: &[u8], v: Value, lists: Lists<'_>, format: Format) -> bool
-    requires sound { Sound format pack.now }
-    requires runnable { Runnable format }
-    ensures { result ≡ operand_ok format pack lists.entry v }
+pub fn operand_formed(pack: SoundPack<'_>, v: Value, lists: Lists<'_>) -> bool
+    ensures { result ≡ operand_ok pack.entry lists.entry v }
 {
-    let definitions = byte_at(pack, 1);
-    let items = total_items(pack, format);
+    let definitions = byte_at(pack.bytes, 1);
+    let items = total_items(PlacedPack { bytes: pack.bytes }, pack.format);
     one_formed(v, lists, Counts { definitions, items })
 }

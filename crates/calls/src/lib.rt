@@ -9,7 +9,6 @@ ghost use Rattle.list_operators.specs.Lists.{definitions_of};
 ghost use Rattle.value_conversions.specs.Convert.{coerce};
 ghost use Rattle.ink_value.specs.Held.{GivesTo};
 ghost use Rattle.pack.specs.Format.{format1, Runnable};
-ghost use Rattle.pack.specs.Judge.{Sound};
 ghost use Rattle.call_memory.specs.Lent.{operands_ok, used_of, pack_definitions};
 ghost use Rattle.calls.specs.Call.{ReturnedPlain};
 ghost use Rattle.calls.specs.Slices.{called_in, cast_in, coerced_in, on_pack_in, Asked, ReturnedIn};
@@ -22,7 +21,7 @@ use ink_value::operands::Operands;
 use ink_value::{Kind, Value};
 use list_definitions::definitions::{Definitions, PackDefinitions};
 use op::Op;
-use pack::format::Format;
+use pack::sound::SoundPack;
 use pack_check::format::{DEFINITION_LIMIT, FORMAT1};
 
 // An operator on operands of which question 7 says yes, with the definitions at hand: questions 8, 10 to 13 and 15.
@@ -74,30 +73,28 @@ pub fn call_with(
 // A call on a pack that has passed. Its definitions' values are read into a slice that is lent for it.
 #[tactic(auto, using(crate::proofs::Passed::items_fit))]
 fn call_checked(
-    bytes: &[u8],
+    pack: SoundPack<'_>,
     op: Op,
     operands: Operands,
     lists: Lists<'_>,
-    format: Format,
     defined: &mut [i32],
     out: &mut EntriesMut<'_>,
 ) -> Result<Value, Question>
-    requires sound { Sound format bytes.now }
-    requires runnable { Runnable format }
-    requires room { format.limit ≤ length defined.old }
-    ensures { GivesTo (called_in lists.entry out.old (op_number op) operands (pack_definitions format bytes)) result out.old out.new }
+    requires runnable { Runnable pack.format }
+    requires room { pack.format.limit ≤ length defined.old }
+    ensures { GivesTo (called_in lists.entry out.old (op_number op) operands (pack_definitions pack.entry)) result out.old out.new }
 {
     let mut ends = [0u16; DEFINITION_LIMIT];
-    let read = pack_read::read_definitions(bytes, &mut ends, defined, format);
+    let read = pack_read::read_definitions(pack, &mut ends, defined);
     let tables = Definitions {
         ends: &ends[..read.definitions],
         defined: &defined[..read.items],
     };
-    let pack = PackDefinitions {
+    let definitions = PackDefinitions {
         tables,
-        limit: format.limit,
+        limit: pack.format.limit,
     };
-    call_with(op, operands, lists, pack, out)
+    call_with(op, operands, lists, definitions, out)
 }
 
 // An operator on operands whose entries stand in two slices.
@@ -112,31 +109,32 @@ pub fn call(
     ensures { ReturnedIn (on_pack_in format1 pack (called_in lists.entry out.old (op_number op) operands)) result out.old out.new }
 {
     pack_check::check(pack)?;
+    let sound = SoundPack {
+        bytes: pack,
+        format: FORMAT1,
+    };
     let mut defined = [0i32; FORMAT1.limit];
-    call_checked(pack, op, operands, lists, FORMAT1, &mut defined, out)
+    call_checked(sound, op, operands, lists, &mut defined, out)
 }
 
 // `cast` on a pack that has passed.
 #[tactic(auto, using(ink_value::proofs::Given::gave_plain, crate::proofs::Forms::cast_ill, crate::proofs::Forms::cast_no_items, crate::proofs::Forms::cast_no_values, crate::proofs::Forms::cast_goes))]
 fn cast_checked(
-    pack: &[u8],
+    pack: SoundPack<'_>,
     to: Kind,
     v: Value,
     lists: Lists<'_>,
-    format: Format,
     out: &mut EntriesMut<'_>,
 ) -> Result<Value, Question>
-    requires sound { Sound format pack.now }
-    requires runnable { Runnable format }
-    ensures { GivesTo (cast_in lists.entry out.old to v (pack_definitions format pack)) result out.old out.new }
+    ensures { GivesTo (cast_in lists.entry out.old to v (pack_definitions pack.entry)) result out.old out.new }
 {
-    if !call_memory::operand_formed(pack, v, lists, format) {
+    if !call_memory::operand_formed(pack, v, lists) {
         return Err(Question::Memory);
     }
-    if out.items.len() < format.limit {
+    if out.items.len() < pack.format.limit {
         return Err(Question::Memory);
     }
-    if out.values.len() < format.limit {
+    if out.values.len() < pack.format.limit {
         return Err(Question::Memory);
     }
     value_conversions::cast(to, v, lists, out)
@@ -154,7 +152,11 @@ pub fn cast(
     ensures { ReturnedIn (on_pack_in format1 pack (cast_in lists.entry out.old to v)) result out.old out.new }
 {
     pack_check::check(pack)?;
-    cast_checked(pack, to, v, lists, FORMAT1, out)
+    let sound = SoundPack {
+        bytes: pack,
+        format: FORMAT1,
+    };
+    cast_checked(sound, to, v, lists, out)
 }
 
 // Questions 1 to 5, and 7 of the operand of a conversion that has no result slices.
@@ -163,7 +165,11 @@ fn operand_asked(pack: &[u8], v: Value, lists: Lists<'_>) -> Result<(), Question
     ensures { Asked format1 pack lists.entry v result }
 {
     pack_check::check(pack)?;
-    if call_memory::operand_formed(pack, v, lists, FORMAT1) {
+    let sound = SoundPack {
+        bytes: pack,
+        format: FORMAT1,
+    };
+    if call_memory::operand_formed(sound, v, lists) {
         Ok(())
     } else {
         Err(Question::Memory)

@@ -9,6 +9,7 @@ ghost use Rattle.definition_tables.specs.Slices.{ReadsAny};
 
 use ink_number::question::Question;
 use pack::format::Format;
+use pack::sound::SoundPack;
 use pack_check::format::DEFINITION_LIMIT;
 
 // Question 7 of the two slices, and then the tables, and how many places each takes.
@@ -28,7 +29,14 @@ pub fn read_tables(
     if defined.len() < format.limit {
         return Err(Question::Memory);
     }
-    let read = pack_read::read_definitions(pack, ends, defined, format);
+    let read = pack_read::read_definitions(
+        SoundPack {
+            bytes: pack,
+            format,
+        },
+        ends,
+        defined,
+    );
     *counts = [read.definitions as u64, read.items as u64];
     Ok(())
 }

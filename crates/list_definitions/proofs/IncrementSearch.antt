@@ -13,11 +13,8 @@ use lib.IntN.{ℤ, pos, ◌+ℤ◌}
 use lib.ListN.{length, get_or, take, drop, drop_of_length-le}
 use lib.Seq.{take-suc, drop-cons}
 use lib.Signed.{lt_z}
-use mir.Syntax.{w32}
-use mir.Val.{SFits}
 use Rattle.ink_number.specs.Int.{eq_z, wrap}
-use Rattle.ink_number.proofs.Signed.{back, back32}
-use Rattle.ink_list.specs.Entries.{Entry, put, gather_from, Stored}
+use Rattle.ink_list.specs.Entries.{Entry, put, gather_from}
 use Rattle.list_definitions.specs.Defs.{any_from}
 use Rattle.list_definitions.specs.Search.{among, raised, rises_above, rises, Rose, chosen}
 use Rattle.slices.proofs.Every.{not_both}
@@ -122,12 +119,6 @@ chosen_length k before (v ∷ ds) ws =
     go : (o : Option ℤ) → length (chosen (suc k) (before ++ (v ∷ [])) ds ws) ≤ length ds → length (put k o (chosen (suc k) (before ++ (v ∷ [])) ds ws)) ≤ suc (length ds)
     go none h = omega arith
     go (some w) h = omega arith
-
--- what was stored, where the Int that is added went through a local
-pub stored_read : {at next : ℕ} {oi oi' : List ℕ} {ov ov' : List ℤ} (k : ℕ) (by : ℤ) (ds vs : List ℤ) → SFits w32 by
-    → Stored at (chosen k [] ds (raised (back w32 by) vs)) next oi oi' ov ov' → Stored at (chosen k [] ds (raised by vs)) next oi oi' ov ov'
-stored_read {at} {next} {oi} {oi'} {ov} {ov'} k by ds vs f s =
-    subst (λ (z : ℤ). Stored at (chosen k [] ds (raised z vs)) next oi oi' ov ov') (back32 by f) s
 
 -- ---- the same for rising values: those before need no look
 

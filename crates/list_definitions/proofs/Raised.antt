@@ -42,9 +42,9 @@ raised_drop by zero vs = refl
 raised_drop by (suc m) [] = refl
 raised_drop by (suc m) (v ∷ vs) = raised_drop by m vs
 
--- what `wrapping_add` gives of a value that was read
-pub sum_of : (v by : ℤ) {r : ℤ} → mag v < 2 ^ 31 → r ≡ wrap (back w32 v +ℤ by) → wrap (v +ℤ by) ≡ r
-sum_of v by h e = sym (e ∙ ap (λ (z : ℤ). wrap (z +ℤ by)) (returned {z = v} h))
+-- what `wrapping_add` gives of two Ints that were read
+pub sum_of : (v by : ℤ) {r : ℤ} → mag v < 2 ^ 31 → mag by < 2 ^ 31 → r ≡ wrap (back w32 v +ℤ back w32 by) → wrap (v +ℤ by) ≡ r
+sum_of v by h k e = sym (e ∙ ap (λ (z : ℤ). wrap (z +ℤ back w32 by)) (returned {z = v} h) ∙ ap (λ (z : ℤ). wrap (v +ℤ z)) (returned {z = by} k))
 
 -- an Int to which 0 is added
 unraised : (v : ℤ) → mag v < 2 ^ 31 → wrap (v +ℤ pos 0) ≡ v

@@ -6,7 +6,8 @@ ghost use Rattle.ink_list.specs.Entries.{Ascends, item_numbers};
 ghost use Rattle.ink_list.specs.Lists.{list_of, places, Fills};
 ghost use Rattle.list_definitions.specs.Defs.{increment, decrement};
 
-use increment_search::retarget;
+use increment_search::definition::Definition;
+use increment_search::{Raised, retarget};
 use ink_list::cursor::skip_below;
 use ink_list::entries::Entries;
 use ink_list::entries_mut::EntriesMut;
@@ -35,8 +36,15 @@ pub fn increment(
         let passed = left.len() - skip_below(left.items, *end).len();
         low = usize::from(*end);
         if chosen {
-            let values = &left.values[..passed];
-            n = retarget(values, by, &definitions.defined[first..low], first, out, n);
+            let raised = Raised {
+                values: &left.values[..passed],
+                by,
+            };
+            let definition = Definition {
+                first,
+                values: &definitions.defined[first..low],
+            };
+            n = retarget(raised, definition, out, n);
         }
         left = left.from(passed);
         s /= 2;

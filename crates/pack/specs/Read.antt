@@ -68,13 +68,13 @@ Framed-prop p a b = λ i. record {
   room = le_prop a.room b.room i;
 }
 
-Placed-prop : (p : List ℕ) → IsProp (Placed p)
+pub Placed-prop : (p : List ℕ) → IsProp (Placed p)
 Placed-prop p a b = λ i. record {
   frame = Framed-prop p a.frame b.frame i;
   two = Bool-set _ _ a.two b.two i;
 }
 
-Sound-prop : (F : Format) (p : List ℕ) → IsProp (Sound F p)
+pub Sound-prop : (F : Format) (p : List ℕ) → IsProp (Sound F p)
 Sound-prop F p a b = λ i. record {
   contents = Placed-prop p a.contents b.contents i;
   three = Bool-set _ _ a.three b.three i;

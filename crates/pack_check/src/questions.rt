@@ -9,6 +9,7 @@ use ink_number::question::Question;
 use pack::bytes::byte_at;
 use pack::contents::{body_count, offset, size};
 use pack::format::Format;
+use pack::placed::PlacedPack;
 use pack_lists::definitions::question3;
 use pack_lists::literals::question4;
 use pack_sheets::question5;
@@ -62,13 +63,14 @@ pub fn check_as(p: &[u8], format: Format) -> Result<(), Question>
     if !question2(p) {
         return Err(Question::Contents);
     }
-    if !question3(p, format) {
+    let pack = PlacedPack { bytes: p };
+    if !question3(pack, format) {
         return Err(Question::Definitions);
     }
-    if !question4(p, format) {
+    if !question4(pack, format) {
         return Err(Question::Literals);
     }
-    if !question5(p) {
+    if !question5(pack) {
         return Err(Question::Sheets);
     }
     Ok(())

@@ -5,15 +5,14 @@ ghost use Rattle.std.specs.Prelude.{◌≡◌, ◌+◌, ◌*◌, ◌<◌, ◌≤
 ghost use Rattle.ink_list.specs.Lists.{places};
 ghost use Rattle.pack.specs.Bodies.{decoded};
 ghost use Rattle.pack.specs.Contents.{literal_count};
-ghost use Rattle.pack.specs.Format.{Narrow};
-ghost use Rattle.pack.specs.Judge.{Framed, Sound};
+ghost use Rattle.pack.specs.Judge.{Framed};
 ghost use Rattle.pack.specs.Read.{literal_of};
 ghost use Rattle.pack_literals.specs.Slices.{Copies, EntriesReadIn};
 
 use ink_list::entries_mut::EntriesMut;
 use pack::bytes::{byte_at, i32_at, number_at, u64_at};
 use pack::contents::{offset, size};
-use pack::format::Format;
+use pack::sound::SoundPack;
 
 // How many literals there are.
 pub fn literal_count(p: &[u8]) -> usize
@@ -24,24 +23,21 @@ pub fn literal_count(p: &[u8]) -> usize
 }
 
 // The origin set of literal l.
-pub fn literal_origins(p: &[u8], l: usize, format: Format) -> u64
-    requires sound { Sound format p.now }
-    requires l_bound { l < literal_count p.now }
-    ensures { result ≡ (literal_of (decoded format p.now) l).origins }
+pub fn literal_origins(pack: SoundPack<'_>, l: usize) -> u64
+    requires l_bound { l < literal_count pack.bytes.now }
+    ensures { result ≡ (literal_of (decoded pack.entry.format pack.entry.bytes.now) l).origins }
 {
-    let at = offset(p, byte_at(p, 1) + l);
-    u64_at(p, at)
+    let at = offset(pack.bytes, byte_at(pack.bytes, 1) + l);
+    u64_at(pack.bytes, at)
 }
 
 // How many entries literal l has.
-pub fn literal_len(p: &[u8], l: usize, format: Format) -> usize
-    requires narrow { Narrow format }
-    requires sound { Sound format p.now }
-    requires l_bound { l < literal_count p.now }
-    ensures { result ≡ length (literal_of (decoded format p.now) l).entries }
+pub fn literal_len(pack: SoundPack<'_>, l: usize) -> usize
+    requires l_bound { l < literal_count pack.bytes.now }
+    ensures { result ≡ length (literal_of (decoded pack.entry.format pack.entry.bytes.now) l).entries }
 {
-    let n = size(p, byte_at(p, 1) + l);
-    (n - 8) / (format.wide + 4)
+    let n = size(pack.bytes, byte_at(pack.bytes, 1) + l);
+    (n - 8) / (pack.format.wide + 4)
 }
 
 // Copies n entries that stand one after another from a position, into the places from an index on.
@@ -74,21 +70,13 @@ fn copy_entries(p: &[u8], at: usize, n: usize, out: &mut EntriesMut<'_>, from: u
 }
 
 // Copies the entries of literal l into the places from an index on, and says how many there are.
-pub fn read_literal(
-    p: &[u8],
-    l: usize,
-    out: &mut EntriesMut<'_>,
-    from: usize,
-    format: Format,
-) -> usize
-    requires narrow { Narrow format }
-    requires sound { Sound format p.now }
-    requires l_bound { l < literal_count p.now }
-    requires room { from + length (literal_of (decoded format p.now) l).entries ≤ places out.old }
-    ensures { EntriesReadIn (literal_of (decoded format p.now) l).entries from result out.old out.new }
+pub fn read_literal(pack: SoundPack<'_>, l: usize, out: &mut EntriesMut<'_>, from: usize) -> usize
+    requires l_bound { l < literal_count pack.bytes.now }
+    requires room { from + length (literal_of (decoded pack.format pack.bytes.now) l).entries ≤ places out.old }
+    ensures { EntriesReadIn (literal_of (decoded pack.entry.format pack.entry.bytes.now) l).entries from result out.old out.new }
 {
-    let n = literal_len(p, l, format);
-    let at = offset(p, byte_at(p, 1) + l) + 8;
-    copy_entries(p, at, n, out, from, format.wide);
+    let n = literal_len(pack, l);
+    let at = offset(pack.bytes, byte_at(pack.bytes, 1) + l) + 8;
+    copy_entries(pack.bytes, at, n, out, from, pack.format.wide);
     n
 }

@@ -6,13 +6,15 @@
 
 ghost use Rattle.std.specs.Prelude.{◌≡◌, ◌<◌, ◌≤◌, length};
 ghost use Rattle.pack.specs.Contents.{literal_count, sheet_count};
-ghost use Rattle.pack.specs.Read.{program};
+ghost use Rattle.pack.specs.Format.{format1};
+ghost use Rattle.pack.specs.Read.{program, Sound-prop};
 ghost use Rattle.pack_points.specs.Passed.{Passed};
 
 use ink_list::entries_mut::EntriesMut;
 use named_packs::NamedPacks;
 use pack::format::Format;
 use pack::instruction::Instruction;
+use pack::sound::SoundPack;
 use pack_check::format::{DEFINITION_LIMIT, FORMAT1};
 use pack_literals::{literal_count, literal_len, literal_origins, read_literal};
 use pack_read::instructions::instructions_of;
@@ -24,18 +26,28 @@ const SHOWN_FORMAT: Format = FORMAT1;
 
 const SHOWN: usize = 8;
 
+// A pack of that format to which questions 1 to 5 said yes.
+#[derive(Clone, Copy)]
+struct ShownPack<'a> {
+    bytes: &'a [u8],
+    ghost passed: { Passed bytes.now } by { Sound-prop format1 bytes.now },
+}
+
 fn numbers(ns: &[u16]) {
     for n in ns {
         print(format_args!(" {n}"));
     }
 }
 
-fn show_definitions(p: &[u8])
-    requires { Passed p.now }
-{
+#[tactic(auto, using(pack::proofs::Formats::runnable1))]
+fn show_definitions(pack: ShownPack<'_>) {
+    let sound = SoundPack {
+        bytes: pack.bytes,
+        format: SHOWN_FORMAT,
+    };
     let mut ends = [0u16; DEFINITION_LIMIT];
     let mut defined = [0i32; SHOWN_FORMAT.limit];
-    let d = read_definitions(p, &mut ends, &mut defined, SHOWN_FORMAT);
+    let d = read_definitions(sound, &mut ends, &mut defined);
     print(" ends");
     numbers(&ends[..d.definitions]);
     if let Some(value) = defined[..d.items].last() {
@@ -50,12 +62,16 @@ fn show_last(items: &[u16], values: &[i32]) {
     }
 }
 
-fn show_literal(p: &[u8], l: usize)
-    requires passed { Passed p.now }
-    requires l_bound { l < literal_count p.now }
+#[tactic(auto, using(pack::proofs::Formats::runnable1))]
+fn show_literal(pack: ShownPack<'_>, l: usize)
+    requires l_bound { l < literal_count pack.bytes.now }
 {
-    let origins = literal_origins(p, l, SHOWN_FORMAT);
-    let len = literal_len(p, l, SHOWN_FORMAT);
+    let sound = SoundPack {
+        bytes: pack.bytes,
+        format: SHOWN_FORMAT,
+    };
+    let origins = literal_origins(sound, l);
+    let len = literal_len(sound, l);
     print(format_args!("; literal {origins:x} {len}"));
     let mut items = [0u16; SHOWN_FORMAT.limit];
     let mut values = [0i32; SHOWN_FORMAT.limit];
@@ -63,16 +79,14 @@ fn show_literal(p: &[u8], l: usize)
         items: &mut items,
         values: &mut values,
     };
-    let n = read_literal(p, l, &mut out, 0, SHOWN_FORMAT);
+    let n = read_literal(sound, l, &mut out, 0);
     show_last(&items[..n], &values[..n]);
 }
 
-fn show_literals(p: &[u8])
-    requires { Passed p.now }
-{
+fn show_literals(pack: ShownPack<'_>) {
     // the readers take a literal by its number, and a sheet too; one function for both would take the count and a closure
-    for l in 0..literal_count(p) {
-        show_literal(p, l);
+    for l in 0..literal_count(pack.bytes) {
+        show_literal(pack, l);
     }
 }
 
@@ -95,47 +109,41 @@ fn show_instruction(i: Instruction) {
 }
 
 // How many instructions a sheet has.
-fn instruction_count(p: &[u8], s: usize) -> usize
-    requires passed { Passed p.now }
-    requires s_bound { s < sheet_count p.now }
-    ensures { result ≡ length (program p.now s) }
+fn instruction_count(pack: ShownPack<'_>, s: usize) -> usize
+    requires s_bound { s < sheet_count pack.bytes.now }
+    ensures { result ≡ length (program pack.entry.bytes.now s) }
 {
-    instructions_of(p, s).count()
+    instructions_of(pack.bytes, s).count()
 }
 
-fn show_sheet(p: &[u8], s: usize)
-    requires passed { Passed p.now }
-    requires s_bound { s < sheet_count p.now }
+fn show_sheet(pack: ShownPack<'_>, s: usize)
+    requires s_bound { s < sheet_count pack.bytes.now }
 {
-    let n = instruction_count(p, s);
+    let n = instruction_count(pack, s);
     print(format_args!("; sheet {n}"));
     if n <= SHOWN {
-        for i in instructions_of(p, s) {
+        for i in instructions_of(pack.bytes, s) {
             show_instruction(i);
         }
     }
 }
 
-fn show_sheets(p: &[u8])
-    requires { Passed p.now }
-{
-    for s in 0..sheet_count(p) {
-        show_sheet(p, s);
+fn show_sheets(pack: ShownPack<'_>) {
+    for s in 0..sheet_count(pack.bytes) {
+        show_sheet(pack, s);
     }
 }
 
-fn show(p: &[u8])
-    requires { Passed p.now }
-{
+fn show(pack: ShownPack<'_>) {
     print(" passed");
-    show_definitions(p);
-    show_literals(p);
-    show_sheets(p);
+    show_definitions(pack);
+    show_literals(pack);
+    show_sheets(pack);
 }
 
 fn report(p: &[u8]) {
     match pack_check::check(p) {
-        Ok(()) => show(p),
+        Ok(()) => show(ShownPack { bytes: p }),
         Err(question) => {
             let number = u8::from(question);
             print(format_args!(" {number}"));

@@ -7,8 +7,7 @@ ghost use Rattle.slices.specs.Filled.{fill};
 ghost use Rattle.pack.specs.Bodies.{item_count, decoded};
 ghost use Rattle.pack.specs.Bytes.{i32};
 ghost use Rattle.pack.specs.Contents.{definition_count, sheet_count};
-ghost use Rattle.pack.specs.Format.{Narrow};
-ghost use Rattle.pack.specs.Judge.{question5, Framed, Placed, Sound};
+ghost use Rattle.pack.specs.Judge.{question5, Framed, Placed};
 ghost use Rattle.pack.specs.Read.{SheetSpan};
 ghost use Rattle.pack_read.specs.Slices.{TabledIn};
 
@@ -18,7 +17,8 @@ pub mod instructions;
 
 use pack::bytes::{byte_at, i32_at};
 use pack::contents::{offset, size};
-use pack::format::Format;
+use pack::placed::PlacedPack;
+use pack::sound::SoundPack;
 use pack_lists::definitions::item_count;
 
 // Copies n values that stand one after another from a position, into the places from an index on.
@@ -34,20 +34,19 @@ fn copy_values(p: &[u8], at: usize, n: usize, out: &mut [i32], from: usize)
 }
 
 // Reads the definitions: one past each definition's last item, and each item's value. How many places of the two slices they take.
-pub fn read_definitions(p: &[u8], ends: &mut [u16], defined: &mut [i32], format: Format) -> Counts
-    requires narrow { Narrow format }
-    requires sound { Sound format p.now }
-    requires p_in_bounds { definition_count p.now ≤ length ends.old }
-    requires p_in_bounds_2 { item_count format p.now ≤ length defined.old }
-    ensures { TabledIn (decoded format p.now) result ends defined }
+pub fn read_definitions(pack: SoundPack<'_>, ends: &mut [u16], defined: &mut [i32]) -> Counts
+    requires p_in_bounds { definition_count pack.bytes.now ≤ length ends.old }
+    requires p_in_bounds_2 { item_count pack.format pack.bytes.now ≤ length defined.old }
+    ensures { TabledIn (decoded pack.entry.format pack.entry.bytes.now) result ends defined }
 {
-    let n = byte_at(p, 1);
+    let placed = PlacedPack { bytes: pack.bytes };
+    let n = byte_at(pack.bytes, 1);
     let mut items = 0;
     // By index: a body has a number and no slice, and `iter_mut().enumerate()` would leave of `ends` only the length, as in `copy_values`.
     for d in 0..n {
-        let at = offset(p, d) + format.wide;
-        let k = item_count(p, d, format);
-        copy_values(p, at, k, defined, items);
+        let at = offset(pack.bytes, d) + pack.format.wide;
+        let k = item_count(placed, d, pack.format);
+        copy_values(pack.bytes, at, k, defined, items);
         items += k;
         ends[d] = items as u16;
     }

@@ -6,11 +6,12 @@ ghost use Rattle.pack.specs.Bodies.{sheet};
 ghost use Rattle.pack.specs.Bytes.{byte};
 ghost use Rattle.pack.specs.Contents.{body_count};
 ghost use Rattle.pack.specs.Instruction.{is_some, taken, instruction};
-ghost use Rattle.pack.specs.Judge.{question5, Placed};
+ghost use Rattle.pack.specs.Judge.{question5};
 
 use pack::bytes::byte_at;
 use pack::contents::{offset, size};
 use pack::instruction::{ALONE, BOOL, FLOAT, INT, LIST, SLOT, VOID, WITH_BYTE, WITH_FOUR};
+use pack::placed::PlacedPack;
 
 // The most instructions in a sheet, and slots.
 pub const INSTRUCTION_LIMIT: usize = 1024;
@@ -58,20 +59,19 @@ fn checked_width(p: &[u8], at: usize, end: usize, literals: usize) -> Option<usi
 }
 
 // Is the sheet that is body b well formed?
-fn sheet_ok(p: &[u8], b: usize) -> bool
-    requires placed { Placed p.now }
-    requires b_bound { b < body_count p.now }
-    ensures { result ≡ is_some (sheet p.now b) }
+fn sheet_ok(pack: PlacedPack<'_>, b: usize) -> bool
+    requires b_bound { b < body_count pack.bytes.now }
+    ensures { result ≡ is_some (sheet pack.entry.bytes.now b) }
 {
-    let literals = byte_at(p, 2);
-    let mut at = offset(p, b);
-    let end = at + size(p, b);
+    let literals = byte_at(pack.bytes, 2);
+    let mut at = offset(pack.bytes, b);
+    let end = at + size(pack.bytes, b);
     // No index: the position goes on by each instruction's width, and the limit is the number of turns.
     for _ in 0..INSTRUCTION_LIMIT {
         if at == end {
             return true;
         }
-        let Some(n) = checked_width(p, at, end, literals) else {
+        let Some(n) = checked_width(pack.bytes, at, end, literals) else {
             return false;
         };
         at += n;
@@ -81,10 +81,9 @@ fn sheet_ok(p: &[u8], b: usize) -> bool
 
 // Is each sheet well formed, literal number below L?
 #[tactic(auto, using(slices::proofs::Every::every_more), unfolding(slices::specs::Every::every, pack::specs::Judge::question5))]
-pub fn question5(p: &[u8]) -> bool
-    requires { Placed p.now }
-    ensures { result ≡ question5 p.now }
+pub fn question5(pack: PlacedPack<'_>) -> bool
+    ensures { result ≡ question5 pack.entry.bytes.now }
 {
-    let first = byte_at(p, 1) + byte_at(p, 2);
-    (0..byte_at(p, 3)).all(|s| sheet_ok(p, first + s))
+    let first = byte_at(pack.bytes, 1) + byte_at(pack.bytes, 2);
+    (0..byte_at(pack.bytes, 3)).all(|s| sheet_ok(pack, first + s))
 }

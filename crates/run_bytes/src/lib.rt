@@ -14,6 +14,7 @@ use list_definitions::definitions::{Definitions, PackDefinitions};
 use machine::Stop;
 use pack::format::Format;
 use pack::passed::PassedPack;
+use pack::sound::SoundPack;
 use pack_check::format::{DEFINITION_LIMIT, FORMAT1};
 use run_sheet::run_sheet;
 
@@ -34,7 +35,7 @@ fn run_passed(
         return Err(Stop::from(Question::Sheet));
     }
     let mut ends = [0u16; DEFINITION_LIMIT];
-    let read = pack_read::read_definitions(bytes, &mut ends, defined, format);
+    let read = pack_read::read_definitions(SoundPack { bytes, format }, &mut ends, defined);
     let tables = Definitions {
         ends: &ends[..read.definitions],
         defined: &defined[..read.items],

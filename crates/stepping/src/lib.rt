@@ -32,6 +32,7 @@ use op::Op;
 use operating::{operate, store};
 use pack::instruction::Instruction;
 use pack::passed::PassedPack;
+use pack::sound::SoundPack;
 
 // A push of a value that is no list, on a stack of n.
 #[tactic(auto, using(crate::proofs::Pushing::push_plain))]
@@ -76,8 +77,12 @@ fn push_literal(
         return Err(Question::Stack);
     }
     let start = n * pack.definitions.limit;
-    let origins = pack_literals::literal_origins(pack.bytes, l, pack.format);
-    let len = pack_literals::read_literal(pack.bytes, l, work, start, pack.format);
+    let sound = SoundPack {
+        bytes: pack.bytes,
+        format: pack.format,
+    };
+    let origins = pack_literals::literal_origins(sound, l);
+    let len = pack_literals::read_literal(sound, l, work, start);
     let value = Value::List {
         origins,
         start,

@@ -9,5 +9,5 @@ use Rattle.call_memory.proofs.operand_formed.Goals as goal
 
 pub returns : goal.returns
 returns c =
-    let t = pack_tables c.args.format c.args.pack.now c.requires.runnable.narrow c.requires.sound in
+    let t = pack_tables _ _ c.args.pack.narrow c.args.pack.sound in
     c.one_formed.ensures ∙ ap2 (λ (m n : ℕ). all_formed m n c.args.lists.items.now c.args.lists.values.now (c.args.v ∷ [])) (c.total_items-items.ensures.0 ∙ sym t.defined_long) (c.byte_at-definitions.ensures.0 ∙ sym t.ends_long)

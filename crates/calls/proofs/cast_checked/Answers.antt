@@ -8,4 +8,4 @@ use Rattle.calls.proofs.cast_checked.Goals as goal
 pub cast-requires : goal.cast-requires
 cast-requires c =
     let a = c.args in
-    one_formed a.format a.pack.now a.lists.items.now a.lists.values.now a.v (places a.out.now) c.requires.sound (sym c.operand_formed.ensures ∙ c.if-not-operand_formed.false) (omega arith)
+    one_formed a.pack.format a.pack.bytes.now a.lists.items.now a.lists.values.now a.v (places a.out.now) c.args.pack.sound (sym c.operand_formed.ensures ∙ c.if-not-operand_formed.false) (omega arith)

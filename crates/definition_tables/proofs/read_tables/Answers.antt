@@ -13,13 +13,13 @@ returns-then-ends-lt-DEFINITION_LIMIT c = reads_no_ends _ c.args.pack.now c.args
 pub returns-then-defined-format : goal.returns-then-defined-format
 returns-then-defined-format c = reads_no_defined _ c.args.pack.now c.args.ends.now c.args.defined.now _ c.if-defined-format.true
 
+pub invariant_of-read_definitions-clause-sound : goal.invariant_of-read_definitions-clause-sound
+invariant_of-read_definitions-clause-sound c = (judged _ c.args.pack.now _ c.requires.0).0
+
 pub read_definitions-read-requires : goal.read_definitions-read-requires
 read_definitions-read-requires c =
-    let sound = (judged _ c.args.pack.now _ c.requires.0).0 in
-    let t = pack_tables _ c.args.pack.now c.requires.1 sound in
+    let t = pack_tables _ c.args.pack.now c.requires.1 (judged _ c.args.pack.now _ c.requires.0).0 in
     record {
-      narrow = c.requires.1;
-      sound = sound;
       p_in_bounds = omega (arith, t.ends_few, c.if-ends-lt-DEFINITION_LIMIT.false);
       p_in_bounds_2 = omega (arith, t.defined_few, c.if-defined-format.false);
     }

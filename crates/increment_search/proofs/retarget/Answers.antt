@@ -10,6 +10,6 @@ returns-then-is_empty c =
     let a = c.args in
     let o = a.out.now in (
       subst (λ (M : List Entry). Stored a.at M a.at o.items.now o.items.now o.values.now o.values.now)
-          (sym (chosen_empty a.first a.by [] a.ds.now a.vs.now (search rules))) (nothing a.at o.items.now o.values.now),
+          (sym (chosen_empty a.definition.first a.raised.by [] a.definition.values.now a.raised.values.now (search rules))) (nothing a.at o.items.now o.values.now),
       (refl, refl),
     )

@@ -34,8 +34,8 @@ loop-end-init c =
 pub overflow_sub-passed : goal.overflow_sub-passed
 overflow_sub-passed c = rw (c.skip_below.ensures, c.len.ensures) (shorter _ _)
 
-pub slice_bounds-retarget-end : goal.slice_bounds-retarget-end
-slice_bounds-retarget-end c =
+pub slice_bounds-definition-end : goal.slice_bounds-definition-end
+slice_bounds-definition-end c =
     let d = c.args.definitions in
     let l = c.loop-end in
     let t = ends_turn d.ends.now l.end-index c.loop-end-test.true l.low _ l.invariant.numbered _ c.from-low.ensures in
@@ -47,9 +47,8 @@ retarget-n-requires c =
     let l = c.loop-end in
     let t = ends_turn d.ends.now l.end-index c.loop-end-test.true l.low _ l.invariant.numbered _ c.from-low.ensures in
     let k = kept l.invariant.writing in
-    let b = d.tables.few in
     let e = length-take-le (c.from-low.result - l.low) (drop l.low d.defined.now) (omega (arith, length-drop l.low d.defined.now)) in
-    (omega arith, omega arith)
+    omega arith
 
 pub loop-end-preserved : goal.loop-end-preserved
 loop-end-preserved c =

@@ -2,6 +2,5 @@
 use Rattle.pack.proofs.Judged.{passed}
 use Rattle.pack_points.proofs.report.Goals as goal
 
-pub show-requires : goal.show-requires
-show-requires c =
-    passed _ c.args.p.now c.in-Ok.ensures
+pub invariant_of-show : goal.invariant_of-show
+invariant_of-show c = record { passed = passed _ c.args.p.now c.in-Ok.ensures }

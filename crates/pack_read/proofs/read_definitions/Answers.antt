@@ -19,44 +19,44 @@ use Rattle.pack_read.proofs.read_definitions.Goals as goal
 pub loop-d-init : goal.loop-d-init
 unfolding items_below
 loop-d-init c =
-    let p = c.args.p.now in
-    let F = c.args.format in
+    let p = c.args.pack.bytes.now in
+    let F = c.args.pack.format in
     (refl, fill_none 0 (λ e. items_below F p (suc e)) c.args.ends.now c.args.ends.now refl, values_none F p c.args.defined.now)
 
 pub copy_values-requires : goal.copy_values-requires
 copy_values-requires c =
-    let p = c.args.p.now in
-    let F = c.args.format in
+    let p = c.args.pack.bytes.now in
+    let F = c.args.pack.format in
     let l = c.loop-d in
     let below : l.d < definition_count p = omega arith in
     let up = items_up F p (definition_count p) l.d below in
-    let whole = counted F p l.d ((defined F p c.requires.sound.three).each l.d below) in
+    let whole = counted F p l.d ((defined F p c.args.pack.sound.three).each l.d below) in
     let long = values_long F p c.args.defined.now l.d (omega arith) l.defined l.invariant.2 in
     record {
-      n_in_bounds = omega (arith, body p c.requires.sound.contents l.d (omega arith), whole);
+      n_in_bounds = omega (arith, body p c.args.pack.sound.contents l.d (omega arith), whole);
       n_in_bounds_2 = omega (arith, long);
     }
 
 pub overflow_add-items : goal.overflow_add-items
 overflow_add-items c =
-    let p = c.args.p.now in
-    let F = c.args.format in
+    let p = c.args.pack.bytes.now in
+    let F = c.args.pack.format in
     let l = c.loop-d in
     let below : l.d < definition_count p = omega arith in
-    omega (arith, items_up F p (definition_count p) l.d below, (defined F p c.requires.sound.three).within, c.requires.narrow)
+    omega (arith, items_up F p (definition_count p) l.d below, (defined F p c.args.pack.sound.three).within, c.args.pack.narrow)
 
 pub overflow_cast-ends : goal.overflow_cast-ends
 overflow_cast-ends c =
-    let p = c.args.p.now in
-    let F = c.args.format in
+    let p = c.args.pack.bytes.now in
+    let F = c.args.pack.format in
     let l = c.loop-d in
     let below : l.d < definition_count p = omega arith in
-    omega (arith, items_up F p (definition_count p) l.d below, (defined F p c.requires.sound.three).within, c.requires.narrow)
+    omega (arith, items_up F p (definition_count p) l.d below, (defined F p c.args.pack.sound.three).within, c.args.pack.narrow)
 
 pub loop-d-preserved : goal.loop-d-preserved
 loop-d-preserved c =
-    let p = c.args.p.now in
-    let F = c.args.format in
+    let p = c.args.pack.bytes.now in
+    let F = c.args.pack.format in
     let l = c.loop-d in
     let below : l.d < definition_count p = omega arith in
     let up = items_up F p (definition_count p) l.d below in
@@ -74,8 +74,8 @@ loop-d-preserved c =
 
 pub returns : goal.returns
 returns c =
-    let p = c.args.p.now in
-    let F = c.args.format in
+    let p = c.args.pack.bytes.now in
+    let F = c.args.pack.format in
     let l = c.loop-d in
     let D = definition_count p in
     let e : l.d ≡ D = omega arith in
@@ -94,4 +94,4 @@ returns c =
 
 pub item_count-k-requires-clause-d_value : goal.item_count-k-requires-clause-d_value
 item_count-k-requires-clause-d_value c =
-    (defined c.args.format c.args.p.now c.requires.sound.three).each c.loop-d.d (omega arith)
+    (defined c.args.pack.format c.args.pack.bytes.now c.args.pack.sound.three).each c.loop-d.d (omega arith)

@@ -10,4 +10,4 @@ use Rattle.pack_read.proofs.read_definitions.Given as goal
 
 abbrev pub invariant-loop-d : goal.invariant-loop-d
 invariant-loop-d l =
-    (l.items ≡ items_below l.format l.p l.d) × (l.ends ≡ fill 0 (table l.d (λ e. items_below l.format l.p (suc e))) l.initial.ends) × (l.defined ≡ fill 0 (values_below l.format l.p l.d) l.initial.defined)
+    (l.items ≡ items_below l.pack.format l.pack.bytes.now l.d) × (l.ends ≡ fill 0 (table l.d (λ e. items_below l.pack.format l.pack.bytes.now (suc e))) l.initial.ends) × (l.defined ≡ fill 0 (values_below l.pack.format l.pack.bytes.now l.d) l.initial.defined)

@@ -11,7 +11,7 @@ use Rattle.pack_sheets.proofs.question5.Goals as goal
 pub returns : goal.returns
 unfolding J.question5
 returns c =
-    let p = c.args.p.now in
+    let p = c.args.pack.bytes.now in
     let t = λ (k : ℕ). is_some (sheet p (sheet_body p k)) in
     every_ranged t _ c.all.result
     (cases_from_all _ _ c.all.result (λ k. t k ≡ true) (λ k. t k ≡ false) c.all.ensures.ran (YieldsList-from_range 0 c.byte_at-3.result (sheet_count p) refl (omega (arith, c.byte_at-3.ensures.0)))

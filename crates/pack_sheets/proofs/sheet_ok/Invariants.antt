@@ -9,4 +9,4 @@ use Rattle.pack_sheets.proofs.sheet_ok.Given as goal
 
 abbrev pub invariant-loop : goal.invariant-loop
 invariant-loop l =
-    (l.at ≤ l.end) × (is_some (instructions l.literals l.p (instruction_limit - l.counter) l.at l.end) ≡ is_some (sheet l.p l.b))
+    (l.at ≤ l.end) × (is_some (instructions l.literals l.pack.bytes.now (instruction_limit - l.counter) l.at l.end) ≡ is_some (sheet l.pack.bytes.now l.b))

@@ -16,8 +16,6 @@ pub read_definitions-read-requires : goal.read_definitions-read-requires
 read_definitions-read-requires c =
     let t = pack_tables c.args.format c.args.bytes.now c.requires.1.narrow c.requires.0 in
     record {
-      narrow = c.requires.1.narrow;
-      sound = c.requires.0;
       p_in_bounds = t.ends_few;
       p_in_bounds_2 = omega (arith, t.defined_few, c.requires.2);
     }

@@ -13,21 +13,21 @@ pub returns-then-n-format : goal.returns-then-n-format
 unfolding definition_ok
 returns-then-n-format c =
     let a = c.args in
-    sym (and_no_right _ _ (ne_eqb (size a.p.now a.d) _ (λ e. omega arith)))
+    sym (and_no_right _ _ (ne_eqb (size a.pack.bytes.now a.d) _ (λ e. omega arith)))
 
 pub returns-then-k-eq0 : goal.returns-then-k-eq0
 unfolding definition_ok
 returns-then-k-eq0 c =
     let a = c.args in
-    let k : count a.format a.p.now a.d ≡ 0 =
-    sym (c.number_at-k.ensures.0 ∙ ap (number a.format.wide a.p.now) c.offset-at.ensures.0) ∙ c.if-k-eq0.true in
-    sym (and_no_left _ _ (le-ltb 0 (count a.format a.p.now a.d) (omega arith)))
+    let k : count a.format a.pack.bytes.now a.d ≡ 0 =
+    sym (c.number_at-k.ensures.0 ∙ ap (number a.format.wide a.pack.bytes.now) c.offset-at.ensures.0) ∙ c.if-k-eq0.true in
+    sym (and_no_left _ _ (le-ltb 0 (count a.format a.pack.bytes.now a.d) (omega arith)))
 
 pub returns : goal.returns
 unfolding definition_ok ◌and◌
 returns c =
     let a = c.args in
-    let p = a.p.now in
+    let p = a.pack.bytes.now in
     let k : c.number_at-k.result ≡ count a.format p a.d =
     c.number_at-k.ensures.0 ∙ ap (number a.format.wide p) c.offset-at.ensures.0 in
     rw (lt-ltb 0 (count a.format p a.d) (omega arith), ← k, ← c.size-n.ensures.0)

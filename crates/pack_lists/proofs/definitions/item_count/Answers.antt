@@ -6,5 +6,5 @@ use Rattle.pack_lists.proofs.definitions.item_count.Goals as goal
 
 pub number_at-requires-clause-wide_in_bounds : goal.number_at-requires-clause-wide_in_bounds
 number_at-requires-clause-wide_in_bounds c =
-    let p = c.args.p.now in
-    omega (arith, body p c.requires.placed c.args.d c.requires.d_bound, counted c.args.format p c.args.d c.requires.d_value)
+    let p = c.args.pack.bytes.now in
+    omega (arith, body p c.args.pack.placed c.args.d c.requires.d_bound, counted c.args.format p c.args.d c.requires.d_value)

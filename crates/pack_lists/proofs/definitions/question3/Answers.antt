@@ -21,7 +21,7 @@ pub returns : goal.returns
 unfolding J.question3 ◌and◌
 returns c =
     let a = c.args in
-    let p = a.p.now in
+    let p = a.pack.bytes.now in
     let l = c.loop-d in
     let e : l.d ≡ definition_count p = omega arith in
     rw (subst (λ (k : ℕ). every k (definition_ok a.format p) ≡ true) e l.invariant.2)

@@ -8,4 +8,4 @@ use Rattle.pack.specs.Bodies.{definition_ok, items_below}
 use Rattle.pack_lists.proofs.definitions.question3.Given as goal
 
 abbrev pub invariant-loop-d : goal.invariant-loop-d
-invariant-loop-d l = (l.items ≡ items_below l.format l.p l.d) × (l.items ≤ 65536 * l.d) × (every l.d (definition_ok l.format l.p) ≡ true)
+invariant-loop-d l = (l.items ≡ items_below l.format l.pack.bytes.now l.d) × (l.items ≤ 65536 * l.d) × (every l.d (definition_ok l.format l.pack.bytes.now) ≡ true)

@@ -12,7 +12,7 @@ use Rattle.pack_lists.proofs.definitions.total_items.Goals as goal
 
 pub sum-requires-clause-can : goal.sum-requires-clause-can
 sum-requires-clause-can c =
-    let p = c.args.p.now in
+    let p = c.args.pack.bytes.now in
     let good = defined c.args.format p c.requires.p_value in (
       tt,
       serves_from_Range (λ x q k. search rules)
@@ -24,7 +24,7 @@ sum-requires-clause-can c =
 
 pub sum-requires-clause-fits : goal.sum-requires-clause-fits
 sum-requires-clause-fits c =
-    let p = c.args.p.now in
+    let p = c.args.pack.bytes.now in
     let h = count c.args.format p in
     let n = definition_count p in
     let few : sum (map h (range_with_len 0 n)) < 2 ^ 64 = omega (arith, counted c.args.format p n, (defined c.args.format p c.requires.p_value).within, c.requires.narrow) in
@@ -33,7 +33,7 @@ sum-requires-clause-fits c =
 
 pub returns : goal.returns
 returns c =
-    let p = c.args.p.now in
+    let p = c.args.pack.bytes.now in
     let h = count c.args.format p in
     let n = definition_count p in
     let t : c.sum.result ≡ items_below c.args.format p n =

@@ -13,8 +13,8 @@ use Rattle.pack_lists.proofs.literals.items_ok.Goals.{then-item-least-via-then-i
 pub loop-entry-init : goal.loop-entry-init
 loop-entry-init c =
     let a = c.args in
-    let laid = body a.p.now c.requires.placed a.b c.requires.b_bound in
-    (0, a.n, omega arith, all_left a.p.now (c.offset-first.result + 8) (a.format.wide + 4) a.n _ (omega (arith, laid.ends, c.offset-first.ensures.0, c.requires.b_value)) (search rules), search rules, refl)
+    let laid = body a.pack.bytes.now c.args.pack.placed a.b c.requires.b_bound in
+    (0, a.n, omega arith, all_left a.pack.bytes.now (c.offset-first.result + 8) (a.format.wide + 4) a.n _ (omega (arith, laid.ends, c.offset-first.ensures.0, c.requires.b_value)) (search rules), search rules, refl)
 
 pub returns-then-item-least : goal.returns-then-item-least
 returns-then-item-least c =
@@ -22,14 +22,14 @@ returns-then-item-least c =
     let l = c.loop-entry in
     let i = l.invariant in
     let k = i.0 in
-    let f = item a.format a.p.now a.b in
+    let f = item a.format a.pack.bytes.now a.b in
     let is : List ℕ = table a.n f in
     let s = c.in-Some.ensures.steps in
     let piece = s.1.1 ∙ i.4 in
-    let r = more a.p.now _ (a.format.wide + 4) _ _ _ k i.1 i.3 (omega arith) s.1.0 piece in
+    let r = more a.pack.bytes.now _ (a.format.wide + 4) _ _ _ k i.1 i.3 (omega arith) s.1.0 piece in
     let below : k < a.n = omega (arith, i.2, r.1) in
     let this : c.number_at-item.result ≡ get_or is k 0 =
-    c.number_at-item.ensures.0 ∙ number_there a.p.now _ (a.format.wide + 4) _ _ _ k i.1 i.3 (omega arith) s.1.0 piece a.format.wide 0 (omega arith) ∙ ap (λ (j : ℕ). number a.format.wide a.p.now j) (omega (arith, c.offset-first.ensures.0)) ∙ sym (get_d_table a.n f k 0 below) in
+    c.number_at-item.ensures.0 ∙ number_there a.pack.bytes.now _ (a.format.wide + 4) _ _ _ k i.1 i.3 (omega arith) s.1.0 piece a.format.wide 0 (omega arith) ∙ ap (λ (j : ℕ). number a.format.wide a.pack.bytes.now j) (omega (arith, c.offset-first.ensures.0)) ∙ sym (get_d_table a.n f k 0 below) in
     let in_list : k < length is = omega (arith, length_table a.n f, below) in
     elim c.then-item-least.branch [
       | then-item-least-via-then-item-least w ↦ sym (too_low a.total l.least is k in_list (omega arith)) ∙ i.5
@@ -42,23 +42,23 @@ loop-entry-preserved c =
     let l = c.loop-entry in
     let i = l.invariant in
     let k = i.0 in
-    let f = item a.format a.p.now a.b in
+    let f = item a.format a.pack.bytes.now a.b in
     let is : List ℕ = table a.n f in
     let s = c.in-Some.ensures.steps in
     let piece = s.1.1 ∙ i.4 in
-    let r = more a.p.now _ (a.format.wide + 4) _ _ _ k i.1 i.3 (omega arith) s.1.0 piece in
+    let r = more a.pack.bytes.now _ (a.format.wide + 4) _ _ _ k i.1 i.3 (omega arith) s.1.0 piece in
     let below : k < a.n = omega (arith, i.2, r.1) in
     let this : c.number_at-item.result ≡ get_or is k 0 =
-    c.number_at-item.ensures.0 ∙ number_there a.p.now _ (a.format.wide + 4) _ _ _ k i.1 i.3 (omega arith) s.1.0 piece a.format.wide 0 (omega arith) ∙ ap (λ (j : ℕ). number a.format.wide a.p.now j) (omega (arith, c.offset-first.ensures.0)) ∙ sym (get_d_table a.n f k 0 below) in
+    c.number_at-item.ensures.0 ∙ number_there a.pack.bytes.now _ (a.format.wide + 4) _ _ _ k i.1 i.3 (omega arith) s.1.0 piece a.format.wide 0 (omega arith) ∙ ap (λ (j : ℕ). number a.format.wide a.pack.bytes.now j) (omega (arith, c.offset-first.ensures.0)) ∙ sym (get_d_table a.n f k 0 below) in
     let in_list : k < length is = omega (arith, length_table a.n f, below) in
     let on = goes_on a.total l.least is k in_list (omega arith) (omega arith) in
-    (k + 1, r.0, omega (arith, i.2, r.1), turn a.p.now _ (a.format.wide + 4) _ _ _ k i.1 i.3 (omega arith) s.1.0 piece r.0 r.1, s.0 ∙ i.4, rw this (sym on ∙ i.5))
+    (k + 1, r.0, omega (arith, i.2, r.1), turn a.pack.bytes.now _ (a.format.wide + 4) _ _ _ k i.1 i.3 (omega arith) s.1.0 piece r.0 r.1, s.0 ∙ i.4, rw this (sym on ∙ i.5))
 
 pub returns : goal.returns
 returns c =
     let a = c.args in
     let l = c.loop-entry in
     let i = l.invariant in
-    let f = item a.format a.p.now a.b in
-    let none : i.1 ≡ 0 = none_more a.p.now _ (a.format.wide + 4) _ i.0 _ i.3 (omega (arith, c.in-None.ensures.steps.1.0, i.4)) in
+    let f = item a.format a.pack.bytes.now a.b in
+    let none : i.1 ≡ 0 = none_more a.pack.bytes.now _ (a.format.wide + 4) _ i.0 _ i.3 (omega (arith, c.in-None.ensures.steps.1.0, i.4)) in
     sym (ascends_end a.total l.least (table a.n f) i.0 (omega (arith, length_table a.n f, i.2, none))) ∙ i.5

@@ -11,5 +11,5 @@ use Rattle.pack_lists.proofs.literals.items_ok.Given as goal
 
 abbrev pub invariant-loop-entry : goal.invariant-loop-entry
 invariant-loop-entry l =
-    (k : ℕ) × (m : ℕ) × (k + m ≡ l.n) × Left l.p l.first l.stride l.entry-iterator.rest.now k m × (l.entry-iterator.size ≡ l.stride)
-    × (ascends l.least l.total (drop k (table l.n (item l.format l.p l.b))) ≡ ascends 0 l.total (table l.n (item l.format l.p l.b)))
+    (k : ℕ) × (m : ℕ) × (k + m ≡ l.n) × Left l.pack.bytes.now l.first l.stride l.entry-iterator.rest.now k m × (l.entry-iterator.size ≡ l.stride)
+    × (ascends l.least l.total (drop k (table l.n (item l.format l.pack.bytes.now l.b))) ≡ ascends 0 l.total (table l.n (item l.format l.pack.bytes.now l.b)))

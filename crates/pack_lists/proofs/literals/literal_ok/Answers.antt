@@ -16,7 +16,7 @@ pub returns-then-n-lt8 : goal.returns-then-n-lt8
 unfolding literal_ok
 returns-then-n-lt8 c =
     let F = c.args.format in
-    let p = c.args.p.now in
+    let p = c.args.pack.bytes.now in
     let b = c.args.b in
     sym (and_no_left _ _ (ne_eqb (size p b) (8 + (F.wide + 4) * entry_count F p b) (λ e. omega arith)))
 
@@ -24,7 +24,7 @@ pub returns-then-n-format : goal.returns-then-n-format
 unfolding literal_ok
 returns-then-n-format c =
     let F = c.args.format in
-    let p = c.args.p.now in
+    let p = c.args.pack.bytes.now in
     let b = c.args.b in
     let same : (c.size-n.result - 8) / (F.wide + 4) ≡ entry_count F p b = ap (λ (k : ℕ). (k - 8) / (F.wide + 4)) c.size-n.ensures.0 in
     let no : size p b ≡ 8 + (F.wide + 4) * entry_count F p b → ⊥ =
@@ -35,7 +35,7 @@ pub returns-then-not-bits_below : goal.returns-then-not-bits_below
 unfolding literal_ok formed
 returns-then-not-bits_below c =
     let F = c.args.format in
-    let p = c.args.p.now in
+    let p = c.args.pack.bytes.now in
     let b = c.args.b in
     let set : c.u64_at.result ≡ origins F p b = c.u64_at.ensures ∙ ap (u64 p) c.offset-at.ensures.0 in
     let no : bits_below (definition_count p) (origins F p b) ≡ false =
@@ -46,7 +46,7 @@ pub returns : goal.returns
 unfolding literal_ok formed ◌and◌
 returns c =
     let F = c.args.format in
-    let p = c.args.p.now in
+    let p = c.args.pack.bytes.now in
     let b = c.args.b in
     let same : (c.size-n.result - 8) / (F.wide + 4) ≡ entry_count F p b = ap (λ (k : ℕ). (k - 8) / (F.wide + 4)) c.size-n.ensures.0 in
     let set : c.u64_at.result ≡ origins F p b = c.u64_at.ensures ∙ ap (u64 p) c.offset-at.ensures.0 in

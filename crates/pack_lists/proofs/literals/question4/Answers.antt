@@ -10,7 +10,7 @@ use Rattle.pack_lists.proofs.literals.question4.Goals as goal
 pub returns : goal.returns
 unfolding J.question4
 returns c =
-    let p = c.args.p.now in
+    let p = c.args.pack.bytes.now in
     let t = λ (k : ℕ). literal_ok c.args.format p (literal_body p k) in
     every_ranged t _ c.all.result
     (cases_from_all _ _ c.all.result (λ k. t k ≡ true) (λ k. t k ≡ false) c.all.ensures.ran (YieldsList-from_range 0 c.byte_at.result (literal_count p) refl (omega (arith, c.byte_at.ensures.0)))

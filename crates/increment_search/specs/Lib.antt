@@ -1,0 +1,2 @@
+-- The words of the contracts of increment's search.
+pub mod Chosen
