@@ -1,5 +1,6 @@
 // The library as C sees it: numbers, slices and words. A slice is passed as a pointer and a length, an array or a number that is written as
-// a pointer. The header hosts/include/ink_operators.h says how values stand in words.
+// a pointer. The header hosts/include/ink_operators.h says how values stand in words. Operators and kinds come as bytes, as C has them: every
+// byte has an operator and a kind.
 #![tactic(auto)]
 
 ghost use Rattle.std.specs.Prelude.{◌≡◌};

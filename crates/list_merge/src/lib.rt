@@ -9,8 +9,9 @@ ghost use Rattle.ink_list.specs.Ops.{union};
 use ink_list::entries::Entries;
 use ink_list::entries_mut::EntriesMut;
 
-// Add: b's value on b's items, else a's. The places are counted by hand, since what is left of the two lists as slices is slower. It is a
-// function of its own in the library too: its loop needs all registers, and takes up to 1.6 of the time within a longer function.
+// Add: b's value on b's items, else a's. Two cursors go on by what they compare, so no `for` counts them; what is left of each list as a
+// value is no plainer (each arm cuts two slices in the place of a sum) and 14 % slower. It is a function of its own in the library too: its
+// loop needs all registers, and takes up to 1.6 of the time within a longer function.
 #[inline(never)]
 pub fn union(a: Entries<'_>, b: Entries<'_>, out: &mut EntriesMut<'_>) -> usize
     requires rising_a { Ascends 0 (places out.old) a.items.now }

@@ -52,7 +52,9 @@ fn test2(op: Op, a: Value, b: Value, lists: Lists<'_>) -> bool
     }
 }
 
-// A result that is a Bool.
+// A result that is a Bool. It and its like for Ints and Floats are compiled where they are called, as `scalar` is: as calls they would
+// have the operands in memory.
+#[inline(always)]
 pub fn test(op: Op, operands: Operands, lists: Lists<'_>) -> bool
     requires le_count { (1 ≤ operands.count) × (operands.count ≤ 2) }
     requires formed { OperandsFormed item_numbers lists operands }
@@ -80,6 +82,7 @@ fn whole1(op: Op, a: Value, values: &[i32]) -> i32
 }
 
 // A result that is an Int.
+#[inline(always)]
 pub fn whole(op: Op, operands: Operands, lists: Lists<'_>) -> Result<i32, Question>
     requires le_count { (1 ≤ operands.count) × (operands.count ≤ 2) }
     requires formed { OperandsFormed item_numbers lists operands }
@@ -98,6 +101,7 @@ pub fn whole(op: Op, operands: Operands, lists: Lists<'_>) -> Result<i32, Questi
 
 // A result that is a Float.
 #[tactic(auto, unfolding(number_operators::specs::Numbers::real_unary))]
+#[inline(always)]
 pub fn real(op: Op, operands: Operands, lists: Lists<'_>) -> f32
     requires le_count { (1 ≤ operands.count) × (operands.count ≤ 2) }
     requires formed { OperandsFormed item_numbers lists operands }

@@ -52,7 +52,7 @@ fn vet_sheet(
 }
 
 // Vets a sheet of any bytes for slots of sixteen kinds: questions 1 to 13 and 17. It answers how many instructions the sheet has, or where
-// it stops.
+// it stops. The kinds come as bytes, of which question 7 asks whether they are codes.
 pub fn vet(pack: &[u8], sheet: usize, kinds: [u8; 16], forecast: &mut [u8]) -> Result<usize, Stop>
     ensures { VetsAny format1 pack sheet kinds result forecast }
 {
