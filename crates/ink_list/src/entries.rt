@@ -2,7 +2,8 @@
 
 ghost use Rattle.std.specs.Prelude.{◌≡◌, ◌+◌, ◌≤◌, length, drop, slice_range, IfSome, IfNone};
 
-// The entries of a lent list: their items and their values, equally many.
+// The entries of a lent list: their items and their values, equally many. That the items rise is asked where it is needed, by readers below
+// 65,536 and by writers below the places of the result: a type for each of the two would be no plainer.
 #[derive(Clone, Copy)]
 pub struct Entries<'a> {
     pub items: &'a [u16],

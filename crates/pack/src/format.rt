@@ -1,4 +1,5 @@
-// What a pack's format fixes.
+// What a pack's format fixes. What the code can read of one (`Narrow`) is asked, and not held by the type: the definitions and the laws speak
+// of any format.
 
 #[derive(Clone, Copy)]
 pub struct Format {

@@ -11,6 +11,7 @@ ghost use Rattle.pack.specs.Read.{program, Sound-prop};
 ghost use Rattle.pack_points.specs.Passed.{Passed};
 
 use ink_list::entries_mut::EntriesMut;
+use ink_list::lists::Lists;
 use named_packs::NamedPacks;
 use pack::format::Format;
 use pack::instruction::Instruction;
@@ -56,8 +57,8 @@ fn show_definitions(pack: ShownPack<'_>) {
 }
 
 // The last entry, if there is one.
-fn show_last(items: &[u16], values: &[i32]) {
-    if let (Some(item), Some(value)) = (items.last(), values.last()) {
+fn show_last(list: Lists<'_>) {
+    if let (Some(item), Some(value)) = (list.items.last(), list.values.last()) {
         print(format_args!(" {item} {value:08x}"));
     }
 }
@@ -80,7 +81,10 @@ fn show_literal(pack: ShownPack<'_>, l: usize)
         values: &mut values,
     };
     let n = read_literal(sound, l, &mut out, 0);
-    show_last(&items[..n], &values[..n]);
+    show_last(Lists {
+        items: &items[..n],
+        values: &values[..n],
+    });
 }
 
 fn show_literals(pack: ShownPack<'_>) {

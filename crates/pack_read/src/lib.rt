@@ -33,7 +33,8 @@ fn copy_values(p: &[u8], at: usize, n: usize, out: &mut [i32], from: usize)
     }
 }
 
-// Reads the definitions: one past each definition's last item, and each item's value. How many places of the two slices they take.
+// Reads the definitions: one past each definition's last item, and each item's value. How many places of the two slices they take. The two
+// are written in one place; a struct for them would be taken apart at once.
 pub fn read_definitions(pack: SoundPack<'_>, ends: &mut [u16], defined: &mut [i32]) -> Counts
     requires p_in_bounds { definition_count pack.bytes.now ≤ length ends.old }
     requires p_in_bounds_2 { item_count pack.format pack.bytes.now ≤ length defined.old }
