@@ -1,5 +1,5 @@
 -- The words of the contracts for values whose entries stand in lent slices, and for numbers in parts. Assumes nothing.
-use Rattle.std.specs.Prelude.{false, List, map, ℕ, ◌<◌, Result, Ok, length, get_or}
+use Rattle.std.specs.Prelude.{false, List, map, ℕ, ◌<◌, Result, Ok, length, get_or, ◌≡◌, ◌+◌, ◌≤◌, ℤ}
 use Rattle.ink_number.specs.Answer.{Answer, gives}
 use Rattle.ink_number.specs.Question.{answer}
 use Rattle.ink_number.specs.declared.question.Question.{Question}
@@ -7,7 +7,7 @@ use Rattle.ink_list.specs.declared.entries_mut.EntriesMut.{EntriesMut}
 use Rattle.ink_list.specs.declared.lists.Lists.{Lists}
 use Rattle.ink_list.specs.Lists.{Same}
 use Rattle.ink_value.specs.Val.{Val}
-use Rattle.ink_value.specs.Value.{val_of, first_of, number_of, Formed, FirstFormed, Gave}
+use Rattle.ink_value.specs.Value.{val_of, first_of, number_of, start_of, len_of, Formed, FirstFormed, Gave}
 use Rattle.ink_value.specs.declared.Value.{Value}
 use Rattle.ink_value.specs.declared.Value.TheVariants as Is
 use Rattle.ink_value.specs.declared.number_parts.NumberParts.{NumberParts}
@@ -21,6 +21,14 @@ val_in lists v = val_of lists.items.now lists.values.now v
 -- the operands that are used
 abbrev pub operands_in : Lists → Operands → List Val
 operands_in lists o = first_of lists.items.now lists.values.now o.count o.first o.second o.third
+
+-- the same, their lists' values in a slice and their items in any
+abbrev pub operands_with : List ℕ → List ℤ → Operands → List Val
+operands_with is vs o = first_of is vs o.count o.first o.second o.third
+
+-- the entries of the first two, as far as they are used, end within so many places
+abbrev pub OperandsHeld : Operands → ℕ → Type 0
+OperandsHeld o places = (start_of o.first + len_of o.first ≤ places) × (o.count ≡ 2 → start_of o.second + len_of o.second ≤ places)
 
 -- a list's entries stand whole in the two slices, and their items rise below the limit
 abbrev pub FormedIn : ℕ → Lists → Value → Type 0

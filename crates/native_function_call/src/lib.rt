@@ -9,7 +9,7 @@ ghost use Rattle.ink_list.specs.Lists.{places};
 ghost use Rattle.list_definitions.specs.Defs.{ListDefinitions};
 ghost use Rattle.ink_value.specs.declared.Kind.TheVariants as K;
 ghost use Rattle.ink_value.specs.Value.{val_of, start_of, len_of, placed};
-ghost use Rattle.ink_value.specs.Held.{val_in, operands_in, FormedIn, OperandsFormed, GivesTo};
+ghost use Rattle.ink_value.specs.Held.{val_in, operands_in, operands_with, FormedIn, OperandsFormed, OperandsHeld, GivesTo};
 ghost use Rattle.number_operators.specs.Numbers.{whole_unary};
 ghost use Rattle.list_operators.specs.Lists.{definitions_of};
 ghost use Rattle.native_function_call.specs.Apply.{of_int, test_lists, test, whole, real, compute, call};
@@ -83,12 +83,12 @@ fn whole1(op: Op, a: Value, values: &[i32]) -> i32
 
 // A result that is an Int.
 #[inline(always)]
-pub fn whole(op: Op, operands: Operands, lists: Lists<'_>) -> Result<i32, Question>
-    requires le_count { (1 ≤ operands.count) × (operands.count ≤ 2) }
-    requires formed { OperandsFormed item_numbers lists operands }
-    ensures { of_int (answer result) ≡ whole (op_number op) (operands_in lists.entry operands) }
+pub fn whole(op: Op, operands: Operands, values: &[i32]) -> Result<i32, Question>
+    requires le_count { (1 ≤ operands.count) × (operands.count ≤ 2) × (len_of operands.first ≤ item_numbers) }
+    requires values_in { OperandsHeld operands (length values.now) }
+    ensures { (is : List ℕ) → OperandsHeld operands (length is)
+        → of_int (answer result) ≡ whole (op_number op) (operands_with is values.now operands) }
 {
-    let values = lists.values;
     if operands.count == 1 {
         return Ok(whole1(op, operands.first, values));
     }
@@ -102,12 +102,12 @@ pub fn whole(op: Op, operands: Operands, lists: Lists<'_>) -> Result<i32, Questi
 // A result that is a Float.
 #[tactic(auto, unfolding(number_operators::specs::Numbers::real_unary))]
 #[inline(always)]
-pub fn real(op: Op, operands: Operands, lists: Lists<'_>) -> f32
+pub fn real(op: Op, operands: Operands, values: &[i32]) -> f32
     requires le_count { (1 ≤ operands.count) × (operands.count ≤ 2) }
-    requires formed { OperandsFormed item_numbers lists operands }
-    ensures { result ≡ real (op_number op) (operands_in lists.entry operands) }
+    requires values_in { OperandsHeld operands (length values.now) }
+    ensures { (is : List ℕ) → OperandsHeld operands (length is)
+        → result ≡ real (op_number op) (operands_with is values.now operands) }
 {
-    let values = lists.values;
     let x = operands.first.to_float(values);
     if operands.count == 1 {
         return number_operators::unary_float(op, x);
@@ -127,10 +127,10 @@ pub fn scalar(op: Op, kind: Kind, operands: Operands, lists: Lists<'_>) -> Resul
     match kind {
         Kind::Bool => Ok(Value::Bool(test(op, operands, lists))),
         Kind::Int => {
-            let z = whole(op, operands, lists)?;
+            let z = whole(op, operands, lists.values)?;
             Ok(Value::Int(z))
         }
-        Kind::Float => Ok(Value::Float(real(op, operands, lists))),
+        Kind::Float => Ok(Value::Float(real(op, operands, lists.values))),
         Kind::List | Kind::Void => Ok(Value::Void),
     }
 }

@@ -23,12 +23,13 @@ pub fn literal_count(p: &[u8]) -> usize
 }
 
 // The origin set of literal l.
-pub fn literal_origins(pack: SoundPack<'_>, l: usize) -> u64
-    requires l_bound { l < literal_count pack.bytes.now }
-    ensures { result ≡ (literal_of (decoded pack.entry.format pack.entry.bytes.now) l).origins }
+pub fn literal_origins(p: &[u8], l: usize, format: Format) -> u64
+    requires sound { Sound format p.now }
+    requires l_bound { l < literal_count p.now }
+    ensures { result ≡ (literal_of (decoded format p.now) l).origins }
 {
-    let at = offset(pack.bytes, byte_at(pack.bytes, 1) + l);
-    u64_at(pack.bytes, at)
+    let at = offset(p, byte_at(p, 1) + l);
+    u64_at(p, at)
 }
 
 // How many entries literal l has.

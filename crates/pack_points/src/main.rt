@@ -71,7 +71,7 @@ fn show_literal(pack: ShownPack<'_>, l: usize)
         bytes: pack.bytes,
         format: SHOWN_FORMAT,
     };
-    let origins = literal_origins(sound, l);
+    let origins = literal_origins(pack.bytes, l, SHOWN_FORMAT);
     let len = literal_len(sound, l);
     print(format_args!("; literal {origins:x} {len}"));
     let mut items = [0u16; SHOWN_FORMAT.limit];

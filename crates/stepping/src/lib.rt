@@ -81,7 +81,7 @@ fn push_literal(
         bytes: pack.bytes,
         format: pack.format,
     };
-    let origins = pack_literals::literal_origins(sound, l);
+    let origins = pack_literals::literal_origins(pack.bytes, l, pack.format);
     let len = pack_literals::read_literal(sound, l, work, start);
     let value = Value::List {
         origins,

@@ -4,28 +4,22 @@ use Prim.Native.Nat.{ℕ}
 use native.Mathlib.Omega.{arith}
 use Rattle.ink_number.proofs.Signed.{returned}
 use Rattle.slices.proofs.Lists.{ap2}
-use Rattle.ink_list.specs.Entries.{item_numbers}
 use Rattle.ink_value.specs.Value.{first_of}
-use Rattle.ink_value.proofs.Reading.{few_in}
 use Rattle.number_operators.specs.Numbers.{arith_z}
 use Rattle.native_function_call.specs.Apply.{of_int, whole}
 use Rattle.op.specs.Op.{op_number}
 use Rattle.native_function_call.proofs.whole.Goals as goal
 
 pub whole1-requires : goal.whole1-requires
-whole1-requires c =
-    let l = c.args.lists in
-    let f = c.requires.formed.one c.requires.le_count.0 in
-    (f.values_in, few_in item_numbers l.items.now l.values.now c.args.operands.first f)
+whole1-requires c = (c.requires.values_in.0, c.requires.le_count.2)
 
 pub returns : goal.returns
 returns c =
     let o = c.args.operands in
-    let is = c.args.lists.items.now in
-    let vs = c.args.lists.values.now in
+    let vs = c.args.values.now in
     let two : o.count ≡ 2 = omega (arith, c.if-operands-eq1.false, c.requires.le_count.0, c.requires.le_count.1) in
-    ap of_int (c.arith.ensures
+    λ is h. ap of_int (c.arith.ensures
     ∙ ap2 (arith_z (op_number c.args.op))
-    (returned c.to_int.type_inv ∙ c.to_int.ensures is (c.requires.formed.one c.requires.le_count.0).items_in)
-    (returned c.to_int-2.type_inv ∙ c.to_int-2.ensures is (c.requires.formed.two (omega (arith, two))).items_in))
+    (returned c.to_int.type_inv ∙ c.to_int.ensures is h.0)
+    (returned c.to_int-2.type_inv ∙ c.to_int-2.ensures is (h.1 two)))
     ∙ ap (λ (n : ℕ). whole (op_number c.args.op) (first_of is vs n o.first o.second o.third)) (sym two)
