@@ -20,7 +20,7 @@ pub fn ran(r: Result<Value, Stop>, answer: &mut [u64; 3]) -> u32
         }
         Err(stop) => {
             words_out::put_index(answer, stop.index);
-            u32::from(stop.question.number())
+            u32::from(u8::from(stop.question))
         }
     }
 }
@@ -36,7 +36,7 @@ pub fn vetted(v: Result<usize, Stop>, index: &mut u64) -> u32
         }
         Err(stop) => {
             *index = stop.index as u64;
-            u32::from(stop.question.number())
+            u32::from(u8::from(stop.question))
         }
     }
 }

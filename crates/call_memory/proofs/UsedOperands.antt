@@ -26,13 +26,6 @@ void_formed total d is vs = rw (le-leb 0 (length is) (omega arith), le-leb 0 (le
 abbrev pub kept : ℕ → Value → Value → Value → List Value
 kept n a b c = cond (ltb 0 n) a Is.Void ∷ cond (ltb 1 n) b Is.Void ∷ cond (ltb 2 n) c Is.Void ∷ []
 
-pub kept_take : (n : ℕ) (a b c : Value) → take n (kept n a b c) ≡ take n (a ∷ b ∷ c ∷ [])
-kept_take zero a b c = refl
-kept_take (suc zero) a b c = refl
-kept_take (suc (suc zero)) a b c = refl
-kept_take (suc (suc (suc n))) a b c =
-    rw (lt-ltb 0 (suc (suc (suc n))) (omega arith), lt-ltb 1 (suc (suc (suc n))) (omega arith), lt-ltb 2 (suc (suc (suc n))) (omega arith))
-
 pub kept_formed : (total d : ℕ) (is : List ℕ) (vs : List ℤ) (n : ℕ) (a b c : Value)
     → each_formed total d is vs (kept n a b c) ≡ each_formed total d is vs (take n (a ∷ b ∷ c ∷ []))
 unfolding ◌and◌

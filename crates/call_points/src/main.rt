@@ -82,7 +82,7 @@ fn call_lent(s: &[u8], pack: &[u8], lists: Lists<'_>) {
         items: &mut items[..256 - usize::from(short == 1)],
         values: &mut values[..256 - usize::from(1 < short)],
     };
-    let op = Op::numbered(byte(s, WHICH));
+    let op = Op::from(byte(s, WHICH));
     let r = calls::call(pack, op, operands(s), lists, &mut out);
     report(s, r, out.lists());
 }
@@ -116,14 +116,14 @@ fn cast(s: &[u8]) {
         items: &mut items,
         values: &mut values,
     };
-    let to = Kind::coded(byte(s, WHICH));
+    let to = Kind::from(byte(s, WHICH));
     let r = calls::cast(&PACK, to, operand(s, FIRST), LISTS, &mut out);
     report(s, r, out.lists());
 }
 
 // A conversion that has no result slices.
 fn coerce(s: &[u8]) {
-    let to = Kind::coded(byte(s, WHICH));
+    let to = Kind::from(byte(s, WHICH));
     let r = calls::coerce(&PACK, to, operand(s, FIRST), LISTS);
     print_name(s);
     show(r, LISTS);

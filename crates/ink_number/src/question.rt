@@ -24,11 +24,11 @@ pub enum Question {
     Conversion = 18,
 }
 
-impl Question {
-    // Its number, as hosts see it.
-    pub fn number(self) -> u8
-        ensures { result ≡ number self }
-    {
-        self as u8
+// Its number, as hosts see it.
+impl From<Question> for u8 {
+    ghost from_gives = { λ question n. n ≡ number question };
+
+    fn from(question: Question) -> u8 {
+        question as u8
     }
 }

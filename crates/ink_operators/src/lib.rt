@@ -2,17 +2,14 @@
 // a pointer. The header hosts/include/ink_operators.h says how values stand in words.
 #![tactic(auto)]
 
-ghost use Rattle.std.specs.Prelude.{◌≡◌, ◌≤◌};
-ghost use Rattle.ink_list.specs.Lists.{places};
+ghost use Rattle.std.specs.Prelude.{◌≡◌};
 ghost use Rattle.ink_number.specs.Question.{answer};
-ghost use Rattle.op.specs.Op.{op_number};
 ghost use Rattle.value_conversions.specs.Convert.{coerce_bool, coerce_int, coerce_float, coerce};
 ghost use Rattle.pack.specs.Format.{format1};
 ghost use Rattle.pack.specs.Judge.{judge};
 ghost use Rattle.pack.specs.Read.{PackLists};
 ghost use Rattle.value_words.specs.Calls.{number_of};
-ghost use Rattle.word_operators.specs.Operands.{OperandsOk};
-ghost use Rattle.word_operators.specs.Slices.{CallSays, CallSaysTo};
+ghost use Rattle.word_operators.specs.Slices.{CallSays};
 ghost use Rattle.definition_tables.specs.Tables.{Passed, Ready};
 ghost use Rattle.definition_tables.specs.Slices.{ReadsAny};
 ghost use Rattle.run_ready.specs.Work.{Clear};
@@ -123,7 +120,7 @@ pub extern "C" fn ink_call(
         items: result_items,
         values: result_values,
     };
-    let outcome = calls::call(pack, Op::numbered(op), used, lists, &mut out);
+    let outcome = calls::call(pack, Op::from(op), used, lists, &mut out);
     value_words::outcome(outcome, answer)
 }
 
@@ -148,7 +145,7 @@ pub extern "C" fn ink_cast(
         items: result_items,
         values: result_values,
     };
-    let outcome = calls::cast(pack, Kind::coded(code), v, lists, &mut out);
+    let outcome = calls::cast(pack, Kind::from(code), v, lists, &mut out);
     value_words::outcome(outcome, answer)
 }
 
@@ -277,28 +274,6 @@ pub extern "C" fn ink_run_checked(
     answer_words::ran(ran, answer)
 }
 
-// An operator on operands and result slices of which question 7 says yes. Numbers need no slice. Two exported functions end in it: a
-// call more is a third of what an Int operator takes.
-#[inline(always)]
-fn apply(
-    op: Op,
-    count: usize,
-    operands: &[u64; 9],
-    lists: Lists<'_>,
-    pack: PackDefinitions<'_>,
-    out: &mut EntriesMut<'_>,
-    answer: &mut [u64; 3],
-) -> u32
-    requires operands_ok { OperandsOk pack lists count operands.now }
-    requires room { pack.limit ≤ places out.old }
-    ensures { CallSaysTo pack.entry (op_number op) count operands lists.entry result answer out.old out.new }
-{
-    match word_kinds::number_kind(op, count, operands) {
-        Some(kind) => word_numbers::number(op, kind, count, operands, answer),
-        None => word_operators::apply(op, count, operands, lists, pack, out, answer),
-    }
-}
-
 // An operator with the definitions of a pack that has passed.
 #[tactic(auto, using(calls::proofs::Forms::yes_formed, calls::proofs::Forms::yes_room))]
 #[unsafe(no_mangle)]
@@ -334,26 +309,23 @@ pub extern "C" fn ink_call_checked(
         words_out::put_index(answer, 0);
         return value_words::number(Question::Memory);
     }
-    let pack = PackDefinitions {
-        tables: Definitions { ends, defined },
-        limit: FORMAT1.limit,
-    };
-    let mut out = EntriesMut {
-        items: result_items,
-        values: result_values,
-    };
-    apply(
-        Op::numbered(op),
+    ink_apply(
+        ends,
+        defined,
+        op,
         count,
         operands,
-        lists,
-        pack,
-        &mut out,
+        items,
+        values,
+        result_items,
+        result_values,
         answer,
     )
 }
 
-// The same on operands and result slices of which question 7 says yes.
+// The same on operands and result slices of which question 7 says yes. Numbers need no slice. `ink_call_checked` ends in it: a call more
+// is a third of what an Int operator takes.
+#[inline(always)]
 #[unsafe(no_mangle)]
 pub extern "C" fn ink_apply(
     ends: &[u16],
@@ -371,22 +343,20 @@ pub extern "C" fn ink_apply(
         result_items.old result_values.old }
     ensures { CallSays format1.limit ends defined op count operands items values result answer result_items result_values }
 {
-    let lists = Lists { items, values };
-    let pack = PackDefinitions {
-        tables: Definitions { ends, defined },
-        limit: FORMAT1.limit,
-    };
-    let mut out = EntriesMut {
-        items: result_items,
-        values: result_values,
-    };
-    apply(
-        Op::numbered(op),
-        count,
-        operands,
-        lists,
-        pack,
-        &mut out,
-        answer,
-    )
+    let op = Op::from(op);
+    match word_kinds::number_kind(op, count, operands) {
+        Some(kind) => word_numbers::number(op, kind, count, operands, answer),
+        None => {
+            let lists = Lists { items, values };
+            let pack = PackDefinitions {
+                tables: Definitions { ends, defined },
+                limit: FORMAT1.limit,
+            };
+            let mut out = EntriesMut {
+                items: result_items,
+                values: result_values,
+            };
+            word_operators::apply(op, count, operands, lists, pack, &mut out, answer)
+        }
+    }
 }

@@ -5,7 +5,7 @@ use Prim.Native.Nat.{ℕ, ◌+◌, ◌-◌, ◌≤◌}
 use native.Mathlib.Omega.{arith}
 use lib.IntN.{ℤ}
 use lib.ListN.{length, take, drop}
-use Rattle.ink_list.specs.Entries.{Entry, entries, Rising, Lent, Wrote, values}
+use Rattle.ink_list.specs.Entries.{Entry, Rising, Wrote, values}
 use Rattle.ink_value.specs.Val.{list, kind_of, code_of}
 use Rattle.ink_value.specs.Convert.{entries_of, origins_in}
 use Rattle.ink_value.specs.Value.{val_of, kind_in, start_of, len_of, set_in, held, Formed, FirstFormed, entries_at}
@@ -91,18 +91,6 @@ pub lends : {A : Type 0} (xs : List A) (i n : ℕ) (v : Value) → i ≡ start_o
 lends xs i n v p q =
     let e : i + n - i ≡ len_of v = omega arith in
     ap (λ (k : ℕ). take k (drop i xs)) e ∙ ap (λ (k : ℕ). take (len_of v) (drop k xs)) p
-
-module _ (limit : ℕ) (is : List ℕ) (vs : List ℤ) (i n : ℕ) (v : Value) (p : i ≡ start_of v) (q : n ≡ len_of v) where
-  pub lends_lent : Formed limit is vs v → Lent limit (take (i + n - i) (drop i is)) (take (i + n - i) (drop i vs))
-  lends_lent f = rw (lends is i n v p q, lends vs i n v p q) f.lent
-
-  pub lends_held : entries (take (i + n - i) (drop i is)) (take (i + n - i) (drop i vs)) ≡ held is vs v
-  lends_held = rw (lends is i n v p q, lends vs i n v p q)
-
-pub lends_few : (limit : ℕ) (is : List ℕ) (vs : List ℤ) (i n : ℕ) (v : Value) → i ≡ start_of v → n ≡ len_of v → Formed limit is vs v
-    → length (take (i + n - i) (drop i is)) ≤ limit
-lends_few limit is vs i n v p q f =
-    rw (lends is i n v p q) (omega (arith, length_part (start_of v) (len_of v) is f.items_in, few_in limit is vs v f))
 
 pub list_in : (is : List ℕ) (vs : List ℤ) (v : Value) → kind_in v ≡ K.List → val_of is vs v ≡ list (set_in v) (held is vs v)
 list_in is vs (Is.Bool b) e = absurd (omega (arith, ap code_of e))

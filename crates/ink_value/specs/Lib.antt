@@ -2,5 +2,4 @@
 pub mod Val
 pub mod Convert
 pub mod Value
-pub mod Slices
 pub mod Held

@@ -1,11 +1,11 @@
 // Values, and what they read as.
 #![tactic(auto)]
 
-ghost use Rattle.std.specs.Prelude.{◌≡◌, cond, List, ℕ, ◌≤◌, ◌+◌, ℤ, length};
-ghost use Rattle.ink_value.specs.Convert.{bit_z, as_int, as_float, truthy};
+ghost use Rattle.std.specs.Prelude.{◌≡◌, List, ℕ, ◌≤◌, ◌+◌, ℤ, length};
+ghost use Rattle.ink_value.specs.Convert.{as_int, as_float, truthy};
 ghost use Rattle.slices.specs.Filled.{part};
-ghost use Rattle.ink_value.specs.Value.{val_of, formed_in, kind_in, start_of, len_of, set_in, whole_in, real_in, number_of, of_parts, Stand};
-ghost use Rattle.ink_value.specs.Val.{code_of, kind_at, is_list};
+ghost use Rattle.ink_value.specs.Value.{val_of, formed_in, kind_in, start_of, len_of, set_in, Stand};
+ghost use Rattle.ink_value.specs.Val.{code_of, kind_at};
 ghost use Rattle.ink_value.specs.declared.Value.{Value};
 
 pub mod number_parts;
@@ -40,11 +40,11 @@ pub enum Kind {
     Void,
 }
 
-impl Kind {
-    // The kind with this code: Void with any from its own on.
-    pub fn coded(code: u8) -> Kind
-        ensures { result ≡ kind_at code }
-    {
+// The kind with this code: Void with any from its own on.
+impl From<u8> for Kind {
+    ghost from_gives = { λ code kind. kind ≡ kind_at code };
+
+    fn from(code: u8) -> Kind {
         match code {
             0 => Kind::Bool,
             1 => Kind::Int,
@@ -53,12 +53,14 @@ impl Kind {
             _ => Kind::Void,
         }
     }
+}
 
-    // Its code, as hosts see it.
-    pub fn code(self) -> u8
-        ensures { result ≡ code_of self }
-    {
-        self as u8
+// Its code, as hosts see it.
+impl From<Kind> for u8 {
+    ghost from_gives = { λ kind code. code ≡ code_of kind };
+
+    fn from(kind: Kind) -> u8 {
+        kind as u8
     }
 }
 
@@ -121,7 +123,7 @@ impl Value {
         ensures { (is : List ℕ) → start_of self + len_of self ≤ length is → result ≡ as_int (val_of is values.now self) }
     {
         match self {
-            Value::Bool(b) => bit(b),
+            Value::Bool(b) => i32::from(b),
             Value::Int(z) => z,
             Value::Float(x) => float_conversions::float_to_int(x),
             Value::List { start, len, .. } => {
@@ -178,10 +180,4 @@ impl Value {
         };
         cut.is_formed(self.origins_in(), counts)
     }
-}
-
-pub fn bit(b: bool) -> i32
-    ensures { result ≡ bit_z b }
-{
-    if b { 1 } else { 0 }
 }

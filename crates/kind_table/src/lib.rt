@@ -68,7 +68,7 @@ fn decoded(e: u8) -> Result<Kind, Question>
     ensures { (a : Answer Kind) → Listed a → e ≡ encoded a → answer result ≡ a }
 {
     match e {
-        0..5 => Ok(Kind::coded(e)),
+        0..5 => Ok(Kind::from(e)),
         8 => Err(Question::Operator),
         11 => Err(Question::Void),
         12 => Err(Question::Mixed),
@@ -87,8 +87,8 @@ impl KindTable {
         requires { op_number op < op_range }
         ensures { answer result ≡ kind_entry (op_number op) left right }
     {
-        let left = left.code() as usize;
-        let right = right.code() as usize;
-        decoded(self.rows[op.number()][left * 5 + right])
+        let left = usize::from(u8::from(left));
+        let right = usize::from(u8::from(right));
+        decoded(self.rows[usize::from(op)][left * 5 + right])
     }
 }

@@ -71,7 +71,7 @@ fn whole1(op: Op, a: Value, values: &[i32]) -> i32
 {
     match op {
         Op::Negate => int::wrapping_neg(a.to_int(values)),
-        Op::Not => ink_value::bit(!a.is_truthy()),
+        Op::Not => i32::from(!a.is_truthy()),
         Op::Floor | Op::Ceiling | Op::Int => a.to_int(values),
         Op::Count => a.len_of() as i32,
         Op::ValueOfList => a.to_int(values),

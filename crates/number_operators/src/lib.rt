@@ -103,7 +103,7 @@ pub fn number_whole1(op: Op, a: NumberParts) -> i32
 {
     match op {
         Op::Negate => int::wrapping_neg(a.to_int()),
-        Op::Not => ink_value::bit(!a.is_truthy()),
+        Op::Not => i32::from(!a.is_truthy()),
         Op::Floor | Op::Ceiling | Op::Int | Op::ValueOfList => a.to_int(),
         _ => 0,
     }

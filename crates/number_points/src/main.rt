@@ -123,7 +123,7 @@ fn print_divided(d: Result<i32, Question>) {
     match d {
         Ok(z) => print_int(z),
         Err(question) => {
-            let number = question.number();
+            let number = u8::from(question);
             print(format_args!(" R {number}"));
         }
     }

@@ -42,11 +42,11 @@ pub enum Op {
     Other(u8),
 }
 
-impl Op {
-    // The operator with this number.
-    pub fn numbered(n: u8) -> Op
-        ensures { op_number result ≡ n }
-    {
+// The operator with this number: each byte has one.
+impl From<u8> for Op {
+    ghost from_gives = { λ n op. op_number op ≡ n };
+
+    fn from(n: u8) -> Op {
         match n {
             0 => Op::Add,
             1 => Op::Subtract,
@@ -83,11 +83,14 @@ impl Op {
             _ => Op::Other(n - 32),
         }
     }
-    // Its number; no operator has one from 32 on.
-    pub fn number(self) -> usize
-        ensures { result ≡ op_number self }
-    {
-        match self {
+}
+
+// Its number; no operator has one from 32 on.
+impl From<Op> for usize {
+    ghost from_gives = { λ op n. n ≡ op_number op };
+
+    fn from(op: Op) -> usize {
+        match op {
             Op::Add => 0,
             Op::Subtract => 1,
             Op::Divide => 2,

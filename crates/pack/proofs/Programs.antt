@@ -66,7 +66,7 @@ finished L p n at l e = let q : some [] ≡ some l = sym (at_end L p n at) ∙ e
 
 -- ---- instruction k of a sheet, and the next
 
-dropped : (l r : List Instr) (i : Instr) (k : ℕ) → drop k l ≡ i ∷ r → (k < length l) × (get_or l k (push push_void) ≡ i) × (drop (k + 1) l ≡ r)
+pub dropped : (l r : List Instr) (i : Instr) (k : ℕ) → drop k l ≡ i ∷ r → (k < length l) × (get_or l k (push push_void) ≡ i) × (drop (k + 1) l ≡ r)
 dropped l r i k e =
     let short : length l - k ≡ suc (length r) = sym (length-drop k l) ∙ ap length e in
     let below : k < length l = omega arith in

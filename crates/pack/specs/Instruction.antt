@@ -97,3 +97,8 @@ Allowed L (push (push_float n)) = Unit {0}
 Allowed L (push (push_list l)) = l < L
 Allowed L (push (push_slot s)) = s < slot_limit
 Allowed L (push push_void) = Unit {0}
+
+-- of each instruction
+abbrev pub EachAllowed : ℕ → Core.List.List Instr → Type 0
+EachAllowed L [] = Unit {0}
+EachAllowed L (i ∷ l) = Allowed L i × EachAllowed L l

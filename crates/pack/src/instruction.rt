@@ -50,7 +50,7 @@ pub fn read_instruction(p: &[u8], at: usize) -> Instruction
         LIST => Instruction::List(p[at + 1]),
         SLOT => Instruction::Slot(p[at + 1]),
         VOID => Instruction::Void,
-        code => Instruction::Op(Op::numbered(code)),
+        code => Instruction::Op(Op::from(code)),
     }
 }
 

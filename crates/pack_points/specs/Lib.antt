@@ -1,3 +1,2 @@
 -- What is known of a pack that is shown.
 pub mod Passed
-pub mod Left

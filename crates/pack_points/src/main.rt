@@ -4,20 +4,18 @@
 // Values and Floats are printed as their bits, in hexadecimal.
 #![tactic(auto)]
 
-mod instructions;
-
 ghost use Rattle.std.specs.Prelude.{◌≡◌, ◌<◌, ◌≤◌, length};
 ghost use Rattle.pack.specs.Contents.{literal_count, sheet_count};
 ghost use Rattle.pack.specs.Read.{program};
 ghost use Rattle.pack_points.specs.Passed.{Passed};
 
 use ink_list::entries_mut::EntriesMut;
-use instructions::instructions_of;
 use named_packs::NamedPacks;
 use pack::format::Format;
 use pack::instruction::Instruction;
 use pack_check::format::{DEFINITION_LIMIT, FORMAT1};
 use pack_literals::{literal_count, literal_len, literal_origins, read_literal};
+use pack_read::instructions::instructions_of;
 use pack_read::{read_definitions, sheet_count};
 use test_output::{bytes, print, println};
 
@@ -81,7 +79,7 @@ fn show_literals(p: &[u8])
 fn show_instruction(i: Instruction) {
     match i {
         Instruction::Op(op) => {
-            let n = op.number();
+            let n = usize::from(op);
             print(format_args!(" op {n}"));
         }
         Instruction::Bool(b) => {
@@ -139,7 +137,7 @@ fn report(p: &[u8]) {
     match pack_check::check(p) {
         Ok(()) => show(p),
         Err(question) => {
-            let number = question.number();
+            let number = u8::from(question);
             print(format_args!(" {number}"));
         }
     }

@@ -1,2 +1,3 @@
 -- The words of the readers' contracts.
 pub mod Slices
+pub mod Left

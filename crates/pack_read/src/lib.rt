@@ -13,6 +13,9 @@ ghost use Rattle.pack.specs.Read.{SheetSpan};
 ghost use Rattle.pack_read.specs.Slices.{TabledIn};
 
 use ink_list::well_formed::Counts;
+
+pub mod instructions;
+
 use pack::bytes::{byte_at, i32_at};
 use pack::contents::{offset, size};
 use pack::format::Format;

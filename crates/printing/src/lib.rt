@@ -59,6 +59,6 @@ impl fmt::Display for Refused {
     ghost output = { λ r. Some (refused (number r.0)) };
 
     fn fmt<W: fmt::Write>(&self, f: &mut fmt::Formatter<W>) -> fmt::Result {
-        write!(f, " R {}", self.0.number())
+        write!(f, " R {}", u8::from(self.0))
     }
 }

@@ -3,7 +3,7 @@
 use mathlib.Core.Path.{◌≡◌, refl, sym, ap, ap₂, ◌∙◌, subst}
 use mathlib.Core.Logic.{inl, inr, ⊎_elim}
 use mathlib.Core.Bool.{false}
-use mathlib.Core.List.{List, ◌∷◌}
+use mathlib.Core.List.{List, [], ◌∷◌}
 use Prim.Native.Nat.{ℕ, zero, suc, ◌+◌, ◌-◌, ◌*◌, ◌≤◌, ◌<◌}
 use native.Mathlib.Nat.{suc-mul, mul-le-mul_right}
 use native.Mathlib.Omega.{arith}
@@ -30,12 +30,11 @@ use Rattle.native_function_call.specs.Apply.{apply_op}
 use Rattle.pack.specs.Bodies.{decoded}
 use Rattle.pack.specs.Format.{slot_limit}
 use Rattle.pack.specs.declared.format.Format.{Format}
-use Rattle.pack.specs.Instruction.{Instr, op, push, push_bool, push_int, push_float, push_list, push_slot, push_void, width, Allowed, instr_of}
+use Rattle.pack.specs.Instruction.{Instr, op, push, push_bool, push_int, push_float, push_list, push_slot, push_void, Allowed, instr_of}
 use Rattle.pack.specs.declared.instruction.Instruction.{Instruction}
 use Rattle.pack.specs.declared.instruction.Instruction.TheVariants as I
 use Rattle.op.specs.declared.Op.{Op}
-use Rattle.pack.specs.Read.{program, sheet_end, literal_of, Standing, Reads}
-use Rattle.pack.proofs.Programs.{last_of}
+use Rattle.pack.specs.Read.{program, literal_of}
 use Rattle.stepping.specs.Steps.{Grown, TopOperands, IfOp, IfSlot, SlotIs}
 use Rattle.running.specs.Work.{Touched, Longest, Topmost}
 use Rattle.machine.specs.Machine.{Run, ended, stopped, stack_limit, finish, onward, step, run_from, value_pushed, run}
@@ -233,10 +232,9 @@ abbrev pub value_on : List ℕ → List ℤ → List Value → ℕ → Val
 value_on wi wv stack q = val_of wi wv (get_or stack q (Is.Bool false))
 
 pub record Working (F : Format) (p : List ℕ) (s : ℕ) (u : ListDefinitions) (slots : List Val) (wi₀ : List ℕ) (wv₀ : List ℤ) (used wi : List ℕ) (wv : List ℤ) (stack : List Value)
-    (n at i : ℕ) : Type 0 where
+    (n i : ℕ) : Type 0 where
   pub end_same : (run_from (value_pushed (literal_of (decoded F p)) slots) (apply_op u) i (drop i (program p s)) (stack_of (value_on wi wv stack) n)).end
       ≡ (run u (program p s) (literal_of (decoded F p)) slots).end
-  pub standing : Standing p s i at
   pub depth : n ≤ stack_limit
   pub formed : (q : ℕ) → q < n → Formed F.limit wi wv (get_or stack q (Is.Bool false))
   pub ends_in : (q : ℕ) → q < n → start_of (get_or stack q (Is.Bool false)) + len_of (get_or stack q (Is.Bool false)) ≤ start_at F q + F.limit
@@ -252,12 +250,11 @@ none_used q =
     (λ h. get_or-eq_default {A = ℕ} (replicate stack_limit 0) 0 {n = q} (omega (arith, length-replicate {A = ℕ} stack_limit 0)))
     (lt_or_le q stack_limit)
 
-pub begin : {F : Format} (p : List ℕ) (s : ℕ) (u : ListDefinitions) (slots : List Val) (wi : List ℕ) (wv : List ℤ) (used : List ℕ) (stack : List Value) (at : ℕ)
-    → Standing p s 0 at → length stack ≡ stack_limit → used ≡ replicate stack_limit 0 → Working F p s u slots wi wv used wi wv stack 0 at 0
-begin {F} p s u slots wi wv used stack at h l e =
+pub begin : {F : Format} (p : List ℕ) (s : ℕ) (u : ListDefinitions) (slots : List Val) (wi : List ℕ) (wv : List ℤ) (used : List ℕ) (stack : List Value)
+    → length stack ≡ stack_limit → used ≡ replicate stack_limit 0 → Working F p s u slots wi wv used wi wv stack 0 0
+begin {F} p s u slots wi wv used stack l e =
     record {
       end_same = refl;
-      standing = h;
       depth = omega arith;
       formed = λ q k. absurd (omega arith);
       ends_in = λ q k. absurd (omega arith);
@@ -269,7 +266,7 @@ begin {F} p s u slots wi wv used stack at h l e =
     }
 
 module _ {F : Format} {p : List ℕ} {s : ℕ} {u : ListDefinitions} {slots : List Val} {wi₀ : List ℕ} {wv₀ : List ℤ} {used wi : List ℕ} {wv : List ℤ}
-    {stack : List Value} {n at i : ℕ} (g : Working F p s u slots wi₀ wv₀ used wi wv stack n at i) where
+    {stack : List Value} {n i : ℕ} (g : Working F p s u slots wi₀ wv₀ used wi wv stack n i) where
   -- an operator's operands, read at their places
   module _ (count : ℕ) (o : Operands) (t : Topmost stack n count o) where
     are : TopOperands wi wv o.first o.second o.third n o.count (value_on wi wv stack)
@@ -302,7 +299,7 @@ module _ {F : Format} {p : List ℕ} {s : ℕ} {u : ListDefinitions} {slots : Li
   roomy r = record { format = r.format; items_room = omega (arith, r.items_room, g.items_touched.long); values_room = omega (arith, r.values_room, g.values_touched.long) }
 
   -- an instruction that is completed
-  module _ (instr : Instr) (r : Reads p at instr) (more : at < sheet_end p s) (m : ℕ) (v : Value) (wi' : List ℕ) (wv' : List ℤ) (used' : List ℕ)
+  module _ (instr : Instr) (below : i < length (program p s)) (kth : get_or (program p s) i (push push_void) ≡ instr) (m : ℕ) (v : Value) (wi' : List ℕ) (wv' : List ℤ) (used' : List ℕ)
       (room : Roomy F wi₀ wv₀)
       (w : Grown F n (step (value_pushed (literal_of (decoded F p)) slots) (apply_op u) instr (stack_of (value_on wi wv stack) n)) (value_on wi wv stack) m v wi wi' wv wv')
       (k : Longest used used' m (len_of v)) where
@@ -368,23 +365,19 @@ module _ {F : Format} {p : List ℕ} {s : ℕ} {u : ListDefinitions} {slots : Li
     len_is : len_of v ≡ length (entries_of w.value)
     len_is = ap len_of w.put.value_is ∙ placed_long (start_at F m) w.value
 
-    kth : get_or (program p s) i (push push_void) ≡ instr
-    kth = (r.each s i g.standing more).kth
-
     rest_is : run_from (value_pushed (literal_of (decoded F p)) slots) (apply_op u) i (drop i (program p s)) (stack_of (value_on wi wv stack) n)
         ≡ onward i (gives (w.value ∷ stack_of (value_on wi wv stack) m))
         (run_from (value_pushed (literal_of (decoded F p)) slots) (apply_op u) (i + 1) (drop (i + 1) (program p s)))
     rest_is =
         run_more (value_pushed (literal_of (decoded F p)) slots) (apply_op u) (program p s) i (stack_of (value_on wi wv stack) n) _
-        (r.each s i g.standing more).below (rw kth w.given)
+        below (rw kth w.given)
 
-    pub advance : Working F p s u slots wi₀ wv₀ used' wi' wv' stack' (m + 1) (at + width instr) (i + 1)
+    pub advance : Working F p s u slots wi₀ wv₀ used' wi' wv' stack' (m + 1) (i + 1)
     advance =
         record {
           end_same =
               ap (λ (st : List Val). (run_from (value_pushed (literal_of (decoded F p)) slots) (apply_op u) (i + 1) (drop (i + 1) (program p s)) st).end) top_is
               ∙ sym (ap (λ (z : Run Val). z.end) rest_is) ∙ g.end_same;
-          standing = (r.each s i g.standing more).next;
           depth = omega (arith, w.depth);
           formed = all_formed_lem;
           ends_in = all_end;
@@ -402,22 +395,22 @@ module _ {F : Format} {p : List ℕ} {s : ℕ} {u : ListDefinitions} {slots : Li
         }
 
   -- an instruction that is refused
-  pub refused : (instr : Instr) (r : Reads p at instr) → at < sheet_end p s → (q : ℕ)
+  pub refused : (instr : Instr) → i < length (program p s) → get_or (program p s) i (push push_void) ≡ instr → (q : ℕ)
       → step (value_pushed (literal_of (decoded F p)) slots) (apply_op u) instr (stack_of (value_on wi wv stack) n) ≡ refuses q
       → stopped q i ≡ (run u (program p s) (literal_of (decoded F p)) slots).end
-  refused instr r more q e =
+  refused instr below kth q e =
       sym (run_stop (value_pushed (literal_of (decoded F p)) slots) (apply_op u) (program p s) i q (stack_of (value_on wi wv stack) n)
-      (r.each s i g.standing more).below (rw (r.each s i g.standing more).kth e))
+      below (rw kth e))
       ∙ g.end_same
 
   -- after the last
-  end_is : sheet_end p s ≤ at → (run u (program p s) (literal_of (decoded F p)) slots).end ≡ finish i (stack_of (value_on wi wv stack) n)
+  end_is : drop i (program p s) ≡ [] → (run u (program p s) (literal_of (decoded F p)) slots).end ≡ finish i (stack_of (value_on wi wv stack) n)
   end_is h =
       sym g.end_same
       ∙ ap (λ (z : Run Val). z.end)
-      (run_done (value_pushed (literal_of (decoded F p)) slots) (apply_op u) (program p s) i (stack_of (value_on wi wv stack) n) (last_of p s i at g.standing h))
+      (run_done (value_pushed (literal_of (decoded F p)) slots) (apply_op u) (program p s) i (stack_of (value_on wi wv stack) n) h)
 
-  pub one_left : sheet_end p s ≤ at → n ≡ 1 → ended (value_on wi wv stack 0) ≡ (run u (program p s) (literal_of (decoded F p)) slots).end
+  pub one_left : drop i (program p s) ≡ [] → n ≡ 1 → ended (value_on wi wv stack 0) ≡ (run u (program p s) (literal_of (decoded F p)) slots).end
   one_left h e = sym (end_is h ∙ ap (λ (m : ℕ). finish i (stack_of (value_on wi wv stack) m)) e)
 
   finish_not_one : (m : ℕ) → (m ≡ 1 → ⊥) → finish i (stack_of (value_on wi wv stack) m) ≡ stopped 17 i
@@ -425,15 +418,5 @@ module _ {F : Format} {p : List ℕ} {s : ℕ} {u : ListDefinitions} {slots : Li
   finish_not_one (suc zero) h = absurd (h refl)
   finish_not_one (suc (suc m)) h = refl
 
-  pub not_one : sheet_end p s ≤ at → (n ≡ 1 → ⊥) → stopped 17 i ≡ (run u (program p s) (literal_of (decoded F p)) slots).end
+  pub not_one : drop i (program p s) ≡ [] → (n ≡ 1 → ⊥) → stopped 17 i ≡ (run u (program p s) (literal_of (decoded F p)) slots).end
   not_one h e = sym (end_is h ∙ finish_not_one n e)
-
--- an instruction takes a byte at least
-pub width_some : (i : Instr) → 1 ≤ width i
-width_some (op n) = omega arith
-width_some (push (push_bool b)) = omega arith
-width_some (push (push_int z)) = omega arith
-width_some (push (push_float n)) = omega arith
-width_some (push (push_list l)) = omega arith
-width_some (push (push_slot s)) = omega arith
-width_some (push push_void) = omega arith

@@ -22,6 +22,7 @@ use ink_value::slots::Slots;
 use machine::{STACK_LIMIT, Stop};
 use pack::instruction::Instruction;
 use pack::passed::PassedPack;
+use pack_read::instructions::instructions_of;
 
 // How many operands an instruction takes: a push takes none.
 #[tactic(auto, using(crate::proofs::Working::op_told, crate::proofs::Working::no_op))]
@@ -89,7 +90,6 @@ fn operands_on(stack: &[Value; STACK_LIMIT], n: usize, count: usize) -> Operands
 }
 
 // Works a sheet's instructions in order. A List that is left stands in the work slices.
-// Where the next instruction stands is known once this one is read, and the stack grows with it: the loop counts by hand.
 pub fn work(
     pack: PassedPack<'_, '_>,
     sheet: usize,
@@ -102,15 +102,10 @@ pub fn work(
     requires roomy { Roomy pack.format work.old.items.now work.old.values.now }
     ensures { WorkedIn pack.entry.format (work_in pack.entry sheet (slot_values slots.now)) result used work.old work.new }
 {
-    let span = pack_read::sheet_span(pack.bytes, sheet);
-    let end = span.end;
-    let mut at = span.start;
     let mut stack = [Value::Void; STACK_LIMIT];
     let mut n: usize = 0;
     let mut i: usize = 0;
-    // The next instruction starts where this one's width ends.
-    while at < end {
-        let instruction = pack::instruction::read_instruction(pack.bytes, at);
+    for instruction in instructions_of(pack.bytes, sheet) {
         let k = slot_place(instruction);
         let slot = slots.values[k];
         let operands = operands_on(&stack, n, operand_count(instruction));
@@ -119,7 +114,6 @@ pub fn work(
                 keep_longest(used, top.place, top.value.len_of());
                 stack[top.place] = top.value;
                 n = top.place + 1;
-                at += pack::instruction::instruction_width(instruction);
                 i += 1;
             }
             Err(question) => return Err(Stop { question, index: i }),

@@ -5,7 +5,7 @@ use mathlib.Core.Path.{◌≡◌, refl, sym, ap, ◌∙◌, subst}
 use mathlib.Core.List.{List, [], ◌∷◌, ◌++◌, append_assoc, append-nil}
 use native.Mathlib.Nat.{zero-add, add-zero}
 use native.Mathlib.Omega.{arith}
-use lib.ListN.{length, take, drop, set, get_or, replicate, length-append, length-drop, length-replicate, get_or-replicate, get_or-append, take-append-drop, replicate-append-replicate}
+use lib.ListN.{length, take, drop, set, get_or, replicate, length-append, length-drop, length-replicate, get_or-replicate, get_or-append, take-append-drop}
 use lib.Seq.{length-take-le, set_at, take_at, drop_at, drop-cons, append_snoc, drop-drop, drop-length, take-append-le, drop-append-le, get_or-append-add, get_or-take, get_or-drop, ext_get_or}
 use Rattle.slices.specs.Every.{table}
 use Rattle.slices.specs.Filled.{part, Outside, fill, over}
@@ -173,17 +173,3 @@ module _ {A : Type 0} (at : ℕ) (xs l : List A) (fits : at + length xs ≤ leng
       ∙ ap (λ (i : ℕ). get_or (take at l ++ (xs ++ drop (at + length xs) l)) (i + k) d) (sym front)
       ∙ get_or-append-add (take at l) (xs ++ drop (at + length xs) l) k d
       ∙ get_or-append xs (drop (at + length xs) l) d k h
-
--- a loop that fills with one value: none, and one more
-module _ {A : Type 0} (from : ℕ) (z : A) (l₀ : List A) where
-  pub same_none : l₀ ≡ fill from (replicate 0 z) l₀
-  same_none = sym (fill_nothing from l₀)
-
-  pub same_long : (k : ℕ) (l : List A) → l ≡ fill from (replicate k z) l₀ → from + k ≤ length l₀ → length l ≡ length l₀
-  same_long k l e h = rw e (length_fill from (replicate k z) l₀ (rw (length-replicate k z) h))
-
-  pub same_more : (k : ℕ) (l : List A) → l ≡ fill from (replicate k z) l₀ → from + k < length l₀ → set l (from + k) z ≡ fill from (replicate (k + 1) z) l₀
-  same_more k l e h =
-      rw (e, ← replicate-append-replicate k 1 z)
-      (subst (λ (i : ℕ). set (fill from (replicate k z) l₀) (from + i) z ≡ fill from (replicate k z ++ (z ∷ [])) l₀) (length-replicate k z)
-      (fill_set from (replicate k z) l₀ z z (rw (length-replicate k z) h)))

@@ -12,7 +12,7 @@ ghost use Rattle.value_conversions.specs.Convert.{castable, converted, cast, coe
 use ink_list::entries_mut::EntriesMut;
 use ink_list::lists::Lists;
 use ink_number::question::Question;
-use ink_value::{Kind, Value, bit};
+use ink_value::{Kind, Value};
 
 // Question 18 of `cast`.
 #[tactic(auto, unfolding(crate::specs::Convert::castable))]
@@ -75,7 +75,7 @@ pub fn cast(
 
 // Bool and Int only, and only Int 1 is true.
 #[tactic(auto, unfolding(crate::specs::Convert::coerce_bool))]
-fn coerce_to_bool(v: Value) -> Result<Value, Question>
+pub fn coerce_to_bool(v: Value) -> Result<Value, Question>
     ensures { (is : List ℕ) (vs : List ℤ) → answer result ≡ placed (coerce_bool (val_of is vs v)) }
 {
     match v {
@@ -86,11 +86,11 @@ fn coerce_to_bool(v: Value) -> Result<Value, Question>
 }
 
 #[tactic(auto, unfolding(crate::specs::Convert::coerce_int))]
-fn coerce_to_int(v: Value) -> Result<Value, Question>
+pub fn coerce_to_int(v: Value) -> Result<Value, Question>
     ensures { (is : List ℕ) (vs : List ℤ) → answer result ≡ placed (coerce_int (val_of is vs v)) }
 {
     match v {
-        Value::Bool(b) => Ok(Value::Int(bit(b))),
+        Value::Bool(b) => Ok(Value::Int(i32::from(b))),
         Value::Int(z) => Ok(Value::Int(z)),
         Value::Float(x) => Ok(Value::Int(float_conversions::float_to_int(x))),
         Value::List { .. } | Value::Void => Err(Question::Conversion),
@@ -98,11 +98,11 @@ fn coerce_to_int(v: Value) -> Result<Value, Question>
 }
 
 #[tactic(auto, unfolding(crate::specs::Convert::coerce_float))]
-fn coerce_to_float(v: Value) -> Result<Value, Question>
+pub fn coerce_to_float(v: Value) -> Result<Value, Question>
     ensures { (is : List ℕ) (vs : List ℤ) → answer result ≡ placed (coerce_float (val_of is vs v)) }
 {
     match v {
-        Value::Bool(b) => Ok(Value::Float(float_conversions::int_to_float(bit(b)))),
+        Value::Bool(b) => Ok(Value::Float(float_conversions::int_to_float(i32::from(b)))),
         Value::Int(z) => Ok(Value::Float(float_conversions::int_to_float(z))),
         Value::Float(x) => Ok(Value::Float(x)),
         Value::List { .. } | Value::Void => Err(Question::Conversion),

@@ -12,7 +12,7 @@ use ink_value::Value;
 pub fn number(question: Question) -> u32
     ensures { result ≡ number question }
 {
-    u32::from(question.number())
+    u32::from(u8::from(question))
 }
 
 // A direct call's or a conversion's answer.

@@ -11,6 +11,7 @@ use ink_number::question::Question;
 use ink_value::Kind;
 use kind_table::KindTable;
 use machine::Stop;
+use pack_read::instructions::instructions_of;
 
 // A sheet of a pack that has passed, its forecast written to an array: how many instructions it has, or where vetting stops.
 #[tactic(auto, using(crate::proofs::Going::none_left, crate::proofs::Going::ends_one, crate::proofs::Going::ends_other, crate::proofs::Going::no_stacks))]
@@ -25,24 +26,17 @@ pub fn vet_into(
     requires out_len { length out.old ≡ 2048 }
     ensures { ForecastsIn (program pack.now sheet) kinds result out }
 {
-    let span = pack_read::sheet_span(pack, sheet);
-    let end = span.end;
-    let mut at = span.start;
     let mut stack = [Kind::Void; 64];
     let mut n: usize = 0;
     let mut i: usize = 0;
-    // The next instruction starts where this one's width ends.
-    while at < end {
-        let instruction = pack::instruction::read_instruction(pack, at);
-        let width = pack::instruction::instruction_width(instruction);
+    for instruction in instructions_of(pack, sheet) {
         let step = vet_steps::vet_step(instruction, kinds, table, &stack, n);
         match step {
             Ok(top) => {
                 stack[top.place] = top.value;
                 n = top.place + 1;
                 out[2 * i] = n as u8;
-                out[2 * i + 1] = top.value.code();
-                at += width;
+                out[2 * i + 1] = u8::from(top.value);
                 i += 1;
             }
             Err(question) => return Err(Stop { question, index: i }),

@@ -29,7 +29,7 @@ fn are_codes(codes: &[u8; 16]) -> bool
 fn kinds_of(codes: &[u8; 16]) -> [Kind; 16]
     ensures { result ≡ map kind_at codes.now }
 {
-    std::array::from_fn(|k| Kind::coded(codes[k]))
+    std::array::from_fn(|k| Kind::from(codes[k]))
 }
 
 // A sheet of a pack that has passed, where question 7 says yes.

@@ -17,6 +17,7 @@ use Rattle.ink_number.specs.declared.question.Question.{Question}
 use Rattle.ink_number.specs.Int.{signed}
 use Rattle.binary32.specs.Real.{of_bits32}
 use Rattle.ink_number.specs.Answer.{gives, refuses}
+use Rattle.ink_value.proofs.Parts.{Holds}
 use Rattle.ink_value.specs.Convert.{bit_z}
 use Rattle.ink_value.specs.Val.{kind_of, kind_at, code_of, is_list}
 use Rattle.ink_value.specs.declared.Kind.{Kind}
@@ -33,14 +34,6 @@ use Rattle.operator_kinds.proofs.Counting.{takes, none_taken, miscounted, below_
 use Rattle.word_kinds.specs.Operands.{kind_word, is_number, numbers, kind_given, number_kind, Held, OfNumbers, NumberKind, vals_at}
 
 -- ---- the parts of a number that is held
-
--- the number that a value holds is z or x, by its kind
-abbrev pub Holds : Value → ℤ → Float → Type 0
-Holds (Is.Bool b) z x = z ≡ bit_z b
-Holds (Is.Int y) z x = z ≡ y
-Holds (Is.Float y) z x = x ≡ y
-Holds (Is.List o s n) z x = Unit {0}
-Holds Is.Void z x = Unit {0}
 
 -- the parts are this value's: its kind, and the number that it holds
 pub record Parts (v : Value) (p : NumberParts) : Type 0 where

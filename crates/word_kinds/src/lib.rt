@@ -14,7 +14,7 @@ pub fn code_in(w: u64) -> Kind
     ensures { result ≡ kind_at w }
 {
     if w < 4 {
-        Kind::coded(w as u8)
+        Kind::from(w as u8)
     } else {
         Kind::Void
     }

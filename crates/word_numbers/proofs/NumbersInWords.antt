@@ -9,7 +9,7 @@ use lib.IntN.{ℤ}
 use lib.Ieee.{Float}
 use lib.ListN.{get_or, take}
 use Rattle.slices.proofs.Lists.{ap2}
-use Rattle.ink_number.specs.Answer.{Answer, gives}
+use Rattle.ink_number.specs.Answer.{gives}
 use Rattle.ink_number.specs.Int.{truthy_z}
 use Rattle.ink_value.specs.Convert.{bit_z, as_int, as_float, truthy}
 use Rattle.ink_value.specs.Held.{number_in}

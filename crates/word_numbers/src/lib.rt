@@ -12,7 +12,6 @@ use ink_value::{Kind, Value};
 use op::Op;
 
 // The number that operand k is, in parts: the Int and the Float are what its second word holds.
-#[inline(always)]
 fn number_at(operands: &[u64; 9], k: usize) -> NumberParts
     requires { k < 3 }
     ensures { result ≡ number_at operands.now k }

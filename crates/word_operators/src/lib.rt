@@ -36,7 +36,7 @@ fn scalar(
 }
 
 // Questions 8, 10 to 13 and 15 of operands of which question 7 says yes, and the result.
-#[tactic(auto, using(crate::proofs::Called::first, crate::proofs::Called::first_numbered))]
+#[tactic(auto, using(call_memory::proofs::UsedOperands::first_of_lem))]
 pub fn apply(
     op: Op,
     count: usize,

@@ -154,7 +154,8 @@ fn value_at<const N: usize>(words: &[u64; N], k: usize) -> Value
     value_of(words[3 * k], words[3 * k + 1], words[3 * k + 2])
 }
 
-// Three operands, of which the first `count` are used.
+// Three operands, of which the first `count` are used. As a call it would write all three to memory, of which most callers read two.
+#[inline(always)]
 pub fn operands_at(count: usize, words: &[u64; 9]) -> Operands
     ensures { result ≡ operands_at count words.now }
 {

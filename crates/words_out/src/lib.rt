@@ -11,7 +11,7 @@ use words_in::HALF;
 fn put(words: &mut [u64; 3], kind: Kind, w: u64, place: u64)
     ensures { words.new ≡ code_of kind ∷ w ∷ place ∷ [] }
 {
-    *words = [u64::from(kind.code()), w, place];
+    *words = [u64::from(u8::from(kind)), w, place];
 }
 
 // An index in an answer's words.

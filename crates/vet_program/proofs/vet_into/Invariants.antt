@@ -1,16 +1,15 @@
 -- `vet_program::vet_into` meets its contract. The invariant (proofs/Going.antt): what is left of vetting from the stack as it stands is the end of
--- vetting the sheet, and the bytes written are the forecast of the instructions passed. The measure is what is left of the sheet's bytes.
--- Assumes nothing.
+-- vetting the sheet, and the bytes written are the forecast of the instructions passed. Assumes nothing.
 use mathlib.Core.Path.{◌≡◌}
-use Prim.Native.Nat.{◌-◌, ◌≤◌}
-use lib.ListN.{length}
-use Rattle.pack.specs.Read.{program, sheet_end, Standing}
+use lib.ListN.{drop}
+use Rattle.pack.specs.Contents.{literal_count}
+use Rattle.pack.specs.Instruction.{EachAllowed}
+use Rattle.pack.specs.Read.{program}
 use Rattle.vet_program.proofs.Going.{Going}
 use Rattle.vet_program.proofs.vet_into.Given as goal
 
-abbrev pub invariant-loop-at : goal.invariant-loop-at
-invariant-loop-at l =
-    Going (program l.pack l.sheet) l.kinds l.out l.stack l.n l.i × Standing l.pack l.sheet l.i l.at × (l.end ≡ sheet_end l.pack l.sheet) × (l.end ≤ length l.pack)
-
-abbrev pub decreases-loop-at : goal.decreases-loop-at
-decreases-loop-at l = l.end - l.at
+abbrev pub invariant-loop-instruction : goal.invariant-loop-instruction
+invariant-loop-instruction l =
+    Going (program l.pack l.sheet) l.kinds l.out l.stack l.n l.i
+    × (l.instruction-iterator ≡ drop l.i (program l.pack l.sheet))
+    × EachAllowed (literal_count l.pack) l.instruction-iterator

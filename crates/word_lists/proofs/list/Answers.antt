@@ -24,5 +24,7 @@ put_value-requires c =
 
 pub returns : goal.returns
 returns c =
+    let a = c.args in
     let g = rw c.operands_at-used.ensures at c.list-v.ensures in
-    (calls _ _ _ _ _ _ _ _ _ refl g.0 (refl, c.put_value.ensures), g.1)
+    let r = gives (list_result (definitions_of a.pack) (op_number a.op) (operands_in a.lists (operands_at a.count a.operands.now))) in
+    (calls r r _ _ _ _ _ _ _ refl g.0 (refl, c.put_value.ensures), g.1)

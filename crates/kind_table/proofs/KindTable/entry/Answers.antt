@@ -8,4 +8,4 @@ pub returns : goal.returns
 returns c =
     let a = c.args in
     c.decoded.ensures (kind_entry (op_number a.op) a.left a.right) (entry_listed (op_number a.op) a.left a.right)
-    (rw (c.number.ensures, c.code-left.ensures, c.code-right.ensures) (entry_is a.self.now.rows (op_number a.op) a.left a.right a.self.now.right c.requires))
+    (rw (c.from-3.ensures, c.from-left.ensures, c.from.ensures, c.from-right.ensures, c.from-2.ensures) (entry_is a.self.now.rows (op_number a.op) a.left a.right a.self.now.right c.requires))

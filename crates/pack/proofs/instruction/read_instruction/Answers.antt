@@ -91,4 +91,4 @@ pub returns-in_default : goal.returns-in_default
 returns-in_default c =
     let p = c.args.p.now in
     let high = known c.requires in
-    rw c.numbered.ensures (reads p c.args.at _ (is_op (literal_count p) p c.args.at (omega arith)))
+    rw c.from.ensures (reads p c.args.at _ (is_op (literal_count p) p c.args.at (omega arith)))

@@ -1,7 +1,7 @@
--- `pack_points::instructions::InstructionsIterator::next` gives the instruction that stands next, and none at the end. Assumes nothing.
+-- `pack_read::instructions::InstructionsIterator::next` gives the instruction that stands next, and none at the end. Assumes nothing.
 use Rattle.std.proofs.Common.{arith, rules}
 use Rattle.pack.proofs.Programs.{whole, last_of}
-use Rattle.pack_points.proofs.instructions.InstructionsIterator.next.Goals as goal
+use Rattle.pack_read.proofs.instructions.InstructionsIterator.next.Goals as goal
 
 pub returns-then-self-clause-steps : goal.returns-then-self-clause-steps
 returns-then-self-clause-steps c =

@@ -1,14 +1,14 @@
 // The instructions of a sheet, one after another.
-ghost use Rattle.std.specs.Prelude.{◌≡◌, ◌<◌, ◌≤◌, length};
+ghost use Rattle.std.specs.Prelude.{◌≡◌, true, ◌<◌, ◌≤◌, length};
 ghost use Rattle.std.specs.Iterator.{YieldsFirstBy, item_count};
-ghost use Rattle.pack.specs.Contents.{sheet_count};
+ghost use Rattle.pack.specs.Contents.{literal_count, sheet_count};
 ghost use Rattle.pack.specs.Format.{instruction_limit};
-ghost use Rattle.pack.specs.Instruction.{instr_of};
+ghost use Rattle.pack.specs.Instruction.{instr_of, EachAllowed};
+ghost use Rattle.pack.specs.Judge.{question5, Placed};
 ghost use Rattle.pack.specs.Read.{program};
-ghost use Rattle.pack_points.specs.Passed.{Passed};
 
+use crate::sheet_span;
 use pack::instruction::{Instruction, instruction_width, read_instruction};
-use pack_read::sheet_span;
 use std::marker::Model;
 
 // What is left of a sheet: its instructions from the one with a number on, which stands at a position, up to the end.
@@ -25,7 +25,7 @@ impl<'a> Model for Instructions<'a> {
     ghost use Rattle.std.specs.Prelude.{List, drop};
     ghost use Rattle.pack.specs.Instruction.{Instr};
     ghost use Rattle.pack.specs.Read.{program};
-    ghost use Rattle.pack_points.specs.Left.{Left};
+    ghost use Rattle.pack_read.specs.Left.{Left};
 
     ghost Value = { List Instr };
 
@@ -36,10 +36,11 @@ impl<'a> Model for Instructions<'a> {
 
 // The instructions of a sheet.
 pub fn instructions_of(p: &[u8], sheet: usize) -> Instructions<'_>
-    requires passed { Passed p.now }
+    requires placed { Placed p.now × (question5 p.now ≡ true) }
     requires sheet_bound { sheet < sheet_count p.now }
     ensures program { result ≡ program p.now sheet }
     ensures few { length result ≤ instruction_limit }
+    ensures allowed { EachAllowed (literal_count p.now) result }
 {
     let span = sheet_span(p, sheet);
     Instructions {
