@@ -1,5 +1,5 @@
 -- Stacks that are held in an array, from below. Assumes nothing.
-use mathlib.Core.Path.{◌≡◌, refl, ◌∙◌, ap, ap₂}
+use mathlib.Core.Path.{◌≡◌, refl, ap, ap₂}
 use mathlib.Core.Bool.{Bool, true, false, cond}
 use mathlib.Core.List.{List, [], ◌∷◌}
 use mathlib.Core.Option.{none, some}
@@ -9,14 +9,13 @@ use native.Mathlib.Numerals.{add-one}
 use lib.ListN.{length, get_or, drop}
 use lib.Seq.{drop-cons}
 use native.Mathlib.Nat.{le_of_suc-le-suc}
-use lib.Dec.{ltb, eqb}
-use borrow.Author.Tests.{lt-ltb, le-ltb}
+use lib.Dec.{eqb}
 use Rattle.ink_number.specs.Answer.{Answer, gives, refuses, ask}
 use Rattle.operator_kinds.specs.Kinds.{known, unary, arity, operand_count}
 use Rattle.operator_kinds.proofs.Counting.{takes}
 use Rattle.pack.specs.Instruction.{Push, push_void, Instr, push}
 use Rattle.machine.specs.Stack.{stack_of}
-use Rattle.machine.specs.Machine.{stack_limit, topped, worked, popped, step, step_op, step_push, stopped, finish, onward, run_from}
+use Rattle.machine.specs.Machine.{topped, worked, popped, step, step_op, stopped, finish, onward, run_from}
 
 module _ {X : Type 0} where
   pub stack_length : (f : ℕ → X) (n : ℕ) → length (stack_of f n) ≡ n
@@ -63,13 +62,6 @@ module _ {X : Type 0} where
   get_d_any [] i d e h = absurd (omega arith)
   get_d_any (x ∷ l) zero d e h = refl
   get_d_any (x ∷ l) (suc i) d e h = get_d_any l i d e (le_of_suc-le-suc h)
-
-  -- a push on a stack of n
-  pub push_fits : (f : ℕ → X) (n : ℕ) (x : X) → n < stack_limit → step_push x (stack_of f n) ≡ gives (x ∷ stack_of f n)
-  push_fits f n x h = let e : ltb (length (stack_of f n)) stack_limit ≡ true = ap (λ (k : ℕ). ltb k stack_limit) (stack_length f n) ∙ lt-ltb n stack_limit h in rw e
-
-  pub push_full : (f : ℕ → X) (n : ℕ) (x : X) → stack_limit ≤ n → step_push x (stack_of f n) ≡ refuses 9
-  push_full f n x h = let e : ltb (length (stack_of f n)) stack_limit ≡ false = ap (λ (k : ℕ). ltb k stack_limit) (stack_length f n) ∙ le-ltb n stack_limit h in rw e
 
 -- the rest of a run, from an instruction on
 module _ {X : Type 0} (value : Push → X) (apply : ℕ → List X → Answer X) (program : List Instr) where

@@ -7,7 +7,7 @@ use super::format::Format;
 use ink_list::well_formed::Counts;
 use list_definitions::definitions::PackDefinitions;
 
-// Its bytes and its format, and its definitions, which are read of it once.
+// Its bytes and its format, and its definitions, which are read of it once and may be lent for a shorter time.
 #[derive(Clone, Copy)]
 pub struct PassedPack<'a, 'd> {
     pub bytes: &'a [u8],
