@@ -52,7 +52,8 @@ impl Raised<'_> {
     }
 }
 
-// Where both rise, one pass over the two, side by side. Two cursors go on by what they compare, so no `for` counts them.
+// Where both rise, one pass over the two, side by side. Two cursors go on by what they compare, so no `for` counts them;
+// what is left of each as a slice would need k counted beside it, since it is the item's number.
 fn search_rising(
     raised: Raised<'_>,
     definition: Definition<'_>,

@@ -104,6 +104,7 @@ pub extern "C" fn ink_run(
 #[unsafe(no_mangle)]
 pub extern "C" fn ink_call(
     pack: &[u8],
+    // a byte, as C has it
     op: u8,
     count: usize,
     operands: &[u64; 9],
@@ -130,6 +131,7 @@ pub extern "C" fn ink_call(
 #[unsafe(no_mangle)]
 pub extern "C" fn ink_cast(
     pack: &[u8],
+    // a byte, as C has it
     code: u8,
     operand: &[u64; 3],
     items: &[u16],
@@ -281,6 +283,7 @@ pub extern "C" fn ink_run_checked(
 pub extern "C" fn ink_call_checked(
     ends: &[u16],
     defined: &[i32],
+    // a byte, as C has it
     op: u8,
     count: usize,
     operands: &[u64; 9],
@@ -331,6 +334,7 @@ pub extern "C" fn ink_call_checked(
 pub extern "C" fn ink_apply(
     ends: &[u16],
     defined: &[i32],
+    // a byte, as C has it
     op: u8,
     count: usize,
     operands: &[u64; 9],

@@ -40,7 +40,7 @@ pub enum Kind {
     Void,
 }
 
-// The kind with this code: Void with any from its own on.
+// The kind with this code: Void with any from its own on. Codes stand in words, in the bytes that vetting takes and in the forecast.
 impl From<u8> for Kind {
     ghost from_gives = { λ code kind. kind ≡ kind_at code };
 

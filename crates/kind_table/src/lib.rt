@@ -63,7 +63,7 @@ const KINDS: [[u8; PAIRS]; OPERATORS] = [
     *b"\x0d\x0d\x0d\x0d\x0d\x0d\x0d\x0d\x0d\x0d\x0d\x0d\x0d\x0d\x0d\x03\x03\x03\x03\x03\x0b\x0b\x0b\x0b\x0b", // INVERT
 ];
 
-// What an entry of the table says.
+// What an entry of the table says. Bytes: a row is one literal, and `all_right` one test computed of all; this function alone reads them.
 fn decoded(e: u8) -> Result<Kind, Question>
     ensures { (a : Answer Kind) → Listed a → e ≡ encoded a → answer result ≡ a }
 {

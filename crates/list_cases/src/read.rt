@@ -29,7 +29,7 @@ pub const OTHER_NUMBER: usize = 18;
 // A case that is a line of text, from byte 2 on after its length.
 pub const TITLE: u8 = 255;
 
-// A byte, 0 past the end.
+// A byte, 0 past the end. A case's kinds, operators and marks are bytes, as make_cases.py writes them.
 pub fn byte(s: &[u8], at: usize) -> u8 {
     s.get(at).copied().unwrap_or(0)
 }

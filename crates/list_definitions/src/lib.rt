@@ -31,7 +31,7 @@ fn push_missing<'a>(
 {
     let mut left = a;
     let mut n = at;
-    // k is an item's number, by which it is looked for and stored: over the values it would be `first + k`, counted up again.
+    // k is an item's number, by which it is looked for and stored, and where its value stands: over the values it would be counted up again.
     for k in first..end {
         let item = k as u16;
         left = skip_below(left, item);

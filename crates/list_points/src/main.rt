@@ -104,6 +104,7 @@ fn ranged(list: Lists<'_>, lower: i32, upper: i32) {
 }
 
 // What a case is: two lists, one, or else a list with a range's bounds.
+// What a case asks for, as make_cases.py writes it.
 const PAIR: u8 = 0;
 
 const SINGLE: u8 = 1;

@@ -5,13 +5,14 @@ ghost use Rattle.std.specs.Prelude.{◌≡◌, ◌+◌, ◌*◌, ◌<◌, ◌≤
 ghost use Rattle.ink_list.specs.Lists.{places};
 ghost use Rattle.pack.specs.Bodies.{decoded};
 ghost use Rattle.pack.specs.Contents.{literal_count};
-ghost use Rattle.pack.specs.Judge.{Framed};
+ghost use Rattle.pack.specs.Judge.{Framed, Sound};
 ghost use Rattle.pack.specs.Read.{literal_of};
 ghost use Rattle.pack_literals.specs.Slices.{Copies, EntriesReadIn};
 
 use ink_list::entries_mut::EntriesMut;
 use pack::bytes::{byte_at, i32_at, number_at, u64_at};
 use pack::contents::{offset, size};
+use pack::format::Format;
 use pack::sound::SoundPack;
 
 // How many literals there are.

@@ -133,6 +133,7 @@ fn show_sheet(pack: ShownPack<'_>, s: usize)
 }
 
 fn show_sheets(pack: ShownPack<'_>) {
+    // a sheet goes by its number: there is no slice of sheets to go over
     for s in 0..sheet_count(pack.bytes) {
         show_sheet(pack, s);
     }
@@ -164,6 +165,7 @@ fn report_all(stream: &[u8]) {
     }
 }
 
+// As `named_reports::report_input`, over this program's report; one function for both would take the report as a closure for three lines.
 fn main() {
     let mut buf = [0u8; 262144];
     let n = io::read_full(0, &mut buf);

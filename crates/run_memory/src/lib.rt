@@ -7,7 +7,7 @@ ghost use Rattle.ink_value.specs.Value.{all_formed};
 ghost use Rattle.pack.specs.Format.{Runnable};
 ghost use Rattle.running.specs.Slices.{long_enough_in};
 
-use ink_list::entries_mut::EntriesMut;
+use ink_list::lists::Lists;
 use ink_list::well_formed::Counts;
 use ink_value::slots::Slots;
 use machine::STACK_LIMIT;
@@ -23,16 +23,16 @@ pub fn all_formed(slots: &Slots<'_>, counts: Counts) -> bool
 }
 
 // Have two slices n places each.
-fn have(n: usize, out: &EntriesMut<'_>) -> bool
-    ensures { result ≡ (nat_le n (length out.now.items.now) and nat_le n (length out.now.values.now)) }
+fn have(n: usize, lists: Lists<'_>) -> bool
+    ensures { result ≡ (nat_le n (length lists.entry.items.now) and nat_le n (length lists.entry.values.now)) }
 {
-    n <= out.items.len() && n <= out.values.len()
+    n <= lists.items.len() && n <= lists.values.len()
 }
 
 // Question 7 of the slices that a run writes.
-pub fn long_enough(work: &EntriesMut<'_>, out: &EntriesMut<'_>, format: Format) -> bool
+pub fn long_enough(work: Lists<'_>, out: Lists<'_>, format: Format) -> bool
     requires { Runnable format }
-    ensures { result ≡ long_enough_in format work.now out.now }
+    ensures { result ≡ long_enough_in format work.entry out.entry }
 {
     have(format.limit, out) && have(STACK_LIMIT * format.limit, work)
 }

@@ -31,7 +31,7 @@ pub fn run_ready(
     if !run_memory::all_formed(slots, pack.counts()) {
         return Err(Stop::from(Question::Memory));
     }
-    if !run_memory::long_enough(work, out, pack.format) {
+    if !run_memory::long_enough(work.lists(), out.lists(), pack.format) {
         return Err(Stop::from(Question::Memory));
     }
     run_checked::run_checked(pack, sheet, slots, work, out)

@@ -29,7 +29,7 @@ pub fn run_sheet(
     if !all_formed(slots, pack.counts()) {
         return Err(Stop::from(Question::Memory));
     }
-    if !long_enough(work, out, pack.format) {
+    if !long_enough(work.lists(), out.lists(), pack.format) {
         return Err(Stop::from(Question::Memory));
     }
     zero(work, 0, STACK_LIMIT * pack.format.limit);

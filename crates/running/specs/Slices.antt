@@ -4,6 +4,7 @@ use Rattle.ink_number.specs.Answer.{Answer}
 use Rattle.slices.specs.Slices.{MutSlice}
 use Rattle.ink_list.specs.Lists.{Same}
 use Rattle.ink_list.specs.declared.entries_mut.EntriesMut.{EntriesMut}
+use Rattle.ink_list.specs.declared.lists.Lists.{Lists}
 use Rattle.ink_value.specs.Held.{slot_values}
 use Rattle.ink_value.specs.Val.{Val}
 use Rattle.ink_value.specs.declared.Value.{Value}
@@ -53,7 +54,7 @@ Kept before after = (after.items.now ≡ before.items.now) × (after.values.now 
 -- ---- a run of any bytes
 
 -- the slices that a run writes are long enough
-abbrev pub long_enough_in : Format → EntriesMut → EntriesMut → Bool
+abbrev pub long_enough_in : Format → Lists → Lists → Bool
 long_enough_in F work out = long_enough F work.items.now work.values.now out.items.now out.values.now
 
 -- question 7, of the slices as they were lent

@@ -104,6 +104,7 @@ pub fn work(
 {
     let mut stack = [Value::Void; STACK_LIMIT];
     let mut n: usize = 0;
+    // By hand: i is also the count after the loop, which `enumerate` does not leave.
     let mut i: usize = 0;
     for instruction in instructions_of(pack.bytes, sheet) {
         let k = slot_place(instruction);

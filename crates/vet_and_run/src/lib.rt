@@ -17,7 +17,7 @@ pub struct VettedRun {
 }
 
 // Vets a sheet of any bytes for slots of these kinds, and runs it with these slots. Where the slots have those kinds, the vetting's
-// answer and forecast hold of the run.
+// answer and forecast hold of the run. The kinds come as bytes, as a host has them: vetting asks question 7 of them.
 pub fn vet_and_run(
     pack: &[u8],
     sheet: usize,

@@ -28,6 +28,7 @@ pub fn vet_into(
 {
     let mut stack = [Kind::Void; 64];
     let mut n: usize = 0;
+    // By hand: i is also the count after the loop, which `enumerate` does not leave.
     let mut i: usize = 0;
     for instruction in instructions_of(pack, sheet) {
         let step = vet_steps::vet_step(instruction, kinds, table, &stack, n);

@@ -18,7 +18,7 @@ use machine::Stop;
 // The bytes that a forecast may take: two for each instruction.
 const FORECAST_LIMIT: usize = 2048;
 
-// Are sixteen codes kind codes.
+// Are sixteen codes kind codes; 4 is Void's, the last.
 fn are_codes(codes: &[u8; 16]) -> bool
     ensures { result ≡ all_codes codes.now }
 {

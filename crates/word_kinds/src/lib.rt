@@ -9,7 +9,7 @@ ghost use Rattle.word_kinds.specs.Operands.{is_number, numbers, Held, NumberKind
 use ink_value::Kind;
 use op::Op;
 
-// The kind whose code is a value's first word; Void where it is none's.
+// The kind whose code is a value's first word; Void where it is none's. A word is wider than a byte; from 4 on it is Void, as `Kind::from` has it.
 pub fn code_in(w: u64) -> Kind
     ensures { result ≡ kind_at w }
 {

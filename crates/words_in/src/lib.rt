@@ -60,7 +60,7 @@ fn void_at(w: u64) -> Value
     if w == 0 { Value::Void } else { unheld() }
 }
 
-// The kind whose code a word is, if there is one.
+// The kind whose code a word is, if there is one. `Kind::from` has a kind for every byte; a word that is no code is to be refused.
 fn kind_of(word: u64) -> Option<Kind>
     ensures { Coded word result }
 {
