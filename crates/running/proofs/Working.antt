@@ -76,11 +76,6 @@ if_op : (i : Instr) {P Q : ℕ → Type 0} → ((o : ℕ) → P o → Q o) → I
 if_op (op o) f h = f o h
 if_op (push p) f h = tt
 
--- what holds holds where it is an operator
-if_op_all : (i : Instr) {P : Type 0} → P → IfOp i (λ o. P)
-if_op_all (op o) h = h
-if_op_all (push p) h = tt
-
 -- the value that is read at a slot's place
 pub slot_is : (i : Instr) (slots : List Value) (r : ℕ) → r < length slots → IfSlot i (λ s. r ≡ s) → SlotIs slots (get_or slots r (Is.Bool false)) i
 slot_is (op o) slots r h e = tt
@@ -288,12 +283,15 @@ module _ {F : Format} {p : List ℕ} {s : ℕ} {u : ListDefinitions} {slots : Li
           three = λ l. rw (t.three l k) (g.formed (n - count + 2) (omega arith));
         })
 
-    pub operands : (instr : Instr) → IfOp instr (λ m. TopOperands wi wv o.first o.second o.third n o.count (value_on wi wv stack))
-    operands instr = if_op_all instr are
+    pub operands : (instr : Instr) → IfOp instr (λ m. count ≡ operand_count m)
+        → IfOp instr (λ m. TopOperands wi wv o.first o.second o.third n (operand_count m) (value_on wi wv stack))
+    operands instr e =
+        if_op instr (λ m w. subst (λ (x : ℕ). TopOperands wi wv o.first o.second o.third n x (value_on wi wv stack)) (t.counted ∙ w) are) e
 
     pub operands_formed : (limit : ℕ) → limit ≡ F.limit → (instr : Instr) → IfOp instr (λ m. count ≡ operand_count m)
-        → IfOp instr (λ m. (o.count ≡ operand_count m) × (o.count ≤ n → FirstFormed limit wi wv o.count o.first o.second o.third))
-    operands_formed limit q instr e = if_op instr (λ m w. (t.counted ∙ w, rw q are_formed)) e
+        → IfOp instr (λ m. operand_count m ≤ n → FirstFormed limit wi wv (operand_count m) o.first o.second o.third)
+    operands_formed limit q instr e =
+        if_op instr (λ m w. subst (λ (x : ℕ). x ≤ n → FirstFormed limit wi wv x o.first o.second o.third) (t.counted ∙ w) (rw q are_formed)) e
 
   pub roomy : Roomy F wi₀ wv₀ → Roomy F wi wv
   roomy r = record { format = r.format; items_room = omega (arith, r.items_room, g.items_touched.long); values_room = omega (arith, r.values_room, g.values_touched.long) }

@@ -15,20 +15,20 @@ use Rattle.native_function_call.specs.Apply.{apply_op}
 use Rattle.pack.specs.Bodies.{decoded}
 use Rattle.pack.specs.Instruction.{Instr}
 use Rattle.pack.specs.Read.{literal_of}
+use Rattle.ink_value.specs.Value.{FirstFormed}
 use Rattle.pack.specs.declared.format.Format.{Format}
 use Rattle.pack.specs.declared.passed.PassedPack.{PassedPack}
 use Rattle.machine.specs.Machine.{step, value_pushed}
 use Rattle.machine.specs.declared.Top.{Top}
-use Rattle.operating.specs.Slices.{StackedFormed}
 use Rattle.stepping.specs.Steps.{Steps, TopOperands}
 
--- the operands are the topmost of a stack of n whose values, from below, are those of f
-abbrev pub OnTop : EntriesMut → Operands → ℕ → (ℕ → Val) → Type 0
-OnTop work o n f = TopOperands work.items.now work.values.now o.first o.second o.third n o.count f
+-- `count` operands are the topmost of a stack of n whose values, from below, are those of f
+abbrev pub OnTop : EntriesMut → Operands → ℕ → ℕ → (ℕ → Val) → Type 0
+OnTop work o n count f = TopOperands work.items.now work.values.now o.first o.second o.third n count f
 
 -- they are well formed, where the stack has as many
-abbrev pub TopFormed : ℕ → EntriesMut → Operands → ℕ → Type 0
-TopFormed limit work o n = o.count ≤ n → StackedFormed limit work o
+abbrev pub TopFormed : ℕ → EntriesMut → Operands → ℕ → ℕ → Type 0
+TopFormed limit work o n count = count ≤ n → FirstFormed limit work.items.now work.values.now count o.first o.second o.third
 
 -- the stack that a step gives, in every format of this item limit: its top is put in its place, its entries in the work slices; or a no, and
 -- nothing is written

@@ -91,7 +91,7 @@ fn push_literal(
     Ok(Top { place: n, value })
 }
 
-// An operator on a stack of n, with as many operands as it takes, in order.
+// An operator on a stack of n: its operands are given in order, as many as it takes.
 fn run_op(
     op: Op,
     n: usize,
@@ -99,20 +99,21 @@ fn run_op(
     pack: PackDefinitions<'_>,
     work: &mut EntriesMut<'_>,
 ) -> Result<Top<Value>, Question>
-    requires op_bound { (n ≤ stack_limit) × (operands.count ≡ operand_count (op_number op)) }
-    requires roomy { RoomyIn pack.limit work.old × TopFormed pack.limit work.old operands n }
-    ensures { (f : ℕ → Val) → OnTop work.old operands n f
+    requires op_bound { n ≤ stack_limit }
+    requires roomy { RoomyIn pack.limit work.old × TopFormed pack.limit work.old operands n (operand_count (op_number op)) }
+    ensures { (f : ℕ → Val) → OnTop work.old operands n (operand_count (op_number op)) f
         → StepsIn pack.entry.limit n (step_op (apply_op (definitions_of pack.entry)) (op_number op) (stack_of f n)) f result
         work.old work.new }
 {
-    let count = operands.count;
+    let count = operator_kinds::operands(op);
     if count == 0 {
         return Err(Question::Operator);
     }
     if n < count {
         return Err(Question::Operands);
     }
-    operate(op, operands, pack, n - count, work)
+    let used = Operands { count, ..operands };
+    operate(op, used, pack, n - count, work)
 }
 
 // An instruction on a stack of n: an operator's operands are given in order, and a slot's value.
@@ -128,9 +129,9 @@ pub fn run_step(
     requires formed { FormedIn pack.definitions.limit slot_lists slot }
     requires allowed { Allowed (literal_count pack.bytes.now) (instr_of i) × (n ≤ stack_limit) }
     requires roomy { Roomy pack.format work.old.items.now work.old.values.now
-        × IfOp (instr_of i) (λ o. (operands.count ≡ operand_count o) × TopFormed pack.definitions.limit work.old operands n) }
+        × IfOp (instr_of i) (λ o. TopFormed pack.definitions.limit work.old operands n (operand_count o)) }
     ensures { (slots : List Value) → SlotIs slots slot (instr_of i)
-        → (f : ℕ → Val) → IfOp (instr_of i) (λ o. OnTop work.old operands n f)
+        → (f : ℕ → Val) → IfOp (instr_of i) (λ o. OnTop work.old operands n (operand_count o) f)
         → StepsIn pack.entry.definitions.limit n (step_in pack.entry (map (val_in slot_lists.entry) slots) (instr_of i) (stack_of f n)) f result
         work.old work.new }
 {

@@ -34,7 +34,7 @@ stepped c =
     let k = c.slot_place-k in
     let o = c.operands_on-operands in
     let s = c.run_step.ensures c.args.slots.now.values (slot_is i c.args.slots.now.values k.result (omega (arith, c.type_inv.slots)) k.ensures.1)
-    (value_on l.work.items.now l.work.values.now l.stack) (operands l.invariant.working c.operand_count.result o.result o.ensures i) in
+    (value_on l.work.items.now l.work.values.now l.stack) (operands l.invariant.working c.operand_count.result o.result o.ensures i c.operand_count.ensures) in
     (s.0 c.args.pack.format (sym c.args.pack.read.limit_is), s.1)
 
 pub loop-instruction-init : goal.loop-instruction-init

@@ -5,6 +5,7 @@ use Rattle.std.proofs.Common.{rules}
 use Rattle.ink_number.proofs.Signed.{back32}
 use Rattle.ink_value.specs.Val.{bool, int, float, void}
 use Rattle.ink_value.specs.Value.{val_of}
+use Rattle.operator_kinds.specs.Kinds.{operand_count}
 use Rattle.pack.specs.Instruction.{push_bool, push_int, push_float, push_list, push_slot, push_void, instr_of}
 use Rattle.pack.specs.declared.instruction.Instruction.{Instruction}
 use Rattle.stepping.specs.Slices.{OnTop}
@@ -16,7 +17,7 @@ pub returns-in-Op : goal.returns-in-Op
 returns-in-Op c =
     let a = c.args in
     λ slots q f t.
-    let top = subst (λ (x : Instruction). IfOp (instr_of x) (λ o. OnTop a.work.now a.operands a.n f)) c.in-Op.is t in
+    let top = subst (λ (x : Instruction). IfOp (instr_of x) (λ o. OnTop a.work.now a.operands a.n (operand_count o) f)) c.in-Op.is t in
     let s = c.run_op.ensures f top in
     (λ F e. op_steps _ _ a.n f _ _ _ _ _ (instr_of a.i) _ (ap instr_of c.in-Op.is) (s.0 F e), s.1)
 
