@@ -3,10 +3,10 @@ use borrow.Author.Tests.{le-leb, lt-leb}
 use Rattle.slices.specs.Every.{◌and◌}
 use Rattle.run_memory.proofs.have.Goals as goal
 
-pub returns-then-n-out : goal.returns-then-n-out
+pub returns-then-n-lists : goal.returns-then-n-lists
 unfolding ◌and◌
-returns-then-n-out c = rw (le-leb _ _ c.if-n-out.true)
+returns-then-n-lists c = rw (le-leb _ _ c.if-n-lists.true)
 
-pub returns-else-n-out : goal.returns-else-n-out
+pub returns-else-n-lists : goal.returns-else-n-lists
 unfolding ◌and◌
-returns-else-n-out c = rw (lt-leb _ _ c.if-n-out.false)
+returns-else-n-lists c = rw (lt-leb _ _ c.if-n-lists.false)
