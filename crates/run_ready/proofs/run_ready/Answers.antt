@@ -46,7 +46,7 @@ returns-then-not-long_enough c =
     record {
       runs_any = (
         rw c.from-then-not-long_enough.ensures
-            (runs_stopped _ 7 _ _ _ _ _ _ (opened_passed F p a.sheet _ _ c.requires.passed.0 ∙ yes ∙ room_no a.pack.read n.definitions n.items _ _ _ _ _ _ _ (sym c.long_enough.ensures ∙ c.if-not-long_enough.true))),
+            (runs_stopped _ 7 _ _ _ _ _ _ (opened_passed F p a.sheet _ _ c.requires.passed.0 ∙ yes ∙ room_no a.pack.read n.definitions n.items _ _ _ _ _ _ _ (sym (rw (c.lists.ensures.items, c.lists.ensures.values, c.lists-2.ensures.items, c.lists-2.ensures.values) at c.long_enough.ensures) ∙ c.if-not-long_enough.true))),
         (refl, refl),
         (refl, refl),
       );
@@ -60,7 +60,7 @@ run_checked-requires c =
     record {
       sheet_bound = omega (arith, c.sheet_count.ensures, c.if-sheet_count-sheet.false);
       formed = slots_formed a.pack.read n.definitions n.items _ _ _ c.requires.passed.1.narrow (sym c.all_formed.ensures ∙ c.if-not-all_formed.false);
-      memory = clear_memory a.pack.format c.requires.passed.1 _ _ _ _ c.requires.clear (long_yes a.pack.format _ _ _ _ (sym c.long_enough.ensures ∙ c.if-not-long_enough.false));
+      memory = clear_memory a.pack.format c.requires.passed.1 _ _ _ _ c.requires.clear (long_yes a.pack.format _ _ _ _ (sym (rw (c.lists.ensures.items, c.lists.ensures.values, c.lists-2.ensures.items, c.lists-2.ensures.values) at c.long_enough.ensures) ∙ c.if-not-long_enough.false));
     }
 
 pub returns : goal.returns
@@ -71,7 +71,7 @@ returns c =
     let n = c.counts.ensures in
     let r = c.run_checked.ensures in
     let yes = sheet_yes F p a.sheet _ (omega (arith, c.sheet_count.ensures, c.if-sheet_count-sheet.false, sheets_long p F)) in
-    let long = sym c.long_enough.ensures ∙ c.if-not-long_enough.false in
+    let long = sym (rw (c.lists.ensures.items, c.lists.ensures.values, c.lists-2.ensures.items, c.lists-2.ensures.values) at c.long_enough.ensures) ∙ c.if-not-long_enough.false in
     record {
       runs_any = (
         runs_clear _ p _ _ _ _ _ _ _ _ _ _ _ c.requires.clear (long_yes F _ _ _ _ long)
