@@ -46,7 +46,7 @@ fn list(s: &[u8], at: usize) -> Value
     }
 }
 
-// An operand: its kind, and what it holds.
+// An operand: its kind, a byte as make_cases.py writes it, and what it holds.
 pub fn operand(s: &[u8], at: usize) -> Value
     requires { at ≤ 64 }
 {

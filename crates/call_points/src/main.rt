@@ -131,6 +131,7 @@ fn coerce(s: &[u8]) {
 }
 
 fn work(s: &[u8]) {
+    // what is called, as make_cases.py numbers it
     match byte(s, WHAT) {
         0 => call(s),
         1 => cast(s),
