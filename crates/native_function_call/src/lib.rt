@@ -167,7 +167,8 @@ pub fn apply(
 ) -> Result<Value, Question>
     requires room { pack.limit ≤ places out.old }
     requires formed { OperandsFormed pack.limit lists operands }
-    ensures { GivesTo (call (definitions_of pack.entry) (op_number op) operands.count (operands_in lists.entry operands)) result out.old out.new }
+    ensures { GivesTo (call (definitions_of pack.entry) (op_number op) operands.count (operands_in lists.entry operands))
+        result out.old out.new }
 {
     let a = operands.first.kind();
     let b = operands.second.kind();

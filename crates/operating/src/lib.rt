@@ -79,7 +79,8 @@ fn list_through(
     requires room { RoomyIn pack.limit work.old × (pack.limit ≤ places made.old) }
     requires fact { (1 ≤ operands.count) × (operands.count ≤ 3) × (place < stack_limit) }
     requires formed { StackedFormed pack.limit work.old operands }
-    ensures { PutIn pack.entry.limit (list_result (definitions_of pack.entry) (op_number op) (stacked work.old operands)) place result work.old work.new }
+    ensures { PutIn pack.entry.limit (list_result (definitions_of pack.entry) (op_number op) (stacked work.old operands))
+        place result work.old work.new }
 {
     let v = list_operators::list(op, operands, work.lists(), pack, made);
     store(v, made.lists(), work, place * pack.limit)
@@ -96,7 +97,8 @@ fn list_result(
     requires room { RoomyIn pack.limit work.old }
     requires fact { (1 ≤ operands.count) × (operands.count ≤ 3) × (place < stack_limit) }
     requires formed { StackedFormed pack.limit work.old operands }
-    ensures { PutIn pack.entry.limit (list_result (definitions_of pack.entry) (op_number op) (stacked work.old operands)) place result work.old work.new }
+    ensures { PutIn pack.entry.limit (list_result (definitions_of pack.entry) (op_number op) (stacked work.old operands))
+        place result work.old work.new }
 {
     if pack.limit <= SHORT_LIMIT {
         let mut made = EntriesMut {

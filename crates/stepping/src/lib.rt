@@ -132,8 +132,8 @@ pub fn run_step(
         × IfOp (instr_of i) (λ o. TopFormed pack.definitions.limit work.old operands n (operand_count o)) }
     ensures { (slots : List Value) → SlotIs slots slot (instr_of i)
         → (f : ℕ → Val) → IfOp (instr_of i) (λ o. OnTop work.old operands n (operand_count o) f)
-        → StepsIn pack.entry.definitions.limit n (step_in pack.entry (map (val_in slot_lists.entry) slots) (instr_of i) (stack_of f n)) f result
-        work.old work.new }
+        → StepsIn pack.entry.definitions.limit n
+        (step_in pack.entry (map (val_in slot_lists.entry) slots) (instr_of i) (stack_of f n)) f result work.old work.new }
 {
     match i {
         Instruction::Op(op) => run_op(op, n, operands, pack.definitions, work),
