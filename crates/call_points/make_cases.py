@@ -218,6 +218,9 @@ def cases():
     yield from coerce('a List', entries(3, 0, 2))
     yield from coerce('an item twice', entries(3, 1, 2))
     yield from coerce('Void', VOID)
+    # a conversion's number beyond the three: the third
+    yield made('coercion 3 of 1', COERCE, 3, [integer(1)])
+    yield made('coercion 255 of 1', COERCE, 255, [integer(1)])
 
 with open(os.path.join(os.path.dirname(os.path.abspath(__file__)), 'stdin'), 'wb') as out:
     for case in cases():

@@ -123,7 +123,12 @@ fn cast(s: &[u8]) {
 
 // A conversion that has no result slices.
 fn coerce(s: &[u8]) {
-    let to = Kind::from(byte(s, WHICH));
+    // the third for every number from 2 on
+    let to = match byte(s, WHICH) {
+        0 => Kind::Bool,
+        1 => Kind::Int,
+        _ => Kind::Float,
+    };
     let r = calls::coerce(&PACK, to, operand(s, FIRST), LISTS);
     print_name(s);
     show(r, LISTS);
