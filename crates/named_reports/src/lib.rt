@@ -2,13 +2,13 @@
 #![tactic(auto)]
 
 use named_packs::{NamedPack, NamedPacks};
-use output_buffer::Output;
+use output_buffer::Writer;
 use std::fmt;
 
 // Reports on a pack after its name.
 fn report_named(named: NamedPack<'_>) -> fmt::Result {
     let mut buffer = io::large_buffer();
-    let mut out = Output::new(&mut buffer);
+    let mut out = Writer::new(&mut buffer);
     out.write_bytes(named.name)?;
     out.write_bytes(b":\n")?;
     sheet_report::report(&mut out, named.pack)?;

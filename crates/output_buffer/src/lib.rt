@@ -1,7 +1,7 @@
 // Text for the standard output: it gathers in a lent buffer, which is written when it is full and at the end.
 #![tactic(auto)]
 
-ghost use Rattle.std.specs.Prelude.{◌≡◌, ◌↔◌, ◌+◌, ◌≤◌, [], length, IsOk, IfOk, IsSome, Some, ◌++◌};
+ghost use Rattle.std.specs.Prelude.{◌≡◌, ◌↔◌, ◌+◌, ◌≤◌, false, [], length, IsOk, IfOk, IsSome, Some, ◌++◌};
 ghost use Rattle.std.specs.Option.{option_map};
 ghost use Rattle.output_buffer.specs.Text.{Adds, Gathered, text_of};
 
@@ -10,14 +10,21 @@ use std::marker::Model;
 
 const STDOUT: i32 = 1;
 
+// How many bytes wait to be written, and whether a write has failed.
+#[derive(Clone, Copy)]
+pub struct Output {
+    pub at: usize,
+    pub failed: bool,
+}
+
 // A lent buffer, and how many bytes at its start wait to be written. After a failed write none wait, and no more are written.
 #[derive(Drop)]
-pub struct Output<'a> {
+pub struct Writer<'a> {
     buffer: &'a mut [u8],
     waiting: Result<usize, fmt::Error>,
 }
 
-impl<'a> Model for Output<'a> {
+impl<'a> Model for Writer<'a> {
     ghost use Rattle.std.specs.Prelude.{◌≤◌, length, IfOk};
     ghost use Rattle.output_buffer.specs.Text.{Gathered, gathered};
 
@@ -39,13 +46,27 @@ fn hand_over(bytes: &[u8]) -> Result<usize, fmt::Error>
     }
 }
 
-impl<'a> Output<'a> {
-    pub fn new(buffer: &'a mut [u8]) -> Output<'a>
+impl<'a> Writer<'a> {
+    pub fn new(buffer: &'a mut [u8]) -> Writer<'a>
         ensures { result ≡ record { text = Some []; room = length buffer.old } }
     {
-        Output {
+        Writer {
             buffer,
             waiting: Ok(0),
+        }
+    }
+
+    // What it has come to.
+    pub fn state(&self) -> Output
+        ensures at { result.at ≡ length (text_of self.now) }
+        ensures failed { result.failed ≡ false ↔ IsSome self.now.text }
+    {
+        match self.waiting {
+            Ok(at) => Output { at, failed: false },
+            Err(_) => Output {
+                at: 0,
+                failed: true,
+            },
         }
     }
 
@@ -98,14 +119,19 @@ impl<'a> Output<'a> {
     fn room_left(&self) -> usize
         ensures { result + length (text_of self.now) ≡ self.now.room }
     {
-        self.buffer.len() - self.waiting.unwrap_or(0)
+        self.buffer.len() - self.state().at
     }
 }
 
-impl fmt::Write for Output<'_> {
-    ghost write_str_gives = { Adds };
+impl fmt::Write for Writer<'_> {
+    // Text that went through is added, and nothing has failed.
+    ghost write_str_gives = { λ before xs after. Adds before xs after × IsSome after.text };
 
-    fn write_str(&mut self, s: &str) -> fmt::Result {
+    fn write_str(&mut self, s: &str) -> fmt::Result
+        ensures ok { IsOk result → Adds self.old s.now self.new × IsSome self.new.text }
+        ensures adds { Adds self.old s.now self.new }
+        ensures told { IsOk result ↔ IsSome self.new.text }
+    {
         self.write_bytes(s.as_bytes())
     }
 }

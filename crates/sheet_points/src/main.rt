@@ -7,7 +7,7 @@ mod slot_pack;
 use ink_list::lists::Lists;
 use ink_value::Value;
 use ink_value::slots::Slots;
-use output_buffer::Output;
+use output_buffer::Writer;
 use slot_pack::PACK;
 use std::fmt;
 use std::fmt::Write;
@@ -17,7 +17,7 @@ const ITEMS: [u16; 2] = [0, 1];
 
 const VALUES: [i32; 2] = [1, 2];
 
-fn slot_line(out: &mut Output<'_>, sheet: usize) -> fmt::Result {
+fn slot_line(out: &mut Writer<'_>, sheet: usize) -> fmt::Result {
     let mut values = [Value::Void; 16];
     values[0] = Value::List {
         origins: 3,
@@ -33,7 +33,7 @@ fn slot_line(out: &mut Output<'_>, sheet: usize) -> fmt::Result {
 
 fn report_slots() -> fmt::Result {
     let mut buffer = io::large_buffer();
-    let mut out = Output::new(&mut buffer);
+    let mut out = Writer::new(&mut buffer);
     writeln!(out, "a list in slot 0:")?;
     // a sheet goes by its number: there is no slice of sheets to go over
     for sheet in 0..4 {

@@ -10,7 +10,7 @@ use ink_list::lists::Lists;
 use ink_value::Value;
 use ink_value::slots::Slots;
 use machine::{STACK_LIMIT, Stop};
-use output_buffer::Output;
+use output_buffer::Writer;
 use pack_check::format::FORMAT1;
 use printing::{Refused, Shown};
 use std::fmt;
@@ -37,7 +37,7 @@ fn run(
 
 // The line of one sheet, run on these slots.
 pub fn sheet_line(
-    out: &mut Output<'_>,
+    out: &mut Writer<'_>,
     pack: &[u8],
     sheet: usize,
     slots: &Slots<'_>,
@@ -66,7 +66,7 @@ pub fn sheet_line(
 }
 
 // The same with all slots Void.
-fn void_line(out: &mut Output<'_>, pack: &[u8], sheet: usize) -> fmt::Result {
+fn void_line(out: &mut Writer<'_>, pack: &[u8], sheet: usize) -> fmt::Result {
     let lists = Lists {
         items: &[],
         values: &[],
@@ -78,7 +78,7 @@ fn void_line(out: &mut Output<'_>, pack: &[u8], sheet: usize) -> fmt::Result {
     sheet_line(out, pack, sheet, &slots)
 }
 
-fn sheet_lines(out: &mut Output<'_>, pack: &[u8]) -> fmt::Result
+fn sheet_lines(out: &mut Writer<'_>, pack: &[u8]) -> fmt::Result
     requires { Framed pack.now }
 {
     let count = pack_read::sheet_count(pack);
@@ -90,7 +90,7 @@ fn sheet_lines(out: &mut Output<'_>, pack: &[u8]) -> fmt::Result
     Ok(())
 }
 
-pub fn report(out: &mut Output<'_>, pack: &[u8]) -> fmt::Result {
+pub fn report(out: &mut Writer<'_>, pack: &[u8]) -> fmt::Result {
     match pack_check::check(pack) {
         Ok(()) => sheet_lines(out, pack),
         Err(question) => {

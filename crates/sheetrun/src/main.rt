@@ -2,14 +2,14 @@
 // standard error and ends.
 #![tactic(auto)]
 
-use output_buffer::Output;
+use output_buffer::Writer;
 use std::fmt;
 
 const STDERR: i32 = 2;
 
 fn report(pack: &[u8]) -> fmt::Result {
     let mut buffer = io::large_buffer();
-    let mut out = Output::new(&mut buffer);
+    let mut out = Writer::new(&mut buffer);
     sheet_report::report(&mut out, pack)?;
     out.flush()
 }

@@ -2,7 +2,7 @@
 // compared.
 #![tactic(auto)]
 
-use output_buffer::Output;
+use output_buffer::Writer;
 use std::fmt;
 use std::fmt::Write;
 
@@ -10,7 +10,7 @@ const STDOUT: i32 = 1;
 
 fn written<D: fmt::Display + Drop>(text: D) -> fmt::Result {
     let mut buffer = [0u8; 128];
-    let mut out = Output::new(&mut buffer);
+    let mut out = Writer::new(&mut buffer);
     out.write(text)?;
     out.flush()
 }
