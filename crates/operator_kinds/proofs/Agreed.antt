@@ -1,4 +1,5 @@
--- What operators compute on kinds is the rule, by tests computed of all operators and kinds. Assumes nothing.
+-- Codes of kinds and of refusals that pass a test, computed of all operators and kinds, are the rule's. `entry`, `number_entry`, `lists`
+-- and `mixed` work without codes: their contracts hold them to the rule. Assumes nothing.
 use mathlib.Core.Path.{◌≡◌, refl, sym, ◌∙◌, ap, subst}
 use mathlib.Core.Bool.{Bool, true, false, cond, not, ◌&&◌}
 use Prim.Native.Nat.{ℕ, zero, suc, ◌+◌, ◌-◌, ◌*◌, ◌/◌, ◌%◌, ◌^◌, ◌<◌, ◌≤◌, max}
@@ -11,11 +12,7 @@ use Rattle.ink_value.specs.Val.{kind_at, code_of}
 use Rattle.ink_value.specs.declared.Kind.{Kind}
 use Rattle.ink_value.specs.declared.Kind.TheVariants as K
 use Rattle.ink_number.specs.Answer.{Answer, gives, refuses}
-use Rattle.operator_kinds.specs.Kinds.{kind_entry, known, unary, arity, kind_unary, kind_binary, operand_count}
-
--- a code below 5 is a kind's, any other a refusal's number
-abbrev pub decoded : ℕ → Answer Kind
-decoded e = cond (ltb e 5) (gives (kind_at e)) (refuses e)
+use Rattle.operator_kinds.specs.Kinds.{kind_entry, known, unary, arity, kind_unary, kind_binary, operand_count, decoded}
 
 -- a word has two bits for each operator, from Add's in the lowest on
 abbrev pub bits_of : ℕ → ℕ → ℕ

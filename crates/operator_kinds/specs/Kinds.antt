@@ -97,6 +97,10 @@ kind_call o n ks = ask 8 (known o) (ask 10 (eqb n (arity o)) (kind_apply o ks))
 unfoldable pub kind_entry : ℕ → Kind → Kind → Answer Kind
 kind_entry o a b = cond (known o) (cond (unary o) (kind_unary o a) (kind_binary o a b)) (refuses 8)
 
+-- a code below 5 is a kind's, any other a refusal's number
+abbrev pub decoded : ℕ → Answer Kind
+decoded e = cond (ltb e 5) (gives (kind_at e)) (refuses e)
+
 -- how many operands an operator takes, 0 where question 8 says no
 unfoldable pub operand_count : ℕ → ℕ
 operand_count o = cond (known o) (arity o) 0

@@ -1,7 +1,7 @@
 // The operators on kinds: what each answers, worked out, with range beside them, and how many operands an operator takes.
 #![tactic(auto)]
 
-ghost use Rattle.std.specs.Prelude.{◌≡◌, true, [], ◌∷◌, cond, ◌<◌, ◌≤◌, eqb, take};
+ghost use Rattle.std.specs.Prelude.{◌≡◌, true, [], ◌∷◌, cond, ◌<◌, ◌≤◌, max, eqb, take};
 ghost use Rattle.ink_number.specs.Question.{answer as answer_of};
 ghost use Rattle.ink_value.specs.Val.{code_of};
 ghost use Rattle.ink_value.specs.declared.Kind.TheVariants as K;
@@ -12,20 +12,28 @@ use ink_number::question::Question;
 use ink_value::Kind;
 use op::Op;
 
+// The higher of two kind codes.
+#[inline(always)]
+fn higher(left: u8, right: u8) -> u8
+    ensures { result ≡ max left right }
+{
+    if left < right { right } else { left }
+}
+
+// The code of the common kind: the highest code present, at least Int's.
+#[inline(always)]
+pub fn common_code(left: u8, right: u8) -> u8
+    ensures { result ≡ max (code_of K.Int) (max left right) }
+{
+    higher(u8::from(Kind::Int), higher(left, right))
+}
+
 // The common kind: the highest kind present, at least Int.
-#[tactic(auto, unfolding(crate::specs::Kinds::common))]
+#[inline(always)]
 pub fn common(left: Kind, right: Kind) -> Kind
     ensures { result ≡ common left right }
 {
-    match (left, right) {
-        (Kind::Void, _) => Kind::Void,
-        (_, Kind::Void) => Kind::Void,
-        (Kind::List, _) => Kind::List,
-        (_, Kind::List) => Kind::List,
-        (Kind::Float, _) => Kind::Float,
-        (_, Kind::Float) => Kind::Float,
-        _ => Kind::Int,
-    }
+    Kind::from(common_code(u8::from(left), u8::from(right)))
 }
 
 // The answer for an operator below range on numbers, of which it may take one, the left.

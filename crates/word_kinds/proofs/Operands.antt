@@ -1,14 +1,14 @@
 -- Operands in their words: the parts are the value's, and so is the kind. Assumes nothing.
 use mathlib.Core.Path.{◌≡◌, refl, sym, ap, ◌∙◌, subst}
 use mathlib.Core.Bool.{Bool, true, false, cond, ◌||◌, ◌&&◌}
+use mathlib.Core.Logic.{◌⊎◌, inl, inr, ⊎_elim}
 use mathlib.Core.List.{List, [], ◌∷◌, map}
 use Prim.Native.Nat.{ℕ, zero, suc, ◌+◌, ◌*◌, ◌/◌, ◌%◌, ◌^◌, ◌<◌, ◌≤◌}
 use native.Mathlib.Omega.{arith}
 use lib.Dec.{eqb, ltb, leb}
 use lib.IntN.{ℤ}
-use lib.Ieee.{Float}
 use lib.ListN.{get_or, take}
-use borrow.Author.Tests.{lt-ltb, eqb-true, ltb-true, eq-eqb, ne_eqb}
+use borrow.Author.Tests.{lt-ltb, le-ltb, le-leb, eqb-true, ltb-true, ltb-false, eq-eqb, ne_eqb}
 use Rattle.std.specs.Prelude.{Option, Some, None, Result, Ok, Err}
 use Rattle.std.specs.Result.{result_ok}
 use Rattle.std.proofs.lemmas.Option.{same_Some}
@@ -16,7 +16,7 @@ use Rattle.ink_number.specs.Question.{answer, number}
 use Rattle.ink_number.specs.declared.question.Question.{Question}
 use Rattle.ink_number.specs.Int.{signed}
 use Rattle.binary32.specs.Real.{of_bits32}
-use Rattle.ink_number.specs.Answer.{gives, refuses}
+use Rattle.ink_number.specs.Answer.{Answer, gives, refuses}
 use Rattle.ink_value.proofs.Parts.{Holds}
 use Rattle.ink_value.specs.Convert.{bit_z}
 use Rattle.ink_value.specs.Val.{kind_of, kind_at, code_of, is_list}
@@ -30,8 +30,8 @@ use Rattle.slices.proofs.Lists.{ap2, ap3, map_take}
 use Rattle.ink_value.proofs.Reading.{kind_in_lem}
 use Rattle.words_in.specs.Words.{unheld, bool_at, int_at, float_at, void_at, plain_at, value_of, value_at}
 use Rattle.operator_kinds.specs.Kinds.{is_void, common, available, result_kind, known, unary, arity, kind_unary, kind_binary, kind_call, kind_entry, operand_count, KindsGiven}
-use Rattle.operator_kinds.proofs.Counting.{takes, none_taken, miscounted, below_range, entry_given}
-use Rattle.word_kinds.specs.Operands.{kind_word, is_number, numbers, kind_given, number_kind, Held, OfNumbers, NumberKind, vals_at}
+use Rattle.operator_kinds.proofs.Counting.{takes, none_taken, miscounted, below_range, below_three, entry_given}
+use Rattle.word_kinds.specs.Operands.{kind_word, is_number, numbers, kind_given, number_kind, untaken, number_answer, kind_answered, Held, OfNumbers, NumberKind, NumberAnswer, vals_at}
 
 -- ---- the parts of a number that is held
 
@@ -349,4 +349,107 @@ module _ (ws : List ℕ) (o n : ℕ) where
           value = ap kind_given g ∙ sym (counted true q);
           yes = λ j y. absurd (none_some y);
           no = λ y. no_number_kind ws o n (number r) h (sym e ∙ c) g;
+        }
+
+-- ---- what is answered, with the question
+
+-- no kind is given beside operands that are not taken
+untaken_none : (o : ℕ) (a : Kind) → kind_answered (untaken o a) ≡ None
+untaken_none o a = go (eqb o 17) (is_number a)
+  where
+    go : (s t : Bool) → kind_answered (cond s (cond t (Some (refuses 8)) None) None) ≡ None
+    go true true = refl
+    go true false = refl
+    go false t = refl
+
+given_ok : (r : Result Kind Question) → kind_given (answer r) ≡ result_ok r
+given_ok (Ok k) = refl
+given_ok (Err q) = refl
+
+-- an operator up to Invert other than POW takes one operand or two
+counted_few : (o : ℕ) → o < 31 → eqb o 17 ≡ false → (operand_count o ≡ 1) ⊎ (operand_count o ≡ 2)
+unfolding operand_count known arity
+counted_few o l p = rw (p, le-leb o 31 (omega arith)) (go (unary o))
+  where
+    go : (t : Bool) → (cond {A = ℕ} t 1 (cond (eqb o 31) 3 2) ≡ 1) ⊎ (cond {A = ℕ} t 1 (cond (eqb o 31) 3 2) ≡ 2)
+    go true = inl refl
+    go false = inr (rw (ne_eqb o 31 (λ e. omega arith)) refl)
+
+-- where an operator takes one number or two, those that are looked at are all
+looked_both : (n : ℕ) (a b : Kind) (t : Bool) → numbers n a b ≡ t → (n ≡ 1) ⊎ (n ≡ 2) → cond (is_number a) (cond (ltb n 2) true (is_number b)) false ≡ t
+looked_both zero a b t q h = absurd (⊎_elim (λ e. omega (arith, e)) (λ e. omega (arith, e)) h)
+looked_both (suc zero) a b t q h = go (is_number a) t q
+  where
+    go : (r t : Bool) → r ≡ t → cond r true false ≡ t
+    go true t w = w
+    go false t w = w
+looked_both (suc (suc zero)) a b t q h = go (is_number a) (is_number b) t q
+  where
+    go : (r s t : Bool) → r && s ≡ t → cond r s false ≡ t
+    go true s t w = w
+    go false s t w = w
+looked_both (suc (suc (suc n))) a b t q h = absurd (⊎_elim (λ e. omega (arith, e)) (λ e. omega (arith, e)) h)
+
+-- POW takes none, and is refused beside a number
+pow_answer : (ws : List ℕ) → number_answer ws 17 0 ≡ untaken 17 (kind_word ws 0)
+unfolding operand_count known kind_entry
+pow_answer ws = go (is_number (kind_word ws 0))
+  where
+    go : (r : Bool) → ◌≡◌ {A = Option (Answer Kind)} (cond (cond r true false) (Some (refuses 8)) None) (cond r (Some (refuses 8)) None)
+    go true = refl
+    go false = refl
+
+one_or_two : (o n c : ℕ) → operand_count o ≡ n → operand_count o ≡ c → n ≡ c
+one_or_two o n c e f = sym e ∙ f
+
+module _ (ws : List ℕ) (o n : ℕ) where
+  pub answer_uncounted : (m : ℕ) → m ≡ operand_count o → (m ≡ n → ⊥) → NumberAnswer ws o n None
+  answer_uncounted m e ne =
+      record {
+        value = go (ltb 30 o) (cond (is_number (kind_word ws 0)) (cond (ltb n 2) true (is_number (kind_word ws 1))) false);
+        kind = kind_uncounted ws o n m e ne;
+      }
+    where
+      go : (t s : Bool) → None ≡ cond t None (cond (eqb (operand_count o) n) (cond s (Some (kind_entry o (kind_word ws 0) (kind_word ws 1))) None) None)
+      go true s = refl
+      go false s = rw (ne_eqb (operand_count o) n (λ q. ne (e ∙ q)))
+
+  counted_answer : (s : Bool) → numbers n (kind_word ws 0) (kind_word ws 1) ≡ s → o < 31 → operand_count o ≡ n → (n ≡ 1) ⊎ (n ≡ 2)
+      → number_answer ws o n ≡ cond s (Some (kind_entry o (kind_word ws 0) (kind_word ws 1))) None
+  counted_answer s q l c h = rw (le-ltb 30 o (omega arith), eq-eqb (operand_count o) n c, looked_both n (kind_word ws 0) (kind_word ws 1) s q h)
+
+  -- operands that are not numbers
+  no_answer : operand_count o ≡ n → numbers n (kind_word ws 0) (kind_word ws 1) ≡ false → number_answer ws o n ≡ untaken o (kind_word ws 0)
+  unfolding operand_count known
+  no_answer c q = go (ltb 30 o) refl (eqb o 17) refl
+    where
+      go : (s : Bool) → ltb 30 o ≡ s → (t : Bool) → eqb o 17 ≡ t → number_answer ws o n ≡ untaken o (kind_word ws 0)
+      go true g t p = let l = ltb-true 30 o g in rw (g, ne_eqb o 17 (λ e. omega arith))
+      go false g true p =
+          let e = eqb-true o 17 p in
+          ap2 (number_answer ws) e (sym c ∙ ap operand_count e) ∙ pow_answer ws ∙ sym (ap (λ (j : ℕ). untaken j (kind_word ws 0)) e)
+      go false g false p =
+          let l = ltb-false 30 o g in
+          let f = ⊎_elim (λ h. inl (one_or_two o n 1 c h)) (λ h. inr (one_or_two o n 2 c h)) (counted_few o (omega arith) p) in
+          counted_answer false q (omega arith) c f ∙ ap (λ (t : Bool). cond t (cond (is_number (kind_word ws 0)) (Some (refuses 8)) None) None) (sym p)
+
+  module _ (h : Held ws n) (m : ℕ) (e : m ≡ operand_count o) (c : m ≡ n) (a b : Kind) (ea : a ≡ kind_word ws 0) (eb : b ≡ kind_word ws 1) (t : Bool) (et : t ≡ numbers n a b) where
+    words_numbers : (s : Bool) → t ≡ s → numbers n (kind_word ws 0) (kind_word ws 1) ≡ s
+    words_numbers s q = sym (ap2 (numbers n) ea eb) ∙ (sym et ∙ q)
+
+    pub answer_untaken : t ≡ false → (r : Option (Answer Kind)) → r ≡ untaken o a → NumberAnswer ws o n r
+    answer_untaken q r w =
+        let u : r ≡ untaken o (kind_word ws 0) = w ∙ ap (untaken o) ea in
+        record {
+          value = u ∙ sym (no_answer (sym e ∙ c) (words_numbers false q));
+          kind = subst (NumberKind ws o n) (sym (ap kind_answered u ∙ untaken_none o (kind_word ws 0))) (kind_no_numbers ws o n h m e c a b ea eb t et q);
+        }
+
+    pub answer_counted : t ≡ true → (r : Result Kind Question) → answer r ≡ kind_entry o a b → NumberAnswer ws o n (Some (answer r))
+    answer_counted q r w =
+        let g = both_numbers n (kind_word ws 0) (kind_word ws 1) (words_numbers true q) in
+        let l = below_range o n (sym e ∙ c) g.0 (λ three. omega (arith, g.1)) in
+        record {
+          value = ap (λ (x : Answer Kind). Some x) (w ∙ ap2 (kind_entry o) ea eb) ∙ sym (counted_answer true (words_numbers true q) l (sym e ∙ c) (below_three o n g.0 (sym e ∙ c) (λ three. omega (arith, g.1))));
+          kind = subst (NumberKind ws o n) (sym (given_ok r)) (kind_counted ws o n h m e c a b ea eb t et q r w);
         }

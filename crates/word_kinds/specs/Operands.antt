@@ -1,6 +1,7 @@
 -- The kinds of operands in words. Assumes nothing.
-use Rattle.std.specs.Prelude.{◌≡◌, Bool, false, cond, ◌&&◌, List, [], ◌∷◌, map, Option, Some, None, ℕ, ◌*◌, ◌<◌, ◌≤◌, eqb, ltb, ℤ, take, get_or}
+use Rattle.std.specs.Prelude.{◌≡◌, Bool, true, false, cond, ◌&&◌, List, [], ◌∷◌, map, Option, Some, None, ℕ, ◌*◌, ◌<◌, ◌≤◌, eqb, ltb, ℤ, take, get_or}
 use Rattle.ink_number.specs.Answer.{gives, Answer, refuses}
+use Rattle.op.specs.Op.{op_pow, op_invert}
 use Rattle.ink_value.specs.Val.{Val, kind_of, kind_at, code_of}
 use Rattle.ink_value.specs.declared.Kind.{Kind}
 use Rattle.ink_value.specs.declared.Kind.TheVariants as K
@@ -56,3 +57,28 @@ pub record NumberKind (ws : List ℕ) (o n : ℕ) (r : Option Kind) : Type 0 whe
   pub value : r ≡ number_kind ws o n
   pub yes : (kind : Kind) → r ≡ Some kind → OfNumbers ws o n kind
   pub no : r ≡ None → (kind : Kind) → OfNumbers ws o n kind → ⊥
+
+-- an operator's answer beside operands that it does not take as numbers: POW takes none, and refuses
+abbrev pub untaken : ℕ → Kind → Option (Answer Kind)
+untaken o a = cond (eqb o op_pow) (cond (is_number a) (Some (refuses 8)) None) None
+
+-- the answer, a kind or the question that says no, of an operator up to Invert that takes n operands on the kinds of numbers: on the first,
+-- where n is below 2, and else on both; else none
+abbrev pub number_answer : List ℕ → ℕ → ℕ → Option (Answer Kind)
+number_answer ws o n =
+    cond (ltb op_invert o) None
+    (cond (eqb (operand_count o) n)
+    (cond (cond (is_number (kind_word ws 0)) (cond (ltb n 2) true (is_number (kind_word ws 1))) false)
+    (Some (kind_entry o (kind_word ws 0) (kind_word ws 1)))
+    None)
+    None)
+
+-- the kind that it gives
+abbrev pub kind_answered : Option (Answer Kind) → Option Kind
+kind_answered None = None
+kind_answered (Some a) = kind_given a
+
+-- r is that answer, and gives the kind of a result of numbers where it gives one
+pub record NumberAnswer (ws : List ℕ) (o n : ℕ) (r : Option (Answer Kind)) : Type 0 where
+  pub value : r ≡ number_answer ws o n
+  pub kind : NumberKind ws o n (kind_answered r)

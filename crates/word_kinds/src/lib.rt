@@ -2,10 +2,13 @@
 #![tactic(auto)]
 
 ghost use Rattle.std.specs.Prelude.{◌≡◌};
+ghost use Rattle.std.specs.Option.{option_map};
+ghost use Rattle.ink_number.specs.Question.{answer};
 ghost use Rattle.ink_value.specs.Val.{kind_at};
 ghost use Rattle.op.specs.Op.{op_number};
-ghost use Rattle.word_kinds.specs.Operands.{is_number, numbers, Held, NumberKind};
+ghost use Rattle.word_kinds.specs.Operands.{is_number, numbers, untaken, Held, NumberAnswer, NumberKind};
 
+use ink_number::question::Question;
 use ink_value::Kind;
 use op::Op;
 
@@ -41,11 +44,23 @@ fn numbers(count: usize, left: Kind, right: Kind) -> bool
     }
 }
 
-// The kind of a result of numbers; none where an operand, or the result, is no number.
+// The answer for an operator that does not have so many numbers: POW, which takes no operands, says no beside a number.
+fn untaken(op: Op, left: Kind) -> Option<Result<Kind, Question>>
+    ensures { option_map answer result ≡ untaken (op_number op) left }
+{
+    match op {
+        Op::Pow if is_number(left) => Some(Err(Question::Operator)),
+        _ => None,
+    }
+}
+
+// The answer on the kinds of numbers: the kind of the result, or the question that says no; none where an operand is no number, or the
+// operator takes none or others.
 #[tactic(auto, using(crate::proofs::Operands::entry_asked))]
-pub fn number_kind(op: Op, count: usize, operands: &[u64; 9]) -> Option<Kind>
+#[inline(always)]
+pub fn number_answer(op: Op, count: usize, operands: &[u64; 9]) -> Option<Result<Kind, Question>>
     requires { Held operands.now count }
-    ensures { NumberKind operands.now (op_number op) count result }
+    ensures { NumberAnswer operands.now (op_number op) count (option_map answer result) }
 {
     let left = code_in(operands[0]);
     let right = code_in(operands[3]);
@@ -53,7 +68,15 @@ pub fn number_kind(op: Op, count: usize, operands: &[u64; 9]) -> Option<Kind>
         return None;
     }
     if !numbers(count, left, right) {
-        return None;
+        return untaken(op, left);
     }
-    operator_kinds::number_entry(op, left, right).ok()
+    Some(operator_kinds::number_entry(op, left, right))
+}
+
+// The kind of a result of numbers; none where an operand, or the result, is no number.
+pub fn number_kind(op: Op, count: usize, operands: &[u64; 9]) -> Option<Kind>
+    requires { Held operands.now count }
+    ensures { NumberKind operands.now (op_number op) count result }
+{
+    number_answer(op, count, operands)?.ok()
 }
