@@ -3,10 +3,20 @@
 
 ghost use Rattle.std.specs.Prelude.{◌≡◌};
 ghost use Rattle.machine.specs.Ended.{end_of};
+ghost use Rattle.value_words.specs.Calls.{index_words};
 ghost use Rattle.answer_words.specs.Answers.{end_number, ran_words, SmallRan, vetted_index};
 
 use ink_value::Value;
 use machine::Stop;
+
+// The answer of a run that an instruction stops with a number, any byte.
+#[inline(always)]
+pub fn stopped(n: u8, index: usize, answer: &mut [u64; 3]) -> u32
+    ensures { (result ≡ n) × (answer.new ≡ index_words index) }
+{
+    words_out::put_index(answer, index);
+    value_words::byte_number(n)
+}
 
 // A run's answer.
 pub fn ran(r: Result<Value, Stop>, answer: &mut [u64; 3]) -> u32
@@ -18,11 +28,17 @@ pub fn ran(r: Result<Value, Stop>, answer: &mut [u64; 3]) -> u32
             words_out::put_value(answer, v);
             0
         }
-        Err(stop) => {
-            words_out::put_index(answer, stop.index);
-            u32::from(u8::from(stop.question))
-        }
+        Err(stop) => stopped(u8::from(stop.question), stop.index, answer),
     }
+}
+
+// The answer of vetting that turns a sheet back at an instruction with a number, any byte.
+#[inline(always)]
+pub fn turned_back(n: u8, at: usize, index: &mut u64) -> u32
+    ensures { (result ≡ n) × (index.new ≡ at) }
+{
+    *index = at as u64;
+    value_words::byte_number(n)
 }
 
 // Vetting's answer.
@@ -34,9 +50,6 @@ pub fn vetted(v: Result<usize, Stop>, index: &mut u64) -> u32
             *index = count as u64;
             0
         }
-        Err(stop) => {
-            *index = stop.index as u64;
-            u32::from(u8::from(stop.question))
-        }
+        Err(stop) => turned_back(u8::from(stop.question), stop.index, index),
     }
 }

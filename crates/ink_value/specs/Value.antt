@@ -1,13 +1,14 @@
 -- The code's values read as values of the definitions, and what a call leaves in the slices lent for its result. Assumes nothing.
-use Rattle.std.specs.Prelude.{◌≡◌, Bool, true, List, [], ◌∷◌, ℕ, ◌+◌, ◌≤◌, leb, eqb, ℤ, Float, length, take}
+use Rattle.std.specs.Prelude.{◌≡◌, Bool, true, List, [], ◌∷◌, ℕ, ◌+◌, ◌≤◌, leb, eqb, ℤ, pos, Float, length, take}
 use Rattle.ink_number.specs.Answer.{Answer, gives, refuses}
+use Rattle.binary32.specs.Real.{of_int32}
 use Rattle.slices.specs.Every.{◌and◌}
 use Rattle.slices.specs.Filled.{part, over}
 use Rattle.ink_list.specs.Entries.{Entry, entries, items, values, Lent, Rising, formed}
 use Rattle.ink_value.specs.Val.{Val, bool, int, float, list, void}
 use Rattle.ink_value.specs.declared.Kind.{Kind}
 use Rattle.ink_value.specs.declared.Kind.TheVariants as K
-use Rattle.ink_value.specs.Convert.{entries_of, origins_in}
+use Rattle.ink_value.specs.Convert.{bit_z, entries_of, origins_in}
 use Rattle.ink_value.specs.declared.Value.{Value}
 use Rattle.ink_value.specs.declared.Value.TheVariants as Is
 
@@ -76,6 +77,21 @@ pub record FirstFormed (limit : ℕ) (is : List ℕ) (vs : List ℤ) (n : ℕ) (
   pub three : 3 ≤ n → Formed limit is vs c
 
 -- ---- a number, and a value, in parts
+
+-- what a Bool or an Int holds, as an Int, and what a Float holds; 0 for other values
+abbrev pub whole_in : Value → ℤ
+whole_in (Is.Bool b) = bit_z b
+whole_in (Is.Int z) = z
+whole_in (Is.Float x) = pos 0
+whole_in (Is.List o s n) = pos 0
+whole_in Is.Void = pos 0
+
+abbrev pub real_in : Value → Float
+real_in (Is.Bool b) = of_int32 (pos 0)
+real_in (Is.Int z) = of_int32 (pos 0)
+real_in (Is.Float x) = x
+real_in (Is.List o s n) = of_int32 (pos 0)
+real_in Is.Void = of_int32 (pos 0)
 
 -- a number in parts: its kind, the Int that a Bool or an Int holds, and what a Float holds. A Bool reads as that Int does
 abbrev pub number_of : Kind → ℤ → Float → Val

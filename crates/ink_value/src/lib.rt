@@ -4,7 +4,7 @@
 ghost use Rattle.std.specs.Prelude.{◌≡◌, List, ℕ, ◌≤◌, ◌+◌, ℤ, length};
 ghost use Rattle.ink_value.specs.Convert.{as_int, as_float, truthy};
 ghost use Rattle.slices.specs.Filled.{part};
-ghost use Rattle.ink_value.specs.Value.{val_of, formed_in, kind_in, start_of, len_of, set_in, Stand};
+ghost use Rattle.ink_value.specs.Value.{val_of, formed_in, kind_in, start_of, len_of, set_in, whole_in, real_in, Stand};
 ghost use Rattle.ink_value.specs.Val.{code_of, kind_at};
 ghost use Rattle.ink_value.specs.declared.Value.{Value};
 
@@ -141,6 +141,27 @@ impl Value {
         match self {
             Value::Float(x) => x,
             _ => float_conversions::int_to_float(self.to_int(values)),
+        }
+    }
+
+    // What a Bool or an Int holds, as an Int, and what a Float holds; 0 for other values. A list's values are not read.
+    pub fn whole_in(self) -> i32
+        ensures { result ≡ whole_in self }
+    {
+        match self {
+            Value::Bool(b) => i32::from(b),
+            Value::Int(z) => z,
+            Value::Float(_) | Value::List { .. } | Value::Void => 0,
+        }
+    }
+
+    pub fn real_in(self) -> f32
+        ensures { result ≡ real_in self }
+    {
+        match self {
+            Value::Float(r) => r,
+            Value::Bool(_) | Value::Int(_) | Value::List { .. } | Value::Void =>
+                float_conversions::int_to_float(0),
         }
     }
 

@@ -51,6 +51,18 @@ impl fmt::Display for Shown<'_> {
     }
 }
 
+// A refusal by its number, any byte.
+#[derive(Clone, Copy, Drop)]
+pub struct RefusedWith(pub u8);
+
+impl fmt::Display for RefusedWith {
+    ghost output = { λ r. Some (refused r.0) };
+
+    fn fmt<W: fmt::Write>(&self, f: &mut fmt::Formatter<W>) -> fmt::Result {
+        write!(f, " R {}", self.0)
+    }
+}
+
 // The question that said no, by its number.
 #[derive(Clone, Copy, Drop)]
 pub struct Refused(pub Question);
@@ -59,6 +71,6 @@ impl fmt::Display for Refused {
     ghost output = { λ r. Some (refused (number r.0)) };
 
     fn fmt<W: fmt::Write>(&self, f: &mut fmt::Formatter<W>) -> fmt::Result {
-        write!(f, " R {}", u8::from(self.0))
+        RefusedWith(u8::from(self.0)).fmt(f)
     }
 }
