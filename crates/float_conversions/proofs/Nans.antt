@@ -1,7 +1,7 @@
 -- The library's test for a NaN, and what tests by hand say: of a Float that differs from itself, and of a bit pattern by its magnitude. Assumes nothing.
-use Rattle.std.proofs.Common.{◌≡◌, ℕ, ◌%◌, ◌<◌, true, false, T, refl, sym, ◌∙◌, subst, true≢false, lt-ltb}
+use Rattle.std.proofs.Common.{◌≡◌, ℕ, ◌%◌, ◌<◌, ◌≤◌, Bool, true, false, not, T, refl, sym, ◌∙◌, subst, true≢false, le-ltb, lt-ltb}
 use mathlib.Core.Bool.{false≢true}
-use lib.Ieee.{Float, nan, inf, fin, binary32, ne, div, is_nan, of_bits}
+use lib.Ieee.{Float, nan, inf, fin, binary32, ne, div, is_nan, nan_bits, of_bits}
 use lib.Ieee.Compare.{differs_from_itself}
 use lib.Ieee.Bits.{nan_bits_is, nan_bits_above}
 
@@ -19,6 +19,9 @@ pub is_nan_lem : (x : Float) → ne x x ≡ true → x ≡ nan
 is_nan_lem x e = differs_from_itself x (subst T (sym e) tt)
 
 -- ---- bit patterns
+
+pub no_nan_bits : (b : ℕ) → b % 2147483648 ≤ 2139095040 → T (not (nan_bits binary32 b))
+no_nan_bits b h = subst (λ (t : Bool). T (not t)) (sym (nan_bits_above binary32 b ∙ le-ltb 2139095040 (b % 2147483648) h)) tt
 
 quotient_nan : div binary32 (of_bits binary32 0) (of_bits binary32 0) ≡ nan
 unfolding div of_bits

@@ -92,7 +92,7 @@ pub fn ge(a: f32, b: f32) -> bool
 }
 
 // The smaller: the other operand beside a NaN, the left one when equal.
-#[tactic(auto, using(crate::proofs::Nans::nan_meets, binary32::proofs::Meets::lt_meets), unfolding(binary32::specs::Operations::smaller))]
+#[tactic(auto, using(crate::proofs::Nans::smaller_nan, crate::proofs::Nans::smaller_right, crate::proofs::Nans::smaller_left))]
 pub fn min(a: f32, b: f32) -> f32
     ensures { result ≡ smaller a b }
 {
@@ -103,7 +103,7 @@ pub fn min(a: f32, b: f32) -> f32
 }
 
 // The greater: the other operand beside a NaN, the left one when equal.
-#[tactic(auto, using(crate::proofs::Nans::nan_meets, binary32::proofs::Meets::lt_meets), unfolding(binary32::specs::Operations::greater))]
+#[tactic(auto, using(crate::proofs::Nans::greater_nan, crate::proofs::Nans::greater_right, crate::proofs::Nans::greater_left))]
 pub fn max(a: f32, b: f32) -> f32
     ensures { result ≡ greater a b }
 {

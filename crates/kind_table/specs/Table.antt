@@ -1,11 +1,15 @@
 -- The table of answers on kinds, and what is read of it. Assumes nothing.
-use Rattle.std.specs.Prelude.{◌≡◌, ◌||◌, Bool, true, false, List, [], ◌∷◌, ℕ, zero, suc, ◌/◌, ◌%◌, eqb}
+use Rattle.std.specs.Prelude.{◌≡◌, ◌||◌, Bool, true, false, List, [], ◌∷◌, ℕ, zero, suc, ◌<◌, ◌+◌, ◌*◌, ◌/◌, ◌%◌, eqb, get_or}
 use Rattle.slices.specs.Every.{◌and◌}
 use Rattle.ink_value.specs.declared.Kind.{Kind}
 use Rattle.ink_value.specs.Val.{kind_at, code_of}
 use Rattle.ink_number.specs.Answer.{Answer, gives, refuses}
 use Rattle.op.specs.Op.{op_range}
-use Rattle.operator_kinds.specs.Kinds.{kind_entry}
+use Rattle.operator_kinds.specs.Kinds.{kind_entry, decoded}
+
+-- the table has for each operator its 25 answers, by the left kind and then by the right
+pub record Table (table : List (List ℕ)) : Type 0 where
+  pub answers : (o a b : ℕ) → o < op_range → a < 5 → b < 5 → decoded (get_or (get_or table o []) (a * 5 + b) 0) ≡ kind_entry o (kind_at a) (kind_at b)
 
 -- an answer as it stands in the table: a kind's code, or the number of the question that says no
 abbrev pub encoded : Answer Kind → ℕ

@@ -15,10 +15,10 @@ use ink_value::Kind;
 use op::Op;
 
 // How many operators the table has.
-const OPERATORS: usize = 31;
+pub const OPERATORS: usize = 31;
 
 // How many pairs of kinds.
-const PAIRS: usize = 25;
+pub const PAIRS: usize = 25;
 
 // What the operators below range give on two kinds.
 #[derive(Clone, Copy)]
@@ -67,8 +67,11 @@ const KINDS: [[u8; PAIRS]; OPERATORS] = [
 fn decoded(e: u8) -> Result<Kind, Question>
     ensures { (a : Answer Kind) → Listed a → e ≡ encoded a → answer result ≡ a }
 {
+    // A kind first: most entries are one.
+    if e < 5 {
+        return Ok(Kind::from(e));
+    }
     match e {
-        0..5 => Ok(Kind::from(e)),
         8 => Err(Question::Operator),
         11 => Err(Question::Void),
         12 => Err(Question::Mixed),

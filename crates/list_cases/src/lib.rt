@@ -18,9 +18,9 @@ pub const ITEM_LIMIT: usize = 256;
 const SHOWN: usize = 12;
 
 // What the places of the output slices hold before a call.
-const UNWRITTEN_ITEM: u16 = 9999;
+pub const UNWRITTEN_ITEM: u16 = 9999;
 
-const UNWRITTEN_VALUE: i32 = 9999;
+pub const UNWRITTEN_VALUE: i32 = 9999;
 
 // The sum of some item numbers, wrapping; each is below 65,536.
 fn item_sum(items: &[u16]) -> u64 {

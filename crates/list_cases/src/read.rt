@@ -9,11 +9,11 @@ use ink_list::lists::Lists;
 // How many bytes an entry takes, how many entries the pool has, where the cases start, and how many bytes a case takes.
 const ENTRY: usize = 6;
 
-const POOL: usize = 1600;
+pub const POOL: usize = 1600;
 
-const CASES: usize = 9600;
+pub const CASES: usize = 9600;
 
-const CASE: usize = 24;
+pub const CASE: usize = 24;
 
 // Where the parts of a case are: what it is, two lists and two numbers of four bytes.
 pub const WHAT: usize = 0;

@@ -1,5 +1,5 @@
 -- Increment, a definition at a time: what its items are the targets of, and what is left for those after it. Assumes nothing.
-use mathlib.Core.Path.{◌≡◌, refl, sym, ap, ◌∙◌}
+use mathlib.Core.Path.{◌≡◌, refl, sym, ap, ◌∙◌, subst}
 use mathlib.Core.Bool.{Bool, true, false, cond}
 use mathlib.Core.Logic.{⊎_elim}
 use mathlib.Core.Option.{Option, none, some}
@@ -12,13 +12,15 @@ use borrow.Author.Tests.{lt-ltb, le-ltb}
 use lib.Dec.{ltb, eqb-suc-suc, eqb-suc-zero, eqb-zero-suc}
 use lib.IntN.{ℤ, pos}
 use lib.ListN.{length, get_or, take, drop, length-drop}
-use Rattle.ink_list.specs.Entries.{Entry, entries, RisingFrom}
+use lib.Seq.{drop-drop}
+use Rattle.ink_list.specs.Entries.{Entry, entries, RisingFrom, Lent}
 use Rattle.ink_list.specs.Steps.{drop_below}
 use Rattle.list_definitions.specs.Search.{among, raised, chosen}
 use Rattle.list_definitions.specs.Defs.{Ends, origin_of, in_set, any_from, alike, aimed, target, retarget}
 use Rattle.ink_number.specs.Int.{eq_z}
 use Rattle.ink_list.proofs.Laws.{lt_or_le, length_gather, from_ext}
 use Rattle.slices.proofs.Lists.{drop_at}
+use Rattle.ink_list.proofs.Rests.{rest}
 use Rattle.list_definitions.proofs.DefLaws.{ends_turn, onward, onward_start, onward_ext, onward_skip, onward_split}
 use Rattle.list_definitions.proofs.Raised.{length_raised, raised_part, raised_drop}
 use Rattle.list_definitions.proofs.IncrementSearch.{pick, chosen_items}
@@ -256,6 +258,34 @@ module _ (limit : ℕ) (is : List ℕ) (vs : List ℤ) (parallel : length is ≡
   step_in z =
       rw (onto, raised_part by m 0 vs, ← skip_values e m is (raised by vs) same skip, here)
       (turn_in defined ends d h low s limit (entries is (raised by vs)) rising (length defined) bounds.0 bounds.1 z (le_refl (length defined)))
+
+-- `step_in` for a cursor over the entries, whose values are those of `av` raised, which goes from j on to j'
+module _ {limit : ℕ} {ai : List ℕ} {av : List ℤ} (lent : Lent limit ai av) (by : ℤ) (ends : List ℕ) (defined : List ℤ) (d low s j j' : ℕ) (h : d < length ends)
+    (numbered : Ends low (length defined) (drop d ends)) (rising : RisingFrom low limit (rest j ai (raised by av)))
+    (hj : j ≤ length ai) (hj' : j' ≤ length ai) (skip : drop j' ai ≡ drop_below (get_or ends d 0) (drop j ai)) where
+  left_of : (i : ℕ) → entries (drop i ai) (raised by (drop i av)) ≡ rest i ai (raised by av)
+  left_of i = ap (entries (drop i ai)) (raised_drop by i av)
+
+  on : j ≤ j'
+  on =
+      let r = skip_is (get_or ends d 0) (drop j ai) in
+      omega (arith, ap length (skip ∙ r.0), length-drop j' ai, length-drop j ai, length-drop (skipped (get_or ends d 0) (drop j ai)) (drop j ai))
+
+  moved : drop (j' - j) (drop j ai) ≡ drop j' ai
+  moved = drop-drop (j' - j) j ai ∙ ap (λ (i : ℕ). drop i ai) (omega (arith, on))
+
+  moved_values : drop (j' - j) (drop j av) ≡ drop j' av
+  moved_values = drop-drop (j' - j) j av ∙ ap (λ (i : ℕ). drop i av) (omega (arith, on))
+
+  pub step_in_lem : s % 2 ≡ 1 → onward low (length defined) (target_from low (drop d ends) defined s (rest j ai (raised by av)))
+      ≡ chosen low [] (take (get_or ends d 0 - low) (drop low defined)) (raised by (take (j' - j) (drop j av)))
+      ++ onward (get_or ends d 0) (length defined) (target_from (get_or ends d 0) (drop (d + 1) ends) defined (s / 2) (rest j' ai (raised by av)))
+  step_in_lem z =
+      let long : length (drop j ai) ≡ length (drop j av) = length-drop j ai ∙ omega (arith, lent.long, length-drop j av) in
+      let below : j' - j ≡ length (drop j ai) - length (drop_below (get_or ends d 0) (drop j ai)) = omega (arith, hj, hj', on, ap length skip, length-drop j' ai, length-drop j ai) in
+      let start : RisingFrom low limit (entries (drop j ai) (raised by (drop j av))) = subst (RisingFrom low limit) (sym (left_of j)) rising in
+      let passed_on : entries (drop (j' - j) (drop j ai)) (raised by (drop (j' - j) (drop j av))) ≡ rest j' ai (raised by av) = rw (moved, moved_values) (left_of j') in
+      rw (← left_of j, ← passed_on) (step_in limit (drop j ai) (drop j av) long by ends defined d low s (j' - j) h numbered start (get_or ends d 0) refl below z)
 
 pub retarget_length : (ends : List ℕ) (defined : List ℤ) (set : ℕ) (a : List Entry) → length (retarget ends defined set a) ≤ length defined
 unfolding retarget

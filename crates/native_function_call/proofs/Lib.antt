@@ -5,3 +5,4 @@ pub mod Calling
 pub mod Emptied
 pub mod Equality
 pub mod Rounding
+pub mod InParts

@@ -1,8 +1,8 @@
 -- Numbers in their words: a result of their parts is the operator's on their values. Assumes nothing.
 use mathlib.Core.Path.{◌≡◌, refl, sym, ap, ◌∙◌}
-use mathlib.Core.Bool.{Bool, true, false, not}
+use mathlib.Core.Bool.{Bool, not}
 use mathlib.Core.Logic.{◌⊎◌, inl, inr}
-use mathlib.Core.List.{List, [], ◌∷◌}
+use mathlib.Core.List.{List}
 use Prim.Native.Nat.{ℕ, ◌+◌, ◌*◌, ◌<◌}
 use native.Mathlib.Omega.{arith}
 use lib.IntN.{ℤ}
@@ -10,19 +10,20 @@ use lib.Ieee.{Float}
 use lib.ListN.{get_or, take}
 use Rattle.slices.proofs.Lists.{ap2}
 use Rattle.ink_number.specs.Answer.{gives}
-use Rattle.ink_number.specs.Int.{truthy_z}
 use Rattle.ink_value.specs.Convert.{bit_z, as_int, as_float, truthy}
 use Rattle.ink_value.specs.Held.{number_in}
-use Rattle.ink_value.specs.Val.{Val, bool, int, float, list, void, kind_of, code_of}
+use Rattle.ink_value.specs.Val.{Val, bool, int, float, list, void, code_of}
 use Rattle.ink_value.specs.declared.Kind.{Kind}
 use Rattle.ink_value.specs.declared.Kind.TheVariants as K
 use Rattle.ink_value.specs.declared.number_parts.NumberParts.{NumberParts}
-use Rattle.ink_value.specs.Value.{val_of, kind_in, placed}
+use Rattle.ink_value.specs.Value.{val_of, kind_in, start_of, len_of, number_of, placed}
 use Rattle.ink_value.specs.declared.Value.{Value}
 use Rattle.ink_value.specs.declared.Value.TheVariants as Is
+use Rattle.ink_value.proofs.Parts.{Number as ValueNumber, of_number as in_parts}
 use Rattle.list_definitions.specs.Defs.{ListDefinitions}
 use Rattle.number_operators.specs.Numbers.{arith_z, arith_f, test_two, whole_unary, real_unary}
-use Rattle.native_function_call.specs.Apply.{test_lists, test, of_int, compute}
+use Rattle.native_function_call.specs.Apply.{of_int, compute}
+use Rattle.native_function_call.proofs.InParts.{bit_truth, whole_bool, real_bool, test_numbers_lem}
 use Rattle.words_in.specs.Words.{unheld, value_at}
 use Rattle.word_kinds.specs.Operands.{OfNumbers, vals_at}
 use Rattle.word_kinds.proofs.Operands.{Parts, word_parts}
@@ -35,14 +36,57 @@ pub record Number (v : Value) (p : NumberParts) : Type 0 where
   pub parts : Parts v p
   pub few : code_of (kind_in v) < 3
 
+-- as a value's: a number has no entries
+value_parts : (v : Value) (p : NumberParts) → Number v p → ValueNumber v p.kind p.whole p.real
+value_parts v p n =
+    record {
+      parts = record { kind_is = n.parts.kind_is; holds = n.parts.holds; start_is = none v n.few; len_is = no_length v n.few };
+      few = rw n.parts.kind_is n.few;
+    }
+  where
+    none : (v : Value) → code_of (kind_in v) < 3 → 0 ≡ start_of v
+    none (Is.Bool b) h = refl
+    none (Is.Int z) h = refl
+    none (Is.Float x) h = refl
+    none (Is.List o s m) h = absurd (omega (arith, h))
+    none Is.Void h = refl
+
+    no_length : (v : Value) → code_of (kind_in v) < 3 → 0 ≡ len_of v
+    no_length (Is.Bool b) h = refl
+    no_length (Is.Int z) h = refl
+    no_length (Is.Float x) h = refl
+    no_length (Is.List o s m) h = absurd (omega (arith, h))
+    no_length Is.Void h = refl
+
+-- a value without its origin set
+abbrev bare : Val → Val
+bare (bool b) = bool b
+bare (int z) = int z
+bare (float x) = float x
+bare (list o es) = list 0 es
+bare void = void
+
+bare_number : (k : Kind) (z : ℤ) (x : Float) → bare (number_of k z x) ≡ number_of k z x
+bare_number K.Bool z x = refl
+bare_number K.Int z x = refl
+bare_number K.Float z x = refl
+bare_number K.List z x = refl
+bare_number K.Void z x = refl
+
+bare_value : (is : List ℕ) (vs : List ℤ) (v : Value) → code_of (kind_in v) < 3 → bare (val_of is vs v) ≡ val_of is vs v
+bare_value is vs (Is.Bool b) h = refl
+bare_value is vs (Is.Int z) h = refl
+bare_value is vs (Is.Float x) h = refl
+bare_value is vs (Is.List o s m) h = absurd (omega (arith, h))
+bare_value is vs Is.Void h = refl
+
 -- a reading that takes a Bool as the Int that it stands for reads a number's parts as the number
 module _ {X : Type 0} (f : Val → X) (bools : (b : Bool) → f (int (bit_z b)) ≡ f (bool b)) (is : List ℕ) (vs : List ℤ) where
   pub of_number : (v : Value) {p : NumberParts} → Number v p → f (number_in p) ≡ f (val_of is vs v)
-  of_number (Is.Bool b) n = rw (n.parts.kind_is, n.parts.holds) (bools b)
-  of_number (Is.Int z) n = rw (n.parts.kind_is, n.parts.holds)
-  of_number (Is.Float x) n = rw (n.parts.kind_is, n.parts.holds)
-  of_number (Is.List o s m) n = absurd (omega (arith, n.few))
-  of_number Is.Void n = absurd (omega (arith, n.few))
+  of_number v {p} n =
+      sym (ap f (bare_number p.kind p.whole p.real))
+      ∙ in_parts (λ (w : Val). f (bare w)) bools (λ o es. refl) is vs v (value_parts v p n)
+      ∙ ap f (bare_value is vs v n.few)
 
 -- what words of no value read as is a List
 number_held : (v : Value) → code_of (kind_in v) < 3 → v ≡ unheld → ⊥
@@ -50,60 +94,6 @@ number_held v h e = let q : kind_in v ≡ K.List = ap kind_in e in let z = ap co
 
 number : (ws : List ℕ) (k : ℕ) → code_of (kind_in (value_at ws k)) < 3 → Number (value_at ws k) (number_at ws k)
 number ws k h = record { parts = word_parts (get_or ws (3 * k + 1) 0) (get_or ws (3 * k) 0) (get_or ws (3 * k + 2) 0) (number_held (value_at ws k) h); few = h }
-
--- ---- what the operators read of them
-
-bit_truth : (b : Bool) → truthy_z (bit_z b) ≡ b
-bit_truth true = refl
-bit_truth false = refl
-
-whole_bool : (o : ℕ) (b : Bool) → whole_unary o (int (bit_z b)) ≡ whole_unary o (bool b)
-unfolding whole_unary
-whole_bool o true = refl
-whole_bool o false = refl
-
-real_bool : (o : ℕ) (b : Bool) → real_unary o (int (bit_z b)) ≡ real_unary o (bool b)
-unfolding real_unary
-real_bool o b = refl
-
-first_bool : (o : ℕ) (w : Val) (b : Bool) → test o (int (bit_z b) ∷ w ∷ []) ≡ test o (bool b ∷ w ∷ [])
-unfolding test_lists
-first_bool o (bool c) b = refl
-first_bool o (int z) b = refl
-first_bool o (float x) b = refl
-first_bool o (list s es) true = refl
-first_bool o (list s es) false = refl
-first_bool o void b = refl
-
-second_bool : (o : ℕ) (w : Val) (b : Bool) → test o (w ∷ int (bit_z b) ∷ []) ≡ test o (w ∷ bool b ∷ [])
-unfolding test_lists
-second_bool o (bool c) b = refl
-second_bool o (int z) b = refl
-second_bool o (float x) b = refl
-second_bool o (list s es) true = refl
-second_bool o (list s es) false = refl
-second_bool o void b = refl
-
--- parts read as an Int or as a Float
-numeric : (p : NumberParts) → (kind_of (number_in p) ≡ K.Int) ⊎ (kind_of (number_in p) ≡ K.Float)
-numeric p = go p.kind p.whole p.real
-  where
-    go : (k : Kind) (z : ℤ) (x : Float) → (kind_of (number_in (record { kind = k; whole = z; real = x })) ≡ K.Int) ⊎ (kind_of (number_in (record { kind = k; whole = z; real = x })) ≡ K.Float)
-    go K.Bool z x = inl refl
-    go K.Int z x = inl refl
-    go K.Float z x = inr refl
-    go K.List z x = inl refl
-    go K.Void z x = inl refl
-
-test_parts : (o : ℕ) (p q : NumberParts) → test_two o (number_in p) (number_in q) ≡ test o (number_in p ∷ number_in q ∷ [])
-test_parts o p q = go (numeric p) (numeric q)
-  where
-    go : (kind_of (number_in p) ≡ K.Int) ⊎ (kind_of (number_in p) ≡ K.Float) → (kind_of (number_in q) ≡ K.Int) ⊎ (kind_of (number_in q) ≡ K.Float)
-        → test_two o (number_in p) (number_in q) ≡ test o (number_in p ∷ number_in q ∷ [])
-    go (inl e) (inl f) = rw (e, f) refl
-    go (inl e) (inr f) = rw (e, f) refl
-    go (inr e) (inl f) = rw (e, f) refl
-    go (inr e) (inr f) = rw (e, f) refl
 
 -- ---- what is answered
 
@@ -137,9 +127,7 @@ module _ (u : ListDefinitions) (o : ℕ) (is : List ℕ) (vs : List ℤ) (ws : L
       rw e
       (ap (λ (t : Bool). gives (Is.Bool t))
       (sym
-      (test_parts o a b
-      ∙ of_number (λ (v : Val). test o (v ∷ number_in b ∷ [])) (first_bool o (number_in b)) is vs (value_at ws 0) (number ws 0 m.left)
-      ∙ of_number (λ (v : Val). test o (val_of is vs (value_at ws 0) ∷ v ∷ [])) (second_bool o (val_of is vs (value_at ws 0))) is vs (value_at ws 1) (number ws 1 (m.right refl)))))
+      (test_numbers_lem is vs o (value_at ws 0) (value_at ws 1) (value_parts (value_at ws 0) a (number ws 0 m.left)) (value_parts (value_at ws 1) b (number ws 1 (m.right refl))))))
 
   pub whole_both : OfNumbers ws o 2 k → k ≡ K.Int
       → placed (compute u o (take 2 (vals_at is vs ws)) k) ≡ placed (of_int (arith_z o (as_int (number_in (number_at ws 0))) (as_int (number_in (number_at ws 1)))))

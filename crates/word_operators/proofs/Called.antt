@@ -7,11 +7,11 @@ use native.Mathlib.Omega.{arith}
 use lib.IntN.{ℤ}
 use lib.ListN.{length, take}
 use Rattle.ink_number.specs.Answer.{Answer, gives, refuses}
-use Rattle.ink_list.specs.Entries.{room}
+use Rattle.ink_list.specs.Entries.{item_numbers, room}
 use Rattle.ink_value.specs.Val.{Val, kind_of, code_of}
 use Rattle.ink_value.specs.declared.Kind.{Kind}
 use Rattle.ink_value.specs.declared.Kind.TheVariants as K
-use Rattle.ink_value.specs.Value.{Formed}
+use Rattle.ink_value.specs.Value.{Formed, FirstFormed}
 use Rattle.ink_value.specs.declared.Value.{Value}
 use Rattle.operator_kinds.specs.Kinds.{kind_call}
 use Rattle.list_operators.specs.Lists.{definitions}
@@ -32,6 +32,13 @@ use Rattle.word_numbers.proofs.Said.{said_calls}
 -- no slices that a program can lend hold what words of none read as
 not_held : (limit : ℕ) (is : List ℕ) (vs : List ℤ) (v : Value) → length is < 2 ^ 64 → Formed limit is vs v → v ≡ unheld → ⊥
 not_held limit is vs v h f e = let g : Formed limit is vs unheld = rw e at f in omega (arith, g.items_in)
+
+-- the first n operands of which question 7 says yes stand in the slices
+pub first_in_lem : (ends : List ℕ) (defined : List ℤ) (limit : ℕ) (is : List ℕ) (vs : List ℤ) (n : ℕ) (ws : List ℕ)
+    → operands_ok (definitions ends defined limit) is vs (take n (operands_in ws)) ≡ true → length defined ≤ item_numbers
+    → FirstFormed item_numbers is vs n (value_at ws 0) (value_at ws 1) (value_at ws 2)
+first_in_lem ends defined limit is vs n ws ok few =
+    first_of_lem (length defined) (length ends) is vs item_numbers n (value_at ws 0) (value_at ws 1) (value_at ws 2) few ok
 
 module _ (ends : List ℕ) (defined : List ℤ) (limit : ℕ) (is : List ℕ) (vs : List ℤ) (n : ℕ) (ws : List ℕ)
     (ok : operands_ok (definitions ends defined limit) is vs (take n (operands_in ws)) ≡ true) (long : length is < 2 ^ 64) where

@@ -1,6 +1,6 @@
 -- `list_definitions::origins_of` meets its contract: the bits of the definitions before d are set, and those from d on are the origins of
 -- the items that are left. Assumes nothing.
-use Rattle.std.proofs.Common.{◌∙◌, arith}
+use Rattle.std.proofs.Common.{ℕ, ap, ◌∙◌, ◌+◌, arith}
 use Rattle.ink_list.specs.Entries.{item_numbers}
 use Rattle.list_definitions.proofs.OriginLaws.{origin_yes, origin_no, one_bit, bits_grow}
 use Rattle.list_definitions.proofs.DefLaws.{below_ascends}
@@ -16,11 +16,11 @@ loop-d-preserved c =
     elim c.if-rest-left.branch [
       | then-rest-left w ↦ record {
         ascends = rw (w.left-is, c.skip_below-rest.ensures) (below_ascends _ 0 item_numbers l.left.now i.ascends);
-        below = rw (w.set-is, one) (bits_grow l.set l.d i.below).1;
+        below = rw (w.set-is ∙ ap (λ (n : ℕ). l.set + n) one) (bits_grow l.set l.d i.below).1;
         whole =
             i.whole
             ∙ origin_yes item_numbers l.left.now a.ends.now i.ascends l.d c.loop-d-test.true _ c.skip_below-rest.ensures l.set w.if-rest-left.true
-            ∙ rw (w.set-is, w.left-is, one);
+            ∙ rw (w.set-is ∙ ap (λ (n : ℕ). l.set + n) one, w.left-is);
       }
       | else-rest-left w ↦ record {
         ascends = rw (w.left-is, c.skip_below-rest.ensures) (below_ascends _ 0 item_numbers l.left.now i.ascends);
