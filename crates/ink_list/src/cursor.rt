@@ -8,12 +8,14 @@ ghost use Rattle.ink_list.specs.Steps.{drop_below, head_is};
 pub fn skip_below(is: &[u16], x: u16) -> &[u16]
     ensures { result.now ≡ drop_below x is.now }
 {
-    for (k, y) in is.iter().enumerate() {
+    let mut left = is;
+    while let Some((y, rest)) = left.split_first() {
         if x <= *y {
-            return &is[k..];
+            return left;
         }
+        left = rest;
     }
-    &is[..0]
+    left
 }
 
 // Does x stand first.

@@ -43,14 +43,18 @@ pub fn read_instruction(p: &[u8], at: usize) -> Instruction
     requires { Whole p.now at }
     ensures { Reads p.now at (instr_of result) }
 {
-    match p[at] {
+    let code = p[at];
+    // Operators apart: as the last arm of the match their number would be looked at again, for one that none has.
+    if code < BOOL {
+        return Instruction::Op(Op::from(code));
+    }
+    match code {
         BOOL => Instruction::Bool(p[at + 1] == 1),
         INT => Instruction::Int(i32_at(p, at + 1)),
         FLOAT => Instruction::Float(u32_at(p, at + 1)),
         LIST => Instruction::List(p[at + 1]),
         SLOT => Instruction::Slot(p[at + 1]),
-        VOID => Instruction::Void,
-        code => Instruction::Op(Op::from(code)),
+        _ => Instruction::Void,
     }
 }
 

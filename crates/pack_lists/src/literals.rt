@@ -27,12 +27,13 @@ fn items_ok(pack: PlacedPack<'_>, b: usize, n: usize, total: usize, format: Form
     let mut least = 0;
     for entry in entries.chunks_exact(stride) {
         let item = number_at(entry, 0, format.wide);
-        if item < least || total <= item {
+        if item < least {
             return false;
         }
         least = item + 1;
     }
-    true
+    // They rise, so that all are below total where the last is.
+    least <= total
 }
 
 // Is the literal that is body b well formed, its items below total?

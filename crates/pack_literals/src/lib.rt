@@ -7,7 +7,7 @@ ghost use Rattle.pack.specs.Bodies.{decoded};
 ghost use Rattle.pack.specs.Contents.{literal_count};
 ghost use Rattle.pack.specs.Judge.{Framed, Sound};
 ghost use Rattle.pack.specs.Read.{literal_of};
-ghost use Rattle.pack_literals.specs.Slices.{Copies, EntriesReadIn};
+ghost use Rattle.pack_literals.specs.Slices.{Copies, CopiesInto, EntriesReadIn};
 
 use ink_list::entries_mut::EntriesMut;
 use pack::bytes::{byte_at, i32_at, number_at, u64_at};
@@ -42,22 +42,34 @@ pub fn literal_len(pack: SoundPack<'_>, l: usize) -> usize
     (n - 8) / (pack.format.wide + 4)
 }
 
-// Copies n entries that stand one after another from a position, into the places from an index on.
-fn copy_each(p: &[u8], at: usize, n: usize, out: &mut EntriesMut<'_>, from: usize, wide: usize)
+// Copies n entries that stand one after another from a position, into the places from an index on of two slices.
+fn copy_each(
+    p: &[u8],
+    at: usize,
+    n: usize,
+    items: &mut [u16],
+    values: &mut [i32],
+    from: usize,
+    wide: usize,
+)
     requires wide_nonzero { (0 < wide) × (wide ≤ 2) }
     requires n_in_bounds { at + (wide + 4) * n ≤ length p.now }
-    requires room { from + n ≤ places out.old }
-    ensures { Copies wide n p at from out.old out.new }
+    requires n_in_bounds_2 { from + n ≤ length items.old }
+    requires n_in_bounds_3 { from + n ≤ length values.old }
+    ensures { CopiesInto wide n p at from items.old items.new values.old values.new }
 {
     // By index: tried with `iter_mut().zip(..)`, and the proof did not close, since all that is known after such a loop is the length.
     for k in 0..n {
         let e = at + (wide + 4) * k;
-        out.items[from + k] = number_at(p, e, wide) as u16;
-        out.values[from + k] = i32_at(p, e + wide);
+        let item = number_at(p, e, wide) as u16;
+        let value = i32_at(p, e + wide);
+        items[from + k] = item;
+        values[from + k] = value;
     }
 }
 
-// The same, by a loop for each width, in which it is a constant.
+// The same of entries written into, by a loop for each width, in which it is a constant. The loop gets the two slices themselves: through
+// `out` it would look up both anew at each entry.
 fn copy_entries(p: &[u8], at: usize, n: usize, out: &mut EntriesMut<'_>, from: usize, wide: usize)
     requires wide_nonzero { (0 < wide) × (wide ≤ 2) }
     requires n_in_bounds { at + (wide + 4) * n ≤ length p.now }
@@ -65,10 +77,10 @@ fn copy_entries(p: &[u8], at: usize, n: usize, out: &mut EntriesMut<'_>, from: u
     ensures { Copies wide n p at from out.old out.new }
 {
     if wide == 1 {
-        copy_each(p, at, n, out, from, 1);
+        copy_each(p, at, n, out.items, out.values, from, 1);
         return;
     }
-    copy_each(p, at, n, out, from, 2);
+    copy_each(p, at, n, out.items, out.values, from, 2);
 }
 
 // Copies the entries of literal l into the places from an index on, and says how many there are.

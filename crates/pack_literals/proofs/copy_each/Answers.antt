@@ -12,7 +12,7 @@ loop-k-init c =
     let a = c.args in
     let f = item_from a.wide a.p.now a.at in
     let g = value_from a.wide a.p.now a.at in
-    (fill_none a.from f a.out.now.items.now a.out.now.items.now refl, fill_none a.from g a.out.now.values.now a.out.now.values.now refl, (refl, refl))
+    (fill_none a.from f a.items.now a.items.now refl, fill_none a.from g a.values.now a.values.now refl)
 
 pub loop-k-preserved : goal.loop-k-preserved
 loop-k-preserved c =
@@ -20,7 +20,6 @@ loop-k-preserved c =
     let l = c.loop-k in
     let f = item_from a.wide a.p.now a.at in
     let g = value_from a.wide a.p.now a.at in (
-      fill_more a.from f a.out.now.items.now l.k l.out.items.now _ l.invariant.0 (omega arith) c.number_at.ensures.0,
-      fill_more a.from g a.out.now.values.now l.k l.out.values.now _ l.invariant.1 (omega arith) (to_z-of_z {w = w32} (record { sfits = c.i32_at.type_inv }) ∙ c.i32_at.ensures),
-      l.invariant.2,
+      fill_more a.from f a.items.now l.k l.items _ l.invariant.0 (omega arith) c.number_at-item.ensures.0,
+      fill_more a.from g a.values.now l.k l.values _ l.invariant.1 (omega arith) (to_z-of_z {w = w32} (record { sfits = c.i32_at-value.type_inv }) ∙ c.i32_at-value.ensures),
     )

@@ -1,6 +1,5 @@
 -- `pack_literals::copy_each` meets its contract. The loop's invariant: k entries are written. Assumes nothing.
 use mathlib.Core.Path.{◌≡◌}
-use Rattle.ink_list.specs.Lists.{Same}
 use Rattle.slices.specs.Every.{table}
 use Rattle.slices.specs.Filled.{fill}
 use Rattle.pack.specs.Read.{item_from, value_from}
@@ -8,6 +7,5 @@ use Rattle.pack_literals.proofs.copy_each.Given as goal
 
 abbrev pub invariant-loop-k : goal.invariant-loop-k
 invariant-loop-k l =
-    (l.out.items.now ≡ fill l.from (table l.k (item_from l.wide l.p l.at)) l.initial.out.items.now)
-    × (l.out.values.now ≡ fill l.from (table l.k (value_from l.wide l.p l.at)) l.initial.out.values.now)
-    × Same l.initial.out l.out
+    (l.items ≡ fill l.from (table l.k (item_from l.wide l.p l.at)) l.initial.items)
+    × (l.values ≡ fill l.from (table l.k (value_from l.wide l.p l.at)) l.initial.values)

@@ -46,16 +46,16 @@ returns c =
     let put-values : ℕ → ℕ → List ℤ = λ (x k : ℕ). fill a.from (table k (value_from c.args.pack.format.wide p (x + 8))) a.out.now.values.now in (
       record {
         counted = c.literal_len-n.ensures;
-        items_in = c.copy_entries.ensures.0
+        items_in = c.copy_entries.ensures.0.0
             ∙ ap (λ (x : ℕ). put-items x c.literal_len-n.result) o
             ∙ ap (λ (k : ℕ). put-items (offset p b) k) n
             ∙ ap (λ (xs : List ℕ). fill a.from xs a.out.now.items.now) (sym (items_table (item c.args.pack.format p b) (value c.args.pack.format p b) (entry_count c.args.pack.format p b)))
             ∙ ap (λ (x : Literal). fill a.from (items x.entries) a.out.now.items.now) (sym is);
-        values_in = c.copy_entries.ensures.1
+        values_in = c.copy_entries.ensures.0.1
             ∙ ap (λ (x : ℕ). put-values x c.literal_len-n.result) o
             ∙ ap (λ (k : ℕ). put-values (offset p b) k) n
             ∙ ap (λ (xs : List ℤ). fill a.from xs a.out.now.values.now) (sym (values_table (item c.args.pack.format p b) (value c.args.pack.format p b) (entry_count c.args.pack.format p b)))
             ∙ ap (λ (x : Literal). fill a.from (values x.entries) a.out.now.values.now) (sym is);
       },
-      c.copy_entries.ensures.2,
+      c.copy_entries.ensures.1,
     )

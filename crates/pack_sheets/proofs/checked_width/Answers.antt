@@ -20,8 +20,8 @@ of_four : (L : ℕ) (p : List ℕ) (at end : ℕ) → 33 ≤ byte p at → byte 
 of_four L p at end low high =
     ⊎_elim (λ e. rw (is_int_lem L p at (sym e))) (λ l. rw (is_float_lem L p at (omega arith))) (eq-or-lt_of_le low)
 
-pub returns-in-0-to-31 : goal.returns-in-0-to-31
-returns-in-0-to-31 c =
+pub returns-then-code-lt-BOOL : goal.returns-then-code-lt-BOOL
+returns-then-code-lt-BOOL c =
     let a = c.args in
     rw (is_op a.literals a.p.now a.at (omega arith), le-leb (a.at + 1) a.end (omega arith))
 
@@ -58,5 +58,10 @@ returns-in-37 c =
 
 pub returns-in_default : goal.returns-in_default
 returns-in_default c =
+    let a = c.args in
+    rw (is_none a.literals a.p.now a.at (omega arith))
+
+pub returns-in_default-2 : goal.returns-in_default-2
+returns-in_default-2 c =
     let a = c.args in
     rw (is_none a.literals a.p.now a.at (omega arith))

@@ -82,13 +82,13 @@ bounds-p-at-in-36 c = omega (arith, (a_slot c.requires c.in-36.is).1)
 pub returns-in-36 : goal.returns-in-36
 returns-in-36 c = reads c.args.p.now c.args.at _ (a_slot c.requires c.in-36.is).0
 
-pub returns-in-37 : goal.returns-in-37
-returns-in-37 c =
+pub returns-then-code-lt-BOOL : goal.returns-then-code-lt-BOOL
+returns-then-code-lt-BOOL c =
     let p = c.args.p.now in
-    reads p c.args.at _ (is_void_lem (literal_count p) p c.args.at c.in-37.is)
+    rw c.from.ensures (reads p c.args.at _ (is_op (literal_count p) p c.args.at (omega arith)))
 
 pub returns-in_default : goal.returns-in_default
 returns-in_default c =
     let p = c.args.p.now in
     let high = known c.requires in
-    rw c.from.ensures (reads p c.args.at _ (is_op (literal_count p) p c.args.at (omega arith)))
+    reads p c.args.at _ (is_void_lem (literal_count p) p c.args.at (omega arith))
